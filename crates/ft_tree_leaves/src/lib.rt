@@ -7,6 +7,7 @@ pub mod block_leaf;
 mod characters;
 pub mod content;
 pub mod leaves;
+mod long_text;
 pub mod references;
 pub mod stamps;
 pub mod text;

@@ -17,12 +17,11 @@ pub const MAX_RUN: u64 = 256;
 #[derive(Drop)]
 pub struct TextRun {
     text: Characters,
-    count: u64,
     alloc: Global,
 }
 
 impl Model for TextRun {
-    ghost use Rattle.std.specs.Prelude.{◌≡◌, List, ℕ, chars, length};
+    ghost use Rattle.std.specs.Prelude.{List, ℕ, chars};
     ghost use Rattle.ft_tree_leaves.specs.TextRuns.{IsTextRun};
 
     ghost Value = { List ℕ };
@@ -31,7 +30,7 @@ impl Model for TextRun {
 
     ghost view = { λ a. chars (bytes_of a.text) };
 
-    ghost invariant = { λ a. (a.count ≡ length (chars (bytes_of a.text))) × IsTextRun (chars (bytes_of a.text)) };
+    ghost invariant = { λ a. IsTextRun (chars (bytes_of a.text)) };
 }
 
 impl TextRun {
@@ -40,9 +39,8 @@ impl TextRun {
         requires { IsTextRun (chars text.now) }
         ensures { IfOk result (λ run. run ≡ chars text.now) }
     {
-        let count = char_count(text);
         let text = Characters::new(alloc, text)?;
-        Ok(TextRun { text, count, alloc })
+        Ok(TextRun { text, alloc })
     }
 
     /// How many characters it has.
@@ -50,7 +48,7 @@ impl TextRun {
         ensures value { result ≡ length self.now }
         ensures run { IsTextRun self.now }
     {
-        self.count
+        self.text.len()
     }
 
     /// The characters, as a string slice.
@@ -73,12 +71,9 @@ impl TextRun {
         ensures err { OnErr result (self.new ≡ self.old) }
     {
         let place = byte_place(self.text.as_str(), at);
-        let text = self.text.split_off(self.alloc, place)?;
-        let count = self.count - at;
-        self.count = at;
+        let text = self.text.split_off(self.alloc, place, at)?;
         Ok(TextRun {
             text,
-            count,
             alloc: self.alloc,
         })
     }
@@ -93,17 +88,9 @@ impl TextRun {
     {
         // That it holds characters is read off its contract.
         let _mine = self.text.as_str();
-        self.text.push_str(self.alloc, other.as_str())?;
-        self.count += other.count;
+        self.text.push_str(self.alloc, other.as_str(), other.len())?;
         Ok(())
     }
-}
-
-// How many characters the text has.
-fn char_count(text: &str) -> u64
-    ensures { result ≡ length (chars text.now) }
-{
-    text.chars().count() as u64
 }
 
 // How many bytes the first `at` characters take.

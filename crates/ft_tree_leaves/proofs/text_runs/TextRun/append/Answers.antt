@@ -19,5 +19,4 @@ invariant_of-self-2 c =
     let both = ap length (returns-clause-ok c) in
     let sum = length-append c.args.self.now c.args.other.now in
     let mine = ap length c.self.view_is in
-    let theirs = ap length c.other.view_is in
-    (omega (arith, both, sum, mine, theirs, c.self.invariant.0, c.other.invariant.0), (omega (arith, both, sum, mine, c.self.invariant.1.0), omega (arith, both, sum, c.requires)))
+    (omega (arith, both, sum, mine, c.self.invariant.0), omega (arith, both, sum, c.requires))

@@ -1,6 +1,6 @@
 use Rattle.std.proofs.Common.{rules}
 use Rattle.std.proofs.lemmas.Str.{chars_from_encodes}
-use Rattle.ft_tree_leaves.proofs.text_runs.char_count.Goals as goal
+use Rattle.ft_tree_leaves.proofs.long_text.char_count.Goals as goal
 
 pub returns : goal.returns
 returns c = search (rules, chars_from_encodes)
