@@ -1,5 +1,5 @@
 -- Lemmas on what the slots of an arena show.
-use Rattle.std.proofs.Common.{IsSome, ◌-◌, ◌≡◌, ℕ, zero, suc, ◌<◌, ◌≤◌, List, [], length, get_or, set, Option, Some, None, refl, sym, ap, subst, ◌∙◌, inl, inr, arith, cond}
+use Rattle.std.proofs.Common.{IsSome, ◌-◌, ◌≡◌, ℕ, zero, suc, ◌<◌, ◌≤◌, List, [], length, get_or, set, Option, Some, None, refl, sym, ap, subst, ◌∙◌, inl, inr, arith, cond, true≢false}
 use Rattle.std.proofs.lemmas.Bool.{cases_eq, cases_lt}
 use Rattle.std.proofs.lemmas.List.{get_or_past, length-map, get_or-map}
 use Rattle.std.specs.Option.{option_map, MatchOption}
@@ -82,6 +82,13 @@ module _ {L B : Type 0} where
   entries_at s id = elim (cases_lt id (length s.slots)) [
     | inl l ↦ get_or-map (option_map entry_of) s.slots id None None l
     | inr g ↦ get_or_past (entries_of s) id None (omega (arith, length-map s.slots (option_map entry_of))) ∙ ap (option_map entry_of) (sym (get_or_past s.slots id None g))
+  ]
+
+  -- a live node is among the slots
+  pub live_within : (s : Slab (Slot L B)) (id : ℕ) → IsSome (get_or (entries_of s) id None) → id < length s.slots
+  live_within s id h = elim (cases_lt id (length s.slots)) [
+    | inl l ↦ l
+    | inr g ↦ absurd (true≢false (sym h ∙ ap is_some (get_or_past (entries_of s) id None (omega (arith, g, length-map s.slots (option_map entry_of))))))
   ]
 
   -- a live leaf has a slot

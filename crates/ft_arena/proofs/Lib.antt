@@ -1,3 +1,4 @@
+pub mod SeatLemmas
 pub mod IdLemmas
 pub mod RingLemmas
 pub mod ArenaLemmas

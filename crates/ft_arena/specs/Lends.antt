@@ -1,10 +1,12 @@
 -- What an `Arena` ends as, where a `&mut` to a value is returned.
 use Rattle.std.specs.Prelude.{ℕ}
 use Rattle.std.specs.Borrow.{Lends, Fml, RattleType, MutBor}
+use Rattle.slab.specs.Slab.{Slab, with_value}
 use Rattle.ft_arena.specs.Forest.{Forest, with_leaf, with_block, kids_of_node}
 use Rattle.ft_arena.specs.contracts.arena.Arena as arena
 use Rattle.ft_arena.specs.contracts.nodes.Slot as slot
 use Rattle.ft_arena.specs.contracts.nodes.Node as node
+use Rattle.ft_arena.specs.contracts.slots.Slots as slots
 use Rattle.ft_arena.specs.declared.nodes.Slot.{Slot}
 use Rattle.ft_arena.specs.declared.nodes.Node.{Node}
 use Rattle.ft_arena.specs.declared.nodes.Node.TheVariants.{Leaf, Block}
@@ -27,3 +29,7 @@ module _ (L B : RattleType) where
 
   abbrev pub lends_node_block : MutBor (Node L.Denot B.Denot) → MutBor B.Denot → Fml
   lends_node_block s r = Lends (node.the_row L B) B s r (λ w. Block (kids_of_node s.now) w)
+
+-- the number has the last value written
+abbrev pub lends_value : (T : RattleType) → MutBor (Slab T.Denot) → ℕ → MutBor T.Denot → Fml
+lends_value T s key r = Lends (slots.the_row T) T s r (with_value s.now key)

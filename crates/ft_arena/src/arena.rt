@@ -8,18 +8,18 @@ ghost use Rattle.ft_arena.specs.Ids.{put_after, without, first, after};
 use crate::links::{next_at, raw, set_next, set_prev, wrap};
 use crate::nodes::{Node, Slot};
 use crate::numbers::{Kids, Link, NodeId};
+use crate::slots::Slots;
 use ft_base::{OutOfMemory, Steps};
-use slab::Slab;
 use std::alloc::Global;
 use std::marker::Model;
 use std::sync::ledger::Ledger;
 
 /// Nodes by number: leaves, which stand in one list, and blocks, which have children. A contract sees
 /// the list of leaves from first to last, the node and its parent at each number, and how many nodes
-/// may be made before memory is needed again.
+/// may be made before memory is needed again. There are at most `MOST_SLOTS` nodes at a time.
 #[derive(Drop)]
 pub struct Arena<L, B> {
-    slots: Slab<Slot<L, B>>,
+    slots: Slots<Slot<L, B>>,
     head: Link,
     tail: Link,
     spare: usize,
@@ -47,7 +47,7 @@ impl<L, B> Arena<L, B> {
         ensures sound { IsForest result }
     {
         Arena {
-            slots: Slab::new(alloc),
+            slots: Slots::new(alloc),
             head: Link::NONE,
             tail: Link::NONE,
             spare: 0,
@@ -56,7 +56,8 @@ impl<L, B> Arena<L, B> {
 
     /// Makes room for `n` more nodes.
     ///
-    /// Returns `OutOfMemory` where there is no room for them, and then the arena is as it was.
+    /// Returns `OutOfMemory` where there is no room for them, or where there would be more than
+    /// `MOST_SLOTS` nodes, and then the arena is as it was.
     pub fn reserve(&mut self, n: usize) -> Result<(), OutOfMemory>
         ensures room { OnOk result (n ≤ self.new.spare) }
         ensures spare { self.old.spare ≤ self.new.spare }
@@ -167,7 +168,7 @@ impl<L, B> Arena<L, B> {
         ensures sound { IsForest self.now }
         ensures few { length self.now.leaves < 2 ^ 64 }
     {
-        // That there are fewer slots than numbers is read off its contract.
+        // That there are few slots is read off its contract.
         let _capacity = self.slots.capacity();
         wrap(self.head)
     }
@@ -224,6 +225,8 @@ impl<L, B> Arena<L, B> {
         ensures spare { self.new.spare ≡ self.old.spare }
         ensures sound { IsForest self.new }
     {
+        // That the child's number fits into 32 bits is read off its contract.
+        let _capacity = self.slots.capacity();
         let parent = raw(&self.slots, Some(block));
         let slot = &mut self.slots[block.0];
         slot.node.put_kid(at, child.0);

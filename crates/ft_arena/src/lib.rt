@@ -8,7 +8,9 @@ pub mod arena;
 mod links;
 pub mod nodes;
 pub mod numbers;
+pub mod slots;
 
 pub use arena::Arena;
 pub use nodes::Node;
 pub use numbers::{Kids, Link, NodeId};
+pub use slots::{MOST_SLOTS, Slots};

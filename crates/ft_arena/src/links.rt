@@ -6,7 +6,7 @@ ghost use Rattle.ft_arena.specs.Links.{HasPlace, SetsNext, SetsPrev, next_of};
 
 use crate::nodes::Slot;
 use crate::numbers::{Link, NodeId};
-use slab::Slab;
+use crate::slots::Slots;
 
 // The node that is linked.
 pub(crate) fn wrap(at: Link) -> Option<NodeId>
@@ -19,11 +19,11 @@ pub(crate) fn wrap(at: Link) -> Option<NodeId>
 }
 
 // The link to a node.
-pub(crate) fn raw<L, B>(slots: &Slab<Slot<L, B>>, at: Option<NodeId>) -> Link
+pub(crate) fn raw<L, B>(slots: &Slots<Slot<L, B>>, at: Option<NodeId>) -> Link
     requires { HasPlace slots.now at }
     ensures { result ≡ at }
 {
-    // That there are fewer slots than numbers is read off its contract.
+    // That there are few slots is read off its contract.
     let _capacity = slots.capacity();
     match at {
         Some(id) => Link::to(id.0),
@@ -32,7 +32,7 @@ pub(crate) fn raw<L, B>(slots: &Slab<Slot<L, B>>, at: Option<NodeId>) -> Link
 }
 
 // The leaf that follows this place.
-pub(crate) fn next_at<L, B>(slots: &Slab<Slot<L, B>>, head: Link, at: Link) -> Link
+pub(crate) fn next_at<L, B>(slots: &Slots<Slot<L, B>>, head: Link, at: Link) -> Link
     requires { HasPlace slots.now at }
     ensures { result ≡ next_of slots.now head at }
 {
@@ -43,7 +43,7 @@ pub(crate) fn next_at<L, B>(slots: &Slab<Slot<L, B>>, head: Link, at: Link) -> L
 }
 
 // Writes what follows this leaf, or which leaf is the first.
-pub(crate) fn set_next<L, B>(slots: &mut Slab<Slot<L, B>>, head: &mut Link, at: Link, to: Link)
+pub(crate) fn set_next<L, B>(slots: &mut Slots<Slot<L, B>>, head: &mut Link, at: Link, to: Link)
     requires { HasPlace slots.old at }
     ensures { SetsNext slots.old head.old slots.new head.new at to }
 {
@@ -54,7 +54,7 @@ pub(crate) fn set_next<L, B>(slots: &mut Slab<Slot<L, B>>, head: &mut Link, at: 
 }
 
 // Writes what stands before this leaf, or which leaf is the last.
-pub(crate) fn set_prev<L, B>(slots: &mut Slab<Slot<L, B>>, tail: &mut Link, at: Link, to: Link)
+pub(crate) fn set_prev<L, B>(slots: &mut Slots<Slot<L, B>>, tail: &mut Link, at: Link, to: Link)
     requires { HasPlace slots.old at }
     ensures { SetsPrev slots.old tail.old slots.new tail.new at to }
 {

@@ -1,6 +1,6 @@
 //! A node of an arena, and the slot that holds it.
 
-ghost use Rattle.std.specs.Prelude.{◌≡◌, ◌<◌, ◌≤◌, length, IsSome, Some, slice_get, insert, remove};
+ghost use Rattle.std.specs.Prelude.{◌≡◌, ◌^◌, ◌<◌, ◌≤◌, length, IsSome, Some, slice_get, insert, remove};
 ghost use Rattle.std.specs.Borrow.{sem};
 ghost use Rattle.ft_arena.specs.Forest.{leaf_of_node, block_of_node, kids_of_node, with_kids};
 
@@ -93,6 +93,7 @@ impl<L, B> Node<L, B> {
         requires block { IsSome (block_of_node self.old) }
         requires at { at ≤ length (kids_of_node self.old) }
         requires room { length (kids_of_node self.old) < 8 }
+        requires fits { child < 2 ^ 32 }
         ensures { self.new ≡ with_kids self.old (insert (kids_of_node self.old) at child) }
     {
         match self {

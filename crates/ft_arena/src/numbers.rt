@@ -20,11 +20,11 @@ impl Model for NodeId {
     ghost inverse = { λ n. record { 0 = n } };
 }
 
-/// A number or none in one word, where `Option<usize>` takes two. Contracts see the option.
+/// A number or none in 32 bits, where `Option<usize>` takes sixteen bytes. Contracts see the option.
 #[derive(Clone, Copy, Drop)]
 pub struct Link {
     // 0 for none, else one more than the number
-    word: usize,
+    word: u32,
 }
 
 impl Model for Link {
@@ -45,26 +45,31 @@ impl Link {
     /// The link to none.
     pub const NONE: Link = Link { word: 0 };
 
-    /// The link to this number.
+    /// The link to this number, which is below `MOST_SLOTS`.
     pub fn to(number: usize) -> Link
-        requires { number + 1 < 2 ^ 64 }
+        requires { number + 1 < 2 ^ 32 }
         ensures { result ≡ Some number }
     {
-        Link { word: number + 1 }
+        Link {
+            word: number as u32 + 1,
+        }
     }
 
     /// The number.
     pub fn get(self) -> Option<usize>
         ensures { result ≡ self }
     {
-        self.word.checked_sub(1)
+        match self.word.checked_sub(1) {
+            Some(number) => Some(number as usize),
+            None => None,
+        }
     }
 }
 
-/// The children of a block: at most eight nodes, which contracts see as a list.
+/// The children of a block: at most eight nodes, which contracts see as a list. A number takes 32 bits.
 #[derive(Drop)]
 pub struct Kids {
-    ids: ArrayVec<usize, 8>,
+    ids: ArrayVec<u32, 8>,
 }
 
 impl Model for Kids {
@@ -100,7 +105,7 @@ impl Kids {
         ensures { result ≡ slice_get self.now i }
     {
         if i < self.ids.len() {
-            Some(NodeId(self.ids[i]))
+            Some(NodeId(self.ids[i] as usize))
         } else {
             None
         }
@@ -110,9 +115,10 @@ impl Kids {
     pub(crate) fn put(&mut self, at: usize, id: usize)
         requires at { at ≤ length self.old }
         requires room { length self.old < 8 }
+        requires fits { id < 2 ^ 32 }
         ensures { self.new ≡ insert self.old at id }
     {
-        self.ids.insert(at, id);
+        self.ids.insert(at, id as u32);
     }
 
     // Takes the node at this place out.
@@ -121,6 +127,6 @@ impl Kids {
         ensures value { slice_get self.old at ≡ Some result }
         ensures rest { self.new ≡ remove self.old at }
     {
-        self.ids.remove(at)
+        self.ids.remove(at) as usize
     }
 }

@@ -1,8 +1,13 @@
-use Rattle.std.proofs.Common.{◌≡◌, ◌≤◌, ◌<◌, None, IsSome, length}
-use Rattle.ft_arena.specs.Forest.{block_value, parent_of, kids_of}
-use Rattle.ft_arena.proofs.ArenaLemmas.{at_view, IsForest-spare, room_rewritten, PutsChild-spare}
+use Rattle.std.proofs.Common.{◌≡◌, ◌≤◌, ◌<◌, None, IsSome, length, arith}
+use Rattle.ft_arena.specs.Forest.{entry, block_value, parent_of, kids_of}
+use Rattle.ft_arena.proofs.ArenaLemmas.{at_view, live_within, IsForest-spare, room_rewritten, PutsChild-spare}
 use Rattle.ft_arena.proofs.ChildLemmas.{put_done}
 use Rattle.ft_arena.proofs.arena.Arena.put_child.Goals as goal
+
+pub put_kid-requires-clause-fits : goal.put_kid-requires-clause-fits
+put_kid-requires-clause-fits g c =
+    let live = at_view (λ s i. IsSome (entry s i)) c.self.inside c.args.self.now c.child.inside.0 c.args.child c.self.view_is c.child.view_is c.requires.child in
+    omega (arith, live_within c.self.inside.slots c.child.inside.0 live, c.capacity-capacity.ensures.slots, c.capacity-capacity.ensures.few)
 
 pub invariant_of-self : goal.invariant_of-self
 invariant_of-self g c = (
