@@ -6,9 +6,8 @@ ghost use Rattle.slab.specs.Slab.{ContainsKey};
 ghost use Rattle.ft_refs.specs.Links.{HasPlace, MakesRoom, SetsNext, SetsPrev};
 
 use crate::numbers::{Ends, RefId, Slot};
-use ft_arena::{Link, NodeId};
+use ft_arena::{Link, NodeId, Slots};
 use ft_base::OutOfMemory;
-use slab::Slab;
 
 // The reference that is linked.
 pub(crate) fn wrap(at: Link) -> Option<RefId>
@@ -21,17 +20,17 @@ pub(crate) fn wrap(at: Link) -> Option<RefId>
 }
 
 // The link to a reference.
-pub(crate) fn link_to(slots: &Slab<Slot>, r: RefId) -> Link
+pub(crate) fn link_to(slots: &Slots<Slot>, r: RefId) -> Link
     requires { ContainsKey slots.now r }
     ensures { result ≡ Some r }
 {
-    // That there are fewer slots than numbers is read off its contract.
+    // That there are few slots is read off its contract.
     let _capacity = slots.capacity();
     Link::to(r.0)
 }
 
 // Writes what follows this reference, or which one is the first.
-pub(crate) fn set_next(slots: &mut Slab<Slot>, first: &mut Link, at: Link, to: Link)
+pub(crate) fn set_next(slots: &mut Slots<Slot>, first: &mut Link, at: Link, to: Link)
     requires { HasPlace slots.old at }
     ensures { SetsNext slots.old first.old slots.new first.new at to }
 {
@@ -42,7 +41,7 @@ pub(crate) fn set_next(slots: &mut Slab<Slot>, first: &mut Link, at: Link, to: L
 }
 
 // Writes what stands before this reference, or which one is the last.
-pub(crate) fn set_prev(slots: &mut Slab<Slot>, last: &mut Link, at: Link, to: Link)
+pub(crate) fn set_prev(slots: &mut Slots<Slot>, last: &mut Link, at: Link, to: Link)
     requires { HasPlace slots.old at }
     ensures { SetsPrev slots.old last.old slots.new last.new at to }
 {

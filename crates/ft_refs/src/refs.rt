@@ -6,18 +6,18 @@ ghost use Rattle.ft_refs.specs.RefLists.{IsRefs, IsHeld, entry, references_of, i
 
 use crate::links::{link_to, make_room, set_next, set_prev, wrap};
 use crate::numbers::{Ends, Place, RefId, Slot};
-use ft_arena::{Link, NodeId};
+use ft_arena::{Link, NodeId, Slots};
 use ft_base::OutOfMemory;
-use slab::Slab;
 use std::alloc::Global;
 use std::marker::Model;
 
 /// References by number, and for each owner the list of those that are on it. A contract sees which
 /// owners are held, for each owner the list of its references with their offsets, and for each number
-/// whether that reference is live and where it stands.
+/// whether that reference is live and where it stands. There are at most `ft_arena::MOST_SLOTS`
+/// references at a time.
 #[derive(Drop)]
 pub struct Refs {
-    slots: Slab<Slot>,
+    slots: Slots<Slot>,
     ends: Vec<Ends>,
 }
 
@@ -41,7 +41,7 @@ impl Refs {
         ensures sound { IsRefs result }
     {
         Refs {
-            slots: Slab::new(alloc),
+            slots: Slots::new(alloc),
             ends: Vec::new(alloc),
         }
     }
@@ -60,7 +60,8 @@ impl Refs {
 
     /// Makes a new reference at the end of the list of this owner, and holds the owner.
     ///
-    /// Returns `OutOfMemory` where there is no room for it, and then nothing changed.
+    /// Returns `OutOfMemory` where there is no room for it, or where there are `ft_arena::MOST_SLOTS`
+    /// references, and then nothing changed.
     pub fn attach(&mut self, owner: NodeId, offset: u64) -> Result<RefId, OutOfMemory>
         ensures fresh { IfOk result (λ r. entry self.old r ≡ None) }
         ensures list { IfOk result (λ r. references_of self.new owner ≡ references_of self.old owner ++ (r, offset) ∷ []) }
