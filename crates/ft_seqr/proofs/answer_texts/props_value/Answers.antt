@@ -1,5 +1,5 @@
-use Rattle.std.proofs.Common.{◌≡◌, ◌∙◌, ℕ, ◌+◌, List, ap, ap₂, sym, subst, drop, [], ◌∷◌, encode_utf8_all, arith}
-use Rattle.std.proofs.lemmas.Grind.{common_steps}
+use Rattle.std.proofs.Common.{◌≡◌, ◌∙◌, ℕ, ◌+◌, List, ap, ap₂, sym, subst, drop, ◌∷◌, encode_utf8_all}
+use Rattle.std.proofs.lemmas.List.{drop_all}
 use Rattle.std.specs.List.{AllByRecursion}
 use Rattle.serde_json.specs.Data.{Data, Members, object, no_members, put}
 use Rattle.serde_json.specs.View.{members_view}
@@ -35,7 +35,7 @@ loop-key-preserved c =
 
 pub returns-clause-value : goal.returns-clause-value
 returns-clause-value c =
-    let done : drop c.loop-key.key-index c.as_slice-key-items.result.now ≡ [] = grind (arith, common_steps) in
+    let done = drop_all c.loop-key.key-index c.as_slice-key-items.result.now c.loop-key-test.false in
     let put = ap (λ ps. put_pairs value_of ps (members_view c.loop-key.members.entries)) (sym done) ∙ c.loop-key.invariant.put in
     view-Object c.loop-key.members
     ∙ ap object (
@@ -45,11 +45,11 @@ returns-clause-value c =
 
 pub returns-clause-keyed : goal.returns-clause-keyed
 returns-clause-keyed c =
-    let done : drop c.loop-key.key-index c.as_slice-key-items.result.now ≡ [] = grind (arith, common_steps) in
+    let done = drop_all c.loop-key.key-index c.as_slice-key-items.result.now c.loop-key-test.false in
     let texts = c.loop-key.invariant.texts (subst (λ (ps : PropertyList). KeysAreTexts ps) (sym done) tt) in
     (c.as_slice-key-items.ensures.rising, subst (λ (ps : PropertyList). KeysAreTexts ps) c.as_slice-key-items.ensures.value texts)
 
 pub returns-clause-values : goal.returns-clause-values
 returns-clause-values c =
-    let done : drop c.loop-key.key-index c.as_slice-key-items.result.now ≡ [] = grind (arith, common_steps) in
+    let done = drop_all c.loop-key.key-index c.as_slice-key-items.result.now c.loop-key-test.false in
     subst HasValues c.as_slice-key-items.ensures.value (c.loop-key.invariant.canonical (subst HasValues (sym done) tt))
