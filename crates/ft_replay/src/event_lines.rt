@@ -38,8 +38,8 @@ pub fn told_output(alloc: Global, out: &Out) -> Result<Told, OutOfMemory>
     }
 }
 
-// The lines of the view of the client of this name, each with its LF.
-fn client_text(alloc: Global, name: &Text, view: &View) -> Result<String, OutOfMemory>
+/// The lines of the view of the client of this name, each with its LF.
+pub fn client_text(alloc: Global, name: &Text, view: &View) -> Result<String, OutOfMemory>
     ensures { (c : NamedClient) → IsViewOf c name.now view.now
         → IfOk result (λ text. string_bytes text ≡ bytes_of (head_line c ∷ content_lines (content c.client))) }
 {

@@ -120,8 +120,8 @@ impl<R: Replica + Drop> Observer<R> {
     }
 }
 
-// The table of these names, each with its place as its number, from 1 on.
-fn table_of(alloc: Global, conns: &Texts) -> Result<Names, OutOfMemory>
+/// The table of these names, each with its place as its number, from 1 on.
+pub fn table_of(alloc: Global, conns: &Texts) -> Result<Names, OutOfMemory>
     requires distinct { IsTrue (are_distinct_names conns.now) }
     requires few { length conns.now < 2 ^ 32 }
     ensures { IfOk result (λ names. names ≡ conns.now) }
@@ -133,8 +133,10 @@ fn table_of(alloc: Global, conns: &Texts) -> Result<Names, OutOfMemory>
     Ok(names)
 }
 
-// The message with the number of the connection that sent it, a new one where its name has none yet.
-fn number_sender(names: &mut Names, msg: Message) -> Result<Entry, OutOfMemory>
+/// The message with the number of the connection that sent it, a new one where its name has none yet.
+///
+/// Returns `OutOfMemory` where there is no room for a new name, and then nothing changed.
+pub fn number_sender(names: &mut Names, msg: Message) -> Result<Entry, OutOfMemory>
     requires { length names.old < 2 ^ 32 - 1 }
     ensures ok { IfOk result (λ entry. entry ≡ numbered_entry names.old msg) }
     ensures names { OnOk result (names.new ≡ names_with names.old msg.client_id) }

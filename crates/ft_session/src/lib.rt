@@ -20,5 +20,6 @@ mod session;
 pub mod world;
 
 pub use ft_seqr::{Event, HowMany, Refusal, read_event, write_event};
+pub use loads::{body_load, op_load};
 pub use outputs::{Counts, Out, Values};
 pub use world::World;

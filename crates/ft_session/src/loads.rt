@@ -65,8 +65,10 @@ fn draft_load(read: &Result<Draft, Cause>) -> Result<u64, OutOfMemory>
     }
 }
 
-// What the operation adds.
-fn op_load(op: &ChannelOp) -> Result<u64, OutOfMemory>
+/// What an operation adds to a load: one for each sub-operation, and one for each inserted element.
+///
+/// Returns `OutOfMemory` where the sum would pass 2^64 - 1.
+pub fn op_load(op: &ChannelOp) -> Result<u64, OutOfMemory>
     ensures { IfOk result (λ n. n ≡ op_load op.now) }
 {
     match op {
@@ -146,8 +148,10 @@ fn inserted_by_cell(op: &CellOp) -> u64
     }
 }
 
-// What the body of a message adds.
-fn body_load(body: &Body) -> Result<u64, OutOfMemory>
+/// What the body of a message adds to a load.
+///
+/// Returns `OutOfMemory` where the sum would pass 2^64 - 1.
+pub fn body_load(body: &Body) -> Result<u64, OutOfMemory>
     ensures { IfOk result (λ n. n ≡ body_load body.now) }
 {
     match body {
