@@ -14,7 +14,7 @@ use Rattle.ft_props.specs.Element.{ElementContent, ListElement, NamelessElement,
 use Rattle.ft_props.specs.Steps.{extended_runs, is_annotated_by, is_inserted_by, is_removed_by, stage_position}
 use Rattle.ft_props.specs.Steps.{marked_runs as document_runs, marked_runs_from as document_runs_from}
 use Rattle.ft_laws_names.proofs.Beside.{Beside, beside-any, beside-rank, ends, next}
-use Rattle.ft_rebase.specs.declared.marks.Mark.TheVariants.{Removal, Changes}
+use Rattle.ft_rebase.specs.declared.marks.PendingMark.TheVariants.{Removal, Changes}
 use Rattle.ft_rebase.specs.MarkedRuns.{marked_runs_from}
 use Rattle.ft_rebase.specs.Pieces.{has_mark, insertion_position, marked_runs}
 use Rattle.ft_rebase.specs.Pieces.{is_inserted_by as is_put_in_by}
