@@ -8,6 +8,7 @@ use ft_io::{MemSink, MemSource};
 use ft_msg::Replica;
 use ft_plain::Plain;
 use ft_replay::{Fault, replay_session};
+use ft_tests_input::{Case as ReadCase, Program, outcomes};
 use std::alloc::Global;
 
 // How many bytes a report may have.
@@ -19,6 +20,15 @@ const PIECE: usize = 65_536;
 // The bytes of a line that is one byte too long.
 const TOO_LONG: usize = 1_048_577;
 
+/// Cases, and what they come to, one after another.
+pub struct Cases;
+
+impl Program for Cases {
+    fn output(alloc: Global, input: &[u8]) -> Option<Vec<u8>> {
+        outcomes::<Case>(alloc, input)
+    }
+}
+
 /// A session, and what is to be told of it.
 #[derive(Drop)]
 pub struct Case {
@@ -27,9 +37,8 @@ pub struct Case {
     has_hash: bool,
 }
 
-impl Case {
-    /// A session without lines.
-    pub fn new(alloc: Global) -> Case {
+impl ReadCase for Case {
+    fn new(alloc: Global) -> Case {
         Case {
             input: Vec::new(alloc),
             lines: 0,
@@ -37,33 +46,43 @@ impl Case {
         }
     }
 
-    /// Tells the hash of the report too.
-    pub fn ask_for_hash(&mut self) {
-        self.has_hash = true;
+    fn set(&mut self, _alloc: Global, text: &[u8]) -> Option<bool> {
+        if text == b"long".as_slice() {
+            self.add_long_line()?;
+            return Some(true);
+        }
+        let is_hash = text == b"hash".as_slice();
+        self.has_hash = self.has_hash || is_hash;
+        Some(is_hash)
     }
 
-    /// Adds a line with its LF.
-    ///
-    /// Returns `OutOfMemory` where there is no room for it.
-    pub fn add_line(&mut self, line: &[u8]) -> Result<(), OutOfMemory> {
-        self.input.extend_from_slice(line)?;
+    fn ends(&mut self, text: &[u8]) -> bool {
+        text == b"end".as_slice()
+    }
+
+    fn add_line(&mut self, line: &[u8]) -> Option<()> {
+        self.input.extend_from_slice(line).ok()?;
         self.lines = self.lines.saturating_add(1);
-        Ok(())
+        Some(())
     }
 
-    /// Adds a line that has one byte more than a line may have.
-    ///
-    /// Returns `OutOfMemory` where there is no room for it.
-    pub fn add_long_line(&mut self) -> Result<(), OutOfMemory> {
+    fn push_outcome(&self, alloc: Global, output: &mut Vec<u8>) -> Option<()> {
+        self.push_both(alloc, output).ok()
+    }
+}
+
+impl Case {
+    // Adds a line that has one byte more than a line may have.
+    fn add_long_line(&mut self) -> Option<()> {
         let end = self.input.len().saturating_add(TOO_LONG);
-        self.input.resize(end, b'x')?;
+        self.input.resize(end, b'x').ok()?;
         self.add_line(b"\n".as_slice())
     }
 
-    /// Adds what the session comes to.
-    ///
-    /// Returns `OutOfMemory` where there is no room for it, and `Write` where the report has more than 16 MiB.
-    pub fn push_outcome(&self, alloc: Global, output: &mut Vec<u8>) -> Result<(), Fault> {
+    // Adds what the session comes to in both worlds.
+    //
+    // Returns `OutOfMemory` where there is no room for it, and `Write` where the report has more than 16 MiB.
+    fn push_both(&self, alloc: Global, output: &mut Vec<u8>) -> Result<(), Fault> {
         let plain = self.played::<Plain>(alloc)?;
         let trees = self.played::<Client>(alloc)?;
         self.push_told(alloc, plain.taken(), output)?;

@@ -13,10 +13,9 @@
 
 mod cases;
 mod difference;
-mod reading;
 mod sums;
 
-use crate::reading::Cases;
+use crate::cases::Cases;
 use ft_tests_input::run;
 use std::process::ExitCode;
 

@@ -2,6 +2,7 @@
 
 use crate::runs::CaseRun;
 use ft_base::OutOfMemory;
+use ft_tests_input::{Case as ReadCase, Program, outcomes};
 use std::alloc::Global;
 
 // How many bytes an output has room for where the case doesn't say it.
@@ -29,6 +30,15 @@ enum Series {
     Writes(u64),
 }
 
+/// Cases, and what they come to, one after another.
+pub struct Cases;
+
+impl Program for Cases {
+    fn output(alloc: Global, input: &[u8]) -> Option<Vec<u8>> {
+        outcomes::<Case>(alloc, input)
+    }
+}
+
 /// Runs of the program over memory.
 #[derive(Drop)]
 pub struct Case {
@@ -42,9 +52,8 @@ pub struct Case {
     views: bool,
 }
 
-impl Case {
-    /// A case without arguments and input.
-    pub fn new(alloc: Global) -> Case {
+impl ReadCase for Case {
+    fn new(alloc: Global) -> Case {
         Case {
             words: Vec::new(alloc),
             input: Vec::new(alloc),
@@ -57,23 +66,32 @@ impl Case {
         }
     }
 
-    /// Adds bytes to the input.
-    ///
-    /// Returns `OutOfMemory` where there is no room for them.
-    pub fn add_input(&mut self, bytes: &[u8]) -> Result<(), OutOfMemory> {
-        self.input.extend_from_slice(bytes)?;
-        Ok(())
+    fn set(&mut self, alloc: Global, text: &[u8]) -> Option<bool> {
+        let setting = str::from_utf8(text).unwrap_or("");
+        let (name, rest) = setting.split_once(' ').unwrap_or((setting, ""));
+        self.take_setting(alloc, name, rest).ok()
     }
 
-    /// Takes the last byte of the input away.
-    pub fn drop_last_byte(&mut self) {
-        self.input.pop();
+    fn ends(&mut self, text: &[u8]) -> bool {
+        if text == b"end-without-lf".as_slice() {
+            self.input.pop();
+            return true;
+        }
+        text == b"end".as_slice()
     }
 
-    /// Takes what stands behind the name of a setting, and returns whether there is such a setting.
-    ///
-    /// Returns `OutOfMemory` where there is no room for it.
-    pub fn set(&mut self, alloc: Global, name: &str, rest: &str) -> Result<bool, OutOfMemory> {
+    fn add_line(&mut self, line: &[u8]) -> Option<()> {
+        self.input.extend_from_slice(line).ok()
+    }
+
+    fn push_outcome(&self, alloc: Global, output: &mut Vec<u8>) -> Option<()> {
+        self.push_series(alloc, output).ok()
+    }
+}
+
+impl Case {
+    // Takes what stands behind the name of a setting, and returns whether there is such a setting.
+    fn take_setting(&mut self, alloc: Global, name: &str, rest: &str) -> Result<bool, OutOfMemory> {
         match name {
             "words" => push_words(alloc, &mut self.words, rest)?,
             "failing-reads" => push_numbers(&mut self.failing_reads, rest)?,
@@ -91,10 +109,8 @@ impl Case {
         Ok(true)
     }
 
-    /// Adds what the case comes to.
-    ///
-    /// Returns `OutOfMemory` where there is no room for it.
-    pub fn push_outcome(&self, alloc: Global, output: &mut Vec<u8>) -> Result<(), OutOfMemory> {
+    // Adds what the runs of the case come to.
+    fn push_series(&self, alloc: Global, output: &mut Vec<u8>) -> Result<(), OutOfMemory> {
         match self.series {
             Series::Pieces => self.push_pieces(alloc, output),
             Series::Cuts => self.push_cuts(alloc, output),

@@ -21,11 +21,10 @@
 #![tactic(auto)]
 
 mod cases;
-mod reading;
 mod runs;
 mod views;
 
-use crate::reading::Cases;
+use crate::cases::Cases;
 use ft_tests_input::run;
 use std::process::ExitCode;
 

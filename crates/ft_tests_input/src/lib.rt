@@ -1,6 +1,9 @@
 //! What a program of tests does: it reads standard input to its end, and writes what comes of that to standard output.
 #![tactic(auto)]
 
+mod cases;
+
+pub use cases::{Case, outcomes};
 use std::alloc::Global;
 use std::io;
 use std::io::{ErrorKind, Read, Write};
