@@ -1,11 +1,9 @@
 //! Trees of text: what tests and timing programs do to them, and what they read.
 
-ghost use Rattle.std.specs.Prelude.{◌≤◌, IsTrue, IfSome, OnOk};
-ghost use Rattle.ft_block.specs.Leaves.{IsLeafIn};
+ghost use Rattle.std.specs.Prelude.{◌≤◌, IsTrue, OnOk};
 ghost use Rattle.ft_tests_steps.specs.Passing.{HasNoChanges, Passes};
 
 use crate::faults::StepFault;
-use ft_arena::NodeId;
 use ft_base::{Perspective, Steps, seen_at};
 use ft_props::PropSet;
 use ft_tree::{Content, TextContent, Tree};
@@ -132,22 +130,4 @@ pub fn shown(alloc: Global, tree: &Tree<TextContent>, stage: u64) -> Result<Stri
         at = tree.next_leaf(id);
     }
     Ok(text)
-}
-
-/// The first leaf that the stage marks as removed or changes.
-pub fn first_marked(tree: &Tree<TextContent>, stage: u64) -> Option<NodeId>
-    requires { IsTrue tree.now.usable }
-    ensures { IfSome result (IsLeafIn tree.now.leaves) }
-{
-    let mut at = tree.first_leaf();
-    for _i in 0..MOST {
-        let Some(id) = at else {
-            return None;
-        };
-        if tree.marked(id, stage) {
-            return Some(id);
-        }
-        at = tree.next_leaf(id);
-    }
-    None
 }

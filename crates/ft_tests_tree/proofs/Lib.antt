@@ -1,2 +1,2 @@
-pub mod CalmTrees
-pub mod PlayingLaws
+mod MarkerLists
+mod PlayingLaws

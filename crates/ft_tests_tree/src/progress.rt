@@ -1,7 +1,6 @@
 //! How far the client is.
 
-ghost use Rattle.std.specs.Prelude.{◌<◌, IfOk, OnOk};
-ghost use Rattle.ft_tests_tree.specs.Playing.{GoesOn};
+ghost use Rattle.std.specs.Prelude.{◌≡◌, OnOk};
 
 use ft_tests_steps::StepFault;
 
@@ -12,39 +11,35 @@ pub(crate) struct Progress {
     pub(crate) stage: u64,
     /// The first stage that isn't acknowledged.
     pub(crate) first: u64,
-    /// The last sequence number of a pseudo-random edit.
-    pub(crate) seq: u64,
-    /// Whether the next edit of the text is of the same stage too.
-    pub(crate) group: bool,
-    /// Whether no changes of properties are pending.
+    /// Whether it is known that no changes of properties are pending.
     pub(crate) calm: bool,
-    /// Whether there are no references.
-    pub(crate) free: bool,
 }
 
 impl Progress {
-    /// The stage behind that of the next edit.
-    ///
-    /// Returns `TooLarge` where there is none.
-    pub(crate) fn later(&self) -> Result<u64, StepFault>
-        ensures { IfOk result (λ later. self.now.stage < later) }
-    {
-        match self.stage.checked_add(1) {
-            Some(later) => Ok(later),
-            None => Err(StepFault::TooLarge),
+    /// That of a client that has done nothing.
+    pub(crate) fn new() -> Progress {
+        Progress {
+            stage: 1,
+            first: 1,
+            calm: true,
         }
     }
 
-    /// Goes on to the next stage behind an edit of the client, unless a group is being made.
+    /// Goes on to the next stage behind an edit of the client.
     ///
     /// Returns `TooLarge` where there is none.
     pub(crate) fn pass(&mut self, is_own: bool) -> Result<(), StepFault>
-        ensures { OnOk result (GoesOn self.old self.new) }
+        ensures { OnOk result (self.new.calm ≡ self.old.calm) }
     {
-        if self.group || !is_own {
+        if !is_own {
             return Ok(());
         }
-        self.stage = self.later()?;
-        Ok(())
+        match self.stage.checked_add(1) {
+            Some(later) => {
+                self.stage = later;
+                Ok(())
+            }
+            None => Err(StepFault::TooLarge),
+        }
     }
 }

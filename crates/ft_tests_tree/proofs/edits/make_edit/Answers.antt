@@ -1,8 +1,9 @@
-use Rattle.ft_tests_tree.proofs.PlayingLaws.{after-text, goes-on-same}
+use Rattle.std.proofs.Common.{refl}
+use Rattle.ft_tests_tree.proofs.PlayingLaws.{after-edit}
 use Rattle.ft_tests_tree.proofs.edits.make_edit.Goals as goal
 
 pub returns-then-not-made : goal.returns-then-not-made
-returns-then-not-made c = after-text c.requires c.in_ok-made.ensures (goes-on-same _ _ _)
+returns-then-not-made c = after-edit c.requires c.in_ok-made.ensures refl
 
 pub returns : goal.returns
-returns c = after-text c.requires c.in_ok-made.ensures c.in_ok-pass.ensures
+returns c = after-edit c.requires c.in_ok-made.ensures c.in_ok-pass.ensures

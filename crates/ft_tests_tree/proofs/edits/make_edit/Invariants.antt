@@ -1,4 +1,4 @@
 use Rattle.ft_tests_tree.proofs.edits.make_edit.Given as goal
 
-abbrev pub ghosts-make_in_tree : goal.ghosts-make_in_tree
-ghosts-make_in_tree a = record { name = a.blank.name; parts = a.blank.parts }
+abbrev pub ghosts-make : goal.ghosts-make
+ghosts-make a = record { name = a.blank.name; parts = a.blank.parts }

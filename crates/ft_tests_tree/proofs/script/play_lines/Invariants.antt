@@ -2,4 +2,4 @@ use Rattle.ft_tests_tree.specs.Playing.{Goes}
 use Rattle.ft_tests_tree.proofs.script.play_lines.Given as goal
 
 abbrev pub invariant-loop-line : goal.invariant-loop-line
-invariant-loop-line l = Goes l.tree l.intervals l.progress
+invariant-loop-line l = Goes l.tree l.progress

@@ -1,5 +1,6 @@
-use Rattle.ft_tests_tree.proofs.PlayingLaws.{after-text, goes-on-same}
+use Rattle.std.proofs.Common.{refl}
+use Rattle.ft_tests_tree.proofs.PlayingLaws.{after-edit}
 use Rattle.ft_tests_tree.proofs.upkeep.acknowledge_next.Goals as goal
 
-pub acknowledge_interval-requires : goal.acknowledge_interval-requires
-acknowledge_interval-requires c = after-text c.requires c.in_ok-acknowledge-2.ensures (goes-on-same _ _ _)
+pub returns : goal.returns
+returns c = after-edit c.requires c.in_ok-acknowledge.ensures refl

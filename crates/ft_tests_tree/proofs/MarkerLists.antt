@@ -2,7 +2,7 @@
 use Rattle.std.proofs.Common.{◌≡◌, ℕ, zero, suc, nat_eq, nat_le, true, false, refl, arith}
 use Rattle.std.proofs.lemmas.Bool.Decides.{nat_tests}
 use Rattle.ft_rebase.specs.StageLists.{StandSideBySide}
-use Rattle.ft_tests_layers.specs.Markers.{removed_alone, two_stages}
+use Rattle.ft_tests_tree.specs.Markers.{two_stages}
 
 -- stages above both
 one-below : (k : ℕ) → nat_le 1 (suc k) ≡ true
@@ -16,10 +16,6 @@ two-below k = grind (arith, nat_tests)
 
 two-other : (k : ℕ) → nat_eq 2 (suc (suc (suc k))) ≡ false
 two-other k = grind (arith, nat_tests)
-
-pub alone-side : StandSideBySide (λ e. e.stamps) removed_alone
-alone-side zero = refl
-alone-side (suc k) = rw (one-below k, one-other k) refl
 
 pub stages-side : StandSideBySide (λ e. e.stamps) two_stages
 stages-side zero = refl

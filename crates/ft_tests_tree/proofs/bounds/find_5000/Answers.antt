@@ -1,7 +1,7 @@
 use Rattle.std.proofs.Common.{◌≤◌, ◌^◌, inl, inr, arith}
 use Rattle.std.proofs.lemmas.Bool.{cases_lt}
 use Rattle.std.proofs.Math.Nat.{pow-le-pow_right}
-use Rattle.ft_tests_layers.proofs.bounds.find_5000.Goals as goal
+use Rattle.ft_tests_tree.proofs.bounds.find_5000.Goals as goal
 
 pub returns : goal.returns
 returns g c = elim (cases_lt c.args.blocks.now.depth 7) [

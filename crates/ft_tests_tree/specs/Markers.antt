@@ -13,9 +13,9 @@ use Rattle.ft_tree.specs.State.{TreeState}
 abbrev pub elements_of : TreeState TextContent → List (TreeElement ElementContent)
 elements_of t = elements text_units (λ x. x.by) t.leaves
 
--- a marker with this reference type, these stamps and no properties
-abbrev pub marker_element : ℕ → ElementStamps → TreeElement ElementContent
-marker_element r e = record { unit = MarkerOf r; stamps = e; by = None; overlay = record { acked = []; pending = [] } }
+-- a marker with these stamps and no properties
+abbrev pub marker_element : ElementStamps → TreeElement ElementContent
+marker_element e = record { unit = MarkerOf 7; stamps = e; by = None; overlay = record { acked = []; pending = [] } }
 
 -- what message 1 inserted, the same after message 6 removed it, and what a stage inserted
 abbrev inserted : ElementStamps
@@ -27,10 +27,6 @@ removed = record { ins = Acked 1 2; dels = Acked 6 2 ∷ [] }
 abbrev pending : ℕ → ElementStamps
 pending k = record { ins = Local k; dels = [] }
 
--- an element of stage 1 behind a removed one
-abbrev pub removed_alone : List (TreeElement ElementContent)
-removed_alone = marker_element 2 removed ∷ marker_element 3 (pending 1) ∷ []
-
 -- elements of stages 2 and 1 behind a removed one, behind another
 abbrev pub two_stages : List (TreeElement ElementContent)
-two_stages = marker_element 1 inserted ∷ marker_element 2 removed ∷ marker_element 3 (pending 2) ∷ marker_element 4 (pending 1) ∷ []
+two_stages = marker_element inserted ∷ marker_element removed ∷ marker_element (pending 2) ∷ marker_element (pending 1) ∷ []

@@ -1,6 +1,6 @@
 use Rattle.std.proofs.Common.{sym, ◌∙◌}
 use Rattle.ft_block.proofs.CallerLemmas.{after_is_in, first_is_in}
-use Rattle.ft_tests_steps.proofs.texts.first_marked.Goals as goal
+use Rattle.ft_tests_tree.proofs.sights.push_each.Goals as goal
 
 pub loop-i-init : goal.loop-i-init
 loop-i-init c = λ x e. first_is_in c.args.tree.now.leaves x (sym c.first_leaf-at.ensures.value ∙ e)
