@@ -1,2 +1,5 @@
 mod Hearing
 mod Reading
+mod GivenSteps
+mod Editing
+mod Calling

@@ -1,2 +1,4 @@
 pub mod Reports
 pub mod Runs
+pub mod Editors
+pub mod Clients

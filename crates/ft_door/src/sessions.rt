@@ -36,6 +36,16 @@ impl<R: Replica + Drop> HeldSession<R> {
         })
     }
 
+    /// One that is at its end, with nothing to read.
+    pub fn ended(alloc: Global) -> HeldSession<R>
+        ensures { result.session ≡ None }
+    {
+        HeldSession {
+            session: None,
+            waiting: Waiting::new(alloc),
+        }
+    }
+
     /// Hears a line, which is given without its LF; what it writes is put behind what wasn't read yet.
     ///
     /// Returns `DONE` where it was taken, and `SOME_REFUSED` where it was refused; `OUT_OF_MEMORY` where there is no room for

@@ -1,7 +1,8 @@
 //! What was written and waits to be read.
 
-ghost use Rattle.std.specs.Prelude.{◌≡◌, ◌<◌, ◌≤◌, [], ◌++◌, drop, length, take};
+ghost use Rattle.std.specs.Prelude.{◌≡◌, ◌<◌, ◌≤◌, [], ◌++◌, OnErr, OnOk, drop, length, take};
 
+use ft_base::OutOfMemory;
 use ft_io::{Failed, Sink};
 use std::alloc::Global;
 
@@ -25,6 +26,17 @@ impl Waiting {
             taken: 0,
             faults: 0,
         }
+    }
+
+    /// Puts bytes behind those that wait.
+    ///
+    /// Returns `OutOfMemory` where there is no room for them, and then none is put there.
+    pub fn push(&mut self, bytes: &[u8]) -> Result<(), OutOfMemory>
+        ensures ok { OnOk result (drop self.new.taken self.new.bytes.items ≡ drop self.old.taken self.old.bytes.items ++ bytes.now) }
+        ensures err { OnErr result (drop self.new.taken self.new.bytes.items ≡ drop self.old.taken self.old.bytes.items) }
+    {
+        self.bytes.extend_from_slice(bytes)?;
+        Ok(())
     }
 
     /// How many bytes wait.

@@ -1,0 +1,138 @@
+-- What a held client is told of its calls.
+use Rattle.std.proofs.Common.{◌≡◌, ℕ, List, [], ◌∷◌, ◌++◌, Some, None, drop, refl, sym, ◌∙◌, ap, subst, append-nil, arith}
+use Rattle.ft_msg.specs.declared.messages.Draft.{Draft}
+use Rattle.ft_seqr.specs.declared.refusals.Refusal.{Refusal}
+use Rattle.ft_seqr.specs.Walk.{Step}
+use Rattle.ft_replay.specs.LineForm.{bytes_of}
+use Rattle.ft_door.specs.declared.calls.Told.TheVariants.{Refused, Taken}
+use Rattle.ft_door.specs.declared.clients.HeldClient.{HeldClient}
+use Rattle.ft_door.specs.Clients.{CallsClient, GoesOn, SendsDraft, ShowsClient, call_bytes, call_number, refusal_bytes, unread_by}
+use Rattle.ft_door.specs.Editors.{EditorState, IsEditor, NaiveEditor, TellsStep, draft_bytes, oldest_bytes, shown_lines, with_queue}
+
+module _ {R : Type 0} (run : HeldClient R) (s t : EditorState) where
+  -- a call was taken
+  pub call-taken : (step : NaiveEditor → Step NaiveEditor) → TellsStep Taken s t step → CallsClient step (record run { client = Some s }) (record run { client = Some t }) 0
+  call-taken step tells = record {
+    client = λ x low h. (tells x h).1;
+    told = λ x low h. ap call_number (sym (tells x h).0);
+    written = λ x low h. sym (append-nil (unread_by run)) ∙ ap (λ refusal. unread_by run ++ call_bytes refusal) (sym (tells x h).0);
+    ended = λ is. absurd (cc);
+    kept = λ is. absurd (cc);
+    same = λ large. absurd (omega (arith, large));
+    closed = λ is. absurd (cc);
+    known = refl;
+  }
+
+  -- it was refused, and why is written
+  pub call-refused : (new : HeldClient R) (step : NaiveEditor → Step NaiveEditor) (why : Refusal) → new.client ≡ Some t → unread_by new ≡ unread_by run ++ refusal_bytes why
+      → TellsStep (Refused why) s t step → CallsClient step (record run { client = Some s }) new 1
+  call-refused new step why is written tells = record {
+    client = λ x low h. subst (λ client. GoesOn client (step x).made) (sym is) (tells x h).1;
+    told = λ x low h. ap call_number (sym (tells x h).0);
+    written = λ x low h. written ∙ ap (λ refusal. unread_by run ++ call_bytes refusal) (sym (tells x h).0);
+    ended = λ is. absurd (cc);
+    kept = λ is. absurd (cc);
+    same = λ large. absurd (omega (arith, large));
+    closed = λ is. absurd (cc);
+    known = refl;
+  }
+
+  -- a count would pass its greatest number
+  pub call-full : (step : NaiveEditor → Step NaiveEditor) → t ≡ s → CallsClient step (record run { client = Some s }) (record run { client = Some t }) 6
+  call-full step same = record {
+    client = λ x low. absurd (omega (arith, low));
+    told = λ x low. absurd (omega (arith, low));
+    written = λ x low. absurd (omega (arith, low));
+    ended = λ is. absurd (cc);
+    kept = λ is. absurd (cc);
+    same = λ large. ap (λ (c : EditorState). record run { client = Some c }) same;
+    closed = λ is. absurd (cc);
+    known = refl;
+  }
+
+  -- a draft was written, and counts as sent
+  pub draft-sent : (new : HeldClient R) (line : List ℕ) → new.client ≡ Some t → unread_by new ≡ unread_by run ++ line
+      → ((x : NaiveEditor) → IsEditor s x → oldest_bytes x.client.queue ≡ Some line)
+      → ((x : NaiveEditor) → IsEditor s x → IsEditor t (with_queue (drop 1 x.client.queue) x))
+      → SendsDraft (record run { client = Some s }) new 0
+  draft-sent new line is written oldest sent = record {
+    sent = λ x zero h. by x h x.client.queue refl (oldest x h);
+    none = λ x is. absurd (cc);
+    client = λ large. absurd (omega (arith, large));
+    unread = λ large. absurd (omega (arith, large));
+    closed = λ is. absurd (cc);
+    known = refl;
+  }
+    where
+      by : (x : NaiveEditor) → IsEditor s x → (queue : List Draft) → x.client.queue ≡ queue → oldest_bytes queue ≡ Some line
+          → (d : Draft) × (ds : List Draft) × (x.client.queue ≡ d ∷ ds) × GoesOn new.client (with_queue ds x) × (unread_by new ≡ unread_by run ++ draft_bytes d)
+      by x h [] e o = absurd (cc)
+      by x h (d ∷ ds) e o =
+          let same : draft_bytes d ≡ line = (cc) in (
+            d,
+            ds,
+            e,
+            subst (λ client. GoesOn client (with_queue ds x)) (sym is) (subst (λ queue. IsEditor t (with_queue (drop 1 queue) x)) e (sent x h)),
+            written ∙ ap (λ bytes. unread_by run ++ bytes) (sym same),
+          )
+
+-- there was no memory for a call
+pub call-ended : {R : Type 0} (old new : HeldClient R) (step : NaiveEditor → Step NaiveEditor) → new.client ≡ None → unread_by new ≡ unread_by old
+    → CallsClient step old new 5
+call-ended old new step is same = record {
+  client = λ x low. absurd (omega (arith, low));
+  told = λ x low. absurd (omega (arith, low));
+  written = λ x low. absurd (omega (arith, low));
+  ended = λ five. is;
+  kept = λ five. same;
+  same = λ large. absurd (omega (arith, large));
+  closed = λ is. absurd (cc);
+  known = refl;
+}
+
+-- there is nothing to send
+pub nothing-sent : {R : Type 0} (old new : HeldClient R) (s : EditorState) → old.client ≡ Some s → new.client ≡ Some s → unread_by new ≡ unread_by old
+    → ((x : NaiveEditor) → IsEditor s x → None ≡ oldest_bytes x.client.queue) → SendsDraft old new 8
+nothing-sent old new s was is same oldest = record {
+  sent = λ x zero. absurd (cc);
+  none = λ x eight h. by x.client.queue (oldest x (subst (λ client. GoesOn client x) was h));
+  client = λ large. is ∙ sym was;
+  unread = λ large. same;
+  closed = λ is. absurd (cc);
+  known = refl;
+}
+  where
+    by : (queue : List Draft) → None ≡ oldest_bytes queue → queue ≡ []
+    by [] e = refl
+    by (d ∷ ds) e = absurd (cc)
+
+-- there was no memory for a draft
+pub draft-kept : {R : Type 0} (old new : HeldClient R) → new.client ≡ old.client → unread_by new ≡ unread_by old → SendsDraft old new 5
+draft-kept old new client unread = record {
+  sent = λ x zero. absurd (cc);
+  none = λ x is. absurd (cc);
+  client = λ large. client;
+  unread = λ large. unread;
+  closed = λ is. absurd (cc);
+  known = refl;
+}
+
+-- a view is written, or there was no memory for it
+pub view-shown : {R : Type 0} (old new : HeldClient R) (s : EditorState) (text : List ℕ) → old.client ≡ Some s → new.client ≡ Some s
+    → unread_by new ≡ unread_by old ++ text → ((x : NaiveEditor) → IsEditor s x → text ≡ bytes_of (shown_lines x)) → ShowsClient old new 0
+view-shown old new s text was is written shown = record {
+  shown = λ x zero h. written ∙ ap (λ bytes. unread_by old ++ bytes) (shown x (subst (λ client. GoesOn client x) was h));
+  client = is ∙ sym was;
+  unread = λ large. absurd (omega (arith, large));
+  closed = λ is. absurd (cc);
+  known = refl;
+}
+
+pub view-kept : {R : Type 0} (old new : HeldClient R) → new.client ≡ old.client → unread_by new ≡ unread_by old → ShowsClient old new 5
+view-kept old new client unread = record {
+  shown = λ x zero. absurd (cc);
+  client = client;
+  unread = λ large. unread;
+  closed = λ is. absurd (cc);
+  known = refl;
+}

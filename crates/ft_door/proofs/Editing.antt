@@ -1,0 +1,458 @@
+-- What an editor is told of its calls, and for which one it stands then.
+use Rattle.std.proofs.Common.{chars, if◌then◌else◌, ◌≡◌, ℕ, ◌+◌, ◌*◌, ◌≤◌, Bool, true, false, cond, not, ◌&&◌, List, [], ◌∷◌, Option, Some, None, Result, Ok, Err, drop, length, map, max, option_map, suc, slice_get, refl, sym, ◌∙◌, ap, subst, arith}
+use Rattle.std.proofs.lemmas.Str.{IsUtf8-from_is_utf8, is_utf8-from_IsUtf8}
+use Rattle.std.specs.Str.{IsUtf8, is_utf8}
+use Rattle.ft_base.specs.Scan.{len}
+use Rattle.ft_props.specs.Element.{ListElement, is_pending}
+use Rattle.ft_props.specs.Properties.{Characters}
+use Rattle.ft_sumdoc.specs.declared.summary.SumDoc.{SumDoc}
+use Rattle.ft_sumdoc.specs.Valid.{IsValidSummary}
+use Rattle.ft_op.specs.declared.operations.ChannelOp.{ChannelOp}
+use Rattle.ft_op.specs.Document.{Document, empty}
+use Rattle.ft_op.specs.WellFormed.{IsWellFormed}
+use Rattle.ft_msg.specs.declared.faults.Cause.TheVariants.{NotUtf8}
+use Rattle.ft_msg.specs.declared.faults.EditFault.{EditFault}
+use Rattle.ft_msg.specs.declared.faults.LinkFault.{LinkFault}
+use Rattle.ft_msg.specs.declared.faults.ProcessFault.{ProcessFault}
+use Rattle.ft_msg.specs.declared.messages.Draft.{Draft}
+use Rattle.ft_msg.specs.declared.messages.Entry.{Entry}
+use Rattle.ft_msg.specs.declared.messages.Message.{Message}
+use Rattle.ft_msg.specs.declared.views.Numbers.{Numbers}
+use Rattle.ft_msg.specs.declared.views.View.{View}
+use Rattle.ft_msg.specs.Answers.{HeldCounts, ReplicaState, RunsFor, StartsOver, held_in, numbers_of, view_content, with_queue}
+use Rattle.ft_msg.specs.Client.{NaiveClient, PendingEdit, client_over, connect, local_edit}
+use Rattle.ft_msg.specs.ClientSteps.{Connects, Drops, Edits, Sends, Takes, unless_refused}
+use Rattle.ft_msg.specs.Compacted.{StandsFor}
+use Rattle.ft_msg.specs.Content.{content}
+use Rattle.ft_msg.specs.Indexed.{IndexedClient, indexed_edit}
+use Rattle.ft_msg.specs.Process.{process}
+use Rattle.ft_msg.specs.Reached.{IsReached, IsStart, from_nothing, from_summary}
+use Rattle.ft_msg.specs.Summary.{doc_of}
+use Rattle.ft_msg.specs.WellFormed.{IsWellFormedDraft, IsWellFormedMessage}
+use Rattle.ft_msg.proofs.LinkSteps.{stands-link}
+use Rattle.ft_seqr.specs.declared.refusals.Refusal.{Refusal}
+use Rattle.ft_seqr.specs.declared.refusals.Refusal.TheVariants.{AlreadyConnected, Malformed, NotConnected}
+use Rattle.ft_seqr.specs.Refusals.{refusal_of_edit, refusal_of_process}
+use Rattle.ft_seqr.specs.Walk.{Step, passes, refuses}
+use Rattle.ft_seqr.specs.World.{body_load, op_load}
+use Rattle.ft_laws_agreement.specs.Sequencing.{Each}
+use Rattle.ft_laws_sessions.specs.ClientDrafts.{DraftsOfClientsAreFormed, IsMadeAlone, element_count, start_cost}
+use Rattle.ft_laws_sessions.proofs.ClientDrafts.{alone-after, alone-reached}
+use Rattle.ft_replay.specs.Observation.{names_with, numbered_entry}
+use Rattle.ft_session.specs.Outputs.{IsViewOf}
+use Rattle.ft_door.specs.declared.calls.Told.{Told}
+use Rattle.ft_door.specs.declared.calls.Told.TheVariants.{Full, Refused, Taken}
+use Rattle.ft_door.specs.Editors.{EditorState, Gives, IsEditor, IsSomeEditor, NaiveEditor, TellsStep, as_client, connect_as, connect_line, drop_answer, drop_step, dropped_unless, edit_answer, edited, editor_of, entry_answer, is_awaited, is_free, is_join, is_offline, is_sender, joining_as, load_limit, load_of, message_answer, new_editor, no_name, oldest_bytes, or_same, order_fault, shown_link, start_load, take_entry, is_awaited_by, message_refusal, take_message, take_next, told_of, waits_after, draft_bytes}
+use Rattle.ft_door.specs.Editors as editors
+use Rattle.ft_door.proofs.GivenSteps.{runs-queued}
+
+-- ---- what is told of a step
+
+-- it stands for some editor behind it
+pub still-some : (told : Told) (old new : EditorState) (step : NaiveEditor → Step NaiveEditor) → TellsStep told old new step → IsSomeEditor old → IsSomeEditor new
+still-some Taken old new step t some = ((step some.0).made, (t some.0 some.1).1)
+still-some (Refused why) old new step t some = ((step some.0).made, (t some.0 some.1).1)
+still-some Full old new step t some = subst IsSomeEditor (sym t) some
+
+-- what is told of one step is told of another that is the same
+pub step-same : (told : Told) (old new : EditorState) (step other : NaiveEditor → Step NaiveEditor) → ((x : NaiveEditor) → IsEditor old x → step x ≡ other x)
+    → TellsStep told old new step → TellsStep told old new other
+step-same Taken old new step other same t = λ x h. subst (λ (s : Step NaiveEditor). (s.refusal ≡ None) × IsEditor new s.made) (same x h) (t x h)
+step-same (Refused why) old new step other same t = λ x h. subst (λ (s : Step NaiveEditor). (s.refusal ≡ Some why) × IsEditor new s.made) (same x h) (t x h)
+step-same Full old new step other same t = t
+
+-- it is refused, and changes nothing
+pub refused-told : (why : Refusal) (s : EditorState) (step : NaiveEditor → Step NaiveEditor) → ((x : NaiveEditor) → IsEditor s x → step x ≡ refuses x why)
+    → TellsStep (Refused why) s s step
+refused-told why s step is = λ x h. subst (λ (t : Step NaiveEditor). (t.refusal ≡ Some why) × IsEditor s t.made) (sym (is x h)) (refl, h)
+
+-- another replica that is as it was
+same-editor : (s : EditorState) (r : ReplicaState) (x : NaiveEditor) → r ≡ s.replica → IsEditor s x → IsEditor (record s { replica = r }) x
+same-editor s r x same h = record {
+  runs = subst (λ (q : ReplicaState). RunsFor q x.client) (sym same) h.runs;
+  made = h.made;
+  low = h.low;
+  names = h.names;
+  name = h.name;
+  waits = h.waits;
+  load = h.load;
+}
+
+pub editor-reached : (s : EditorState) (x : NaiveEditor) → IsEditor s x → IsReached x.client
+editor-reached s x h = alone-reached x.load x.client h.made
+
+-- the fields of an editor, and it by another name for each
+abbrev pub state_of : ReplicaState → List Characters → Characters → Bool → ℕ → EditorState
+state_of replica names name waits load = record { replica = replica; names = names; name = name; waits = waits; load = load }
+
+pub told-as : (told other : Told) (old was new is : EditorState) (step : NaiveEditor → Step NaiveEditor) → told ≡ other → was ≡ old → new ≡ is → TellsStep other was is step
+    → TellsStep told old new step
+told-as told other old was new is step a b c t =
+    subst (λ (o : EditorState). TellsStep told o new step) b
+    (subst (λ (n : EditorState). TellsStep told was n step) (sym c) (subst (λ (k : Told). TellsStep k was is step) (sym a) t))
+
+pub editor-as : (s t : EditorState) (x : NaiveEditor) → s ≡ t → IsEditor t x → IsEditor s x
+editor-as s t x is h = subst (λ (o : EditorState). IsEditor o x) (sym is) h
+
+-- ---- an edit
+
+module _ (s : EditorState) (r : ReplicaState) (op : ChannelOp) (after : ℕ) (formed : IsWellFormed op) (sum : after ≡ s.load + (1 + op_load op)) (low : after ≤ load_limit) where
+  pub edit-told : (refusal : Option Refusal)
+      → ((x : NaiveClient) → IsReached x → RunsFor s.replica x → Gives refusal_of_edit s.replica r (local_edit x op) refusal)
+      → TellsStep (told_of refusal) s (record s { replica = r; load = load_of refusal s.load after }) (λ x. edited x op)
+  edit-told None give = λ x h.
+      let (y, e, runs) = give x.client (editor-reached s x h) h.runs in
+      let load = h.load in
+      subst (λ (a : Result NaiveClient EditFault). ((edit_answer x op a).refusal ≡ None) × IsEditor (record s { replica = r; load = after }) (edit_answer x op a).made) (sym e) (
+        refl,
+        record {
+          runs = runs;
+          made = alone-after x.load x.client y (Edits op) h.made (ap unless_refused e) formed;
+          low = omega (arith, load, sum, low);
+          names = h.names;
+          name = h.name;
+          waits = h.waits;
+          load = omega (arith, load, sum);
+        },
+      )
+  edit-told (Some why) give = λ x h.
+      let (fault, e, is, same) = give x.client (editor-reached s x h) h.runs in
+      subst (λ (a : Result NaiveClient EditFault). ((edit_answer x op a).refusal ≡ Some why) × IsEditor (record s { replica = r }) (edit_answer x op a).made) (sym e)
+      (ap Some (sym is), same-editor s r x same h)
+
+-- ---- a message
+
+-- the client that joins is made as it was
+connected-made : (load conn : ℕ) (x : NaiveClient) (a : Result NaiveClient LinkFault) → connect x conn ≡ a → IsMadeAlone load x → IsMadeAlone load (or_same x a)
+connected-made load conn x (Ok y) e m =
+    let none : load + 0 ≡ load = omega arith in
+    subst (λ (n : ℕ). IsMadeAlone n y) none (alone-after load x y (Connects conn) m (ap unless_refused e) tt)
+connected-made load conn x (Err fault) e m = m
+
+pub joined-made : (load : ℕ) (joins : Bool) (conn : ℕ) (x : NaiveClient) → IsMadeAlone load x → IsMadeAlone load (joining_as joins conn x)
+joined-made load true conn x m = connected-made load conn x (connect x conn) refl m
+joined-made load false conn x m = m
+
+module _ (s : EditorState) (names : List Characters) (r : ReplicaState) (m : Message) (joins : Bool) (after : ℕ) (formed : IsWellFormedMessage m)
+    (sum : after ≡ s.load + (1 + body_load m.body)) (low : after ≤ load_limit) (named : names ≡ names_with s.names m.client_id) where
+  abbrev entry_of : EditorState → Entry
+  entry_of t = numbered_entry t.names m
+
+  abbrev state_after : Option Refusal → EditorState
+  state_after refusal = record { replica = r; names = names; name = s.name; waits = waits_after refusal s.waits joins; load = load_of refusal s.load after }
+
+  -- where it joins, or doesn't, as is told
+  abbrev step_at : NaiveEditor → Step NaiveEditor
+  step_at x = take_entry (record x { names = names_with x.names m.client_id }) joins (numbered_entry x.names m)
+
+  names-after : (x : NaiveEditor) → IsEditor s x → names ≡ names_with x.names m.client_id
+  names-after x h = named ∙ ap (λ (ns : List Characters). names_with ns m.client_id) h.names
+
+  entry-at : (refusal : Option Refusal)
+      → ((x : NaiveClient) → IsReached x → RunsFor s.replica x
+      → Gives (refusal_of_process m.seq) s.replica r (process (joining_as joins (entry_of s).origin x) (entry_of s)) refusal)
+      → TellsStep (told_of refusal) s (state_after refusal) step_at
+  entry-at None give = λ x h.
+      let (y, e, runs) = give x.client (editor-reached s x h) h.runs in
+      let load = h.load in
+      let at : NaiveEditor = record x { names = names_with x.names m.client_id } in
+      let same = ap (λ (ns : List Characters). numbered_entry ns m) h.names in
+      let taken : process (joining_as joins (numbered_entry x.names m).origin x.client) (numbered_entry x.names m) ≡ Ok y =
+      ap (λ (entry : Entry). process (joining_as joins entry.origin x.client) entry) (sym same) ∙ e in
+      let joined = joined-made x.load joins (numbered_entry x.names m).origin x.client h.made in
+      subst (λ (a : Result NaiveClient ProcessFault). ((entry_answer at joins (numbered_entry x.names m) a).refusal ≡ None)
+      × IsEditor (state_after None) (entry_answer at joins (numbered_entry x.names m) a).made) (sym taken) (
+        refl,
+        record {
+          runs = runs;
+          made = alone-after x.load (joining_as joins (numbered_entry x.names m).origin x.client) y (Takes (numbered_entry x.names m)) joined (ap unless_refused taken) formed;
+          low = omega (arith, load, sum, low);
+          names = names-after x h;
+          name = h.name;
+          waits = ap (cond joins false) h.waits;
+          load = omega (arith, load, sum);
+        },
+      )
+  entry-at (Some why) give = λ x h.
+      let (fault, e, is, replica) = give x.client (editor-reached s x h) h.runs in
+      let at : NaiveEditor = record x { names = names_with x.names m.client_id } in
+      let same = ap (λ (ns : List Characters). numbered_entry ns m) h.names in
+      let taken : process (joining_as joins (numbered_entry x.names m).origin x.client) (numbered_entry x.names m) ≡ Err fault =
+      ap (λ (entry : Entry). process (joining_as joins entry.origin x.client) entry) (sym same) ∙ e in
+      subst (λ (a : Result NaiveClient ProcessFault). ((entry_answer at joins (numbered_entry x.names m) a).refusal ≡ Some why)
+      × IsEditor (state_after (Some why)) (entry_answer at joins (numbered_entry x.names m) a).made) (sym taken) (
+        ap Some (sym is),
+        record {
+          runs = subst (λ (q : ReplicaState). RunsFor q x.client) (sym replica) h.runs;
+          made = h.made;
+          low = h.low;
+          names = names-after x h;
+          name = h.name;
+          waits = h.waits;
+          load = h.load;
+        },
+      )
+
+  pub entry-told : joins ≡ (s.waits && (is_join m.kind && is_sender s.name m.client_id)) → (refusal : Option Refusal)
+      → ((x : NaiveClient) → IsReached x → RunsFor s.replica x
+      → Gives (refusal_of_process m.seq) s.replica r (process (joining_as joins (entry_of s).origin x) (entry_of s)) refusal)
+      → TellsStep (told_of refusal) s (state_after refusal) (λ x. take_next x m)
+  entry-told is refusal give =
+      step-same (told_of refusal) s (state_after refusal) step_at (λ x. take_next x m)
+      (λ x h. ap (λ b. take_entry (record x { names = names_with x.names m.client_id }) b (numbered_entry x.names m))
+      (is ∙ ap (λ b. b && (is_join m.kind && is_sender s.name m.client_id)) h.waits ∙ ap (λ (n : Characters). x.waits && (is_join m.kind && is_sender n m.client_id)) h.name))
+      (entry-at refusal give)
+
+abbrev GivesEntry : ReplicaState → ReplicaState → Bool → Option Refusal → Entry → Type 0
+GivesEntry old new joins refusal entry =
+    (x : NaiveClient) → IsReached x → RunsFor old x → Gives (refusal_of_process entry.msg.seq) old new (process (joining_as joins entry.origin x) entry) refusal
+
+-- .. from the names with its sender on
+pub entry-taken : (s old : EditorState) (r : ReplicaState) (m : Message) (entry : Entry) (joins : Bool) (after : ℕ) (refusal : Option Refusal) → IsWellFormedMessage entry.msg
+    → after ≤ load_limit → entry ≡ numbered_entry s.names m → old ≡ record s { names = names_with s.names m.client_id } → joins ≡ is_awaited_by s m
+    → after ≡ s.load + (1 + body_load m.body) → GivesEntry old.replica r joins refusal entry
+    → TellsStep (told_of refusal) s (record old { replica = r; waits = waits_after refusal old.waits joins; load = load_of refusal old.load after }) (λ x. take_next x m)
+entry-taken s old r m entry joins after refusal formed low entry_is old_is is sum give =
+    subst (λ (o : EditorState). GivesEntry o.replica r joins refusal entry
+    → TellsStep (told_of refusal) s (record o { replica = r; waits = waits_after refusal o.waits joins; load = load_of refusal o.load after }) (λ x. take_next x m)) (sym old_is)
+    (λ given. entry-told s (names_with s.names m.client_id) r m joins after (subst (λ (e : Entry). IsWellFormedMessage e.msg) entry_is formed) sum low refl is refusal
+    (subst (GivesEntry s.replica r joins refusal) entry_is given)) give
+
+-- its numbers are those of the editor for which it stands
+stands-minimum : (r : IndexedClient) (x : NaiveClient) → StandsFor r x → r.doc.minimum ≡ x.doc.minimum
+stands-minimum r x t = ap (λ (c : IndexedClient). c.doc.minimum) (sym t.shows) ∙ ap (λ (d : Document). d.minimum) t.keeps.doc.rest
+
+pub order-same : (s : EditorState) (x : NaiveEditor) (m : Message) (numbers : Numbers) → numbers ≡ numbers_of s.replica → IsEditor s x
+    → order_fault numbers.seq numbers.min m ≡ order_fault x.client.doc.number x.client.doc.minimum m
+order-same s x m numbers is h =
+    ap (λ (n : Numbers). order_fault n.seq n.min m) is
+    ∙ ap (λ n. order_fault n s.replica.client.doc.minimum m) (stands-link s.replica.client x.client h.runs.client).number
+    ∙ ap (λ n. order_fault x.client.doc.number n m) (stands-minimum s.replica.client x.client h.runs.client)
+
+-- the message isn't the next one, or is
+pub message-refused : (x : NaiveEditor) (m : Message) (why : Refusal) → Some why ≡ message_refusal x m → take_message x m ≡ refuses x why
+message-refused x m why e = by (order_fault x.client.doc.number x.client.doc.minimum m) e
+  where
+    by : (o : Option ProcessFault) → Some why ≡ option_map (refusal_of_process m.seq) o → message_answer x m o ≡ refuses x why
+    by None f = absurd (cc)
+    by (Some fault) f = let same : why ≡ refusal_of_process m.seq fault = (cc) in ap (refuses x) (sym same)
+
+pub message-next : (x : NaiveEditor) (m : Message) → None ≡ message_refusal x m → take_next x m ≡ take_message x m
+message-next x m e = by (order_fault x.client.doc.number x.client.doc.minimum m) e
+  where
+    by : (o : Option ProcessFault) → None ≡ option_map (refusal_of_process m.seq) o → take_next x m ≡ message_answer x m o
+    by None f = refl
+    by (Some fault) f = absurd (cc)
+
+-- ---- connections
+
+-- whether it is free, by what its replica tells
+free-same : (s : EditorState) (x : NaiveEditor) → IsEditor s x → not s.waits && is_offline s.replica.client.link ≡ is_free x
+free-same s x h =
+    ap (λ b. not b && is_offline s.replica.client.link) h.waits ∙ ap (λ link. not x.waits && is_offline link) (stands-link s.replica.client x.client h.runs.client).link
+
+-- it waits for the join of a connection, or has or waits for one
+pub connect-told : (s : EditorState) (name : Characters) → not s.waits && is_offline s.replica.client.link ≡ true
+    → TellsStep Taken s (record s { name = name; waits = true }) (connect_as name)
+connect-told s name free = λ x h.
+    subst (λ (t : Step NaiveEditor). (t.refusal ≡ None) × IsEditor (record s { name = name; waits = true }) t.made)
+    (ap (λ b. cond b (passes (record x { name = name; waits = true })) (refuses x AlreadyConnected)) (sym free ∙ free-same s x h))
+    (refl, record { runs = h.runs; made = h.made; low = h.low; names = h.names; name = refl; waits = refl; load = h.load })
+
+pub connect-refused : (s : EditorState) (name : Characters) → not s.waits && is_offline s.replica.client.link ≡ false
+    → (x : NaiveEditor) → IsEditor s x → connect_as name x ≡ refuses x AlreadyConnected
+connect-refused s name taken x h = ap (λ b. cond b (passes (record x { name = name; waits = true })) (refuses x AlreadyConnected)) (sym (free-same s x h) ∙ taken)
+
+-- its name is read, or isn't UTF-8
+not-utf8 : (b : Bool) → (b ≡ true → ⊥) → b ≡ false
+not-utf8 true h = absurd (h refl)
+not-utf8 false h = refl
+
+pub name-refused : (line : List ℕ) (x : NaiveEditor) → (IsUtf8 line → ⊥) → connect_line line x ≡ refuses x (Malformed NotUtf8)
+name-refused line x not =
+    ap (λ b. if b then connect_as (chars line) x else refuses x (Malformed NotUtf8)) (not-utf8 (is_utf8 line) (λ e. not (IsUtf8-from_is_utf8 line e)))
+
+pub name-read : (line name : List ℕ) (x : NaiveEditor) → IsUtf8 line → name ≡ line → connect_as (chars name) x ≡ connect_line line x
+name-read line name x is same =
+    ap (λ bytes. connect_as (chars bytes) x) same ∙ ap (λ b. if b then connect_as (chars line) x else refuses x (Malformed NotUtf8)) (sym (is_utf8-from_IsUtf8 line is))
+
+-- it has no connection any more
+dropped-made : (load : ℕ) (waits : Bool) (x y : NaiveClient) → dropped_unless waits x ≡ Ok y → IsMadeAlone load x → IsMadeAlone load y
+dropped-made load true x y e m = let same : x ≡ y = (cc) in subst (IsMadeAlone load) same m
+dropped-made load false x y e m =
+    let none : load + 0 ≡ load = omega arith in
+    subst (λ (n : ℕ). IsMadeAlone n y) none (alone-after load x y Drops m (ap unless_refused e) tt)
+
+refused-waits : (waits : Bool) (x : NaiveClient) (fault : LinkFault) → dropped_unless waits x ≡ Err fault → false ≡ waits
+refused-waits true x fault e = absurd (cc)
+refused-waits false x fault e = refl
+
+pub drop-told : (s : EditorState) (r : ReplicaState) (refusal : Option Refusal)
+    → ((x : NaiveClient) → IsReached x → RunsFor s.replica x → Gives (λ (fault : LinkFault). NotConnected) s.replica r (dropped_unless s.waits x) refusal)
+    → TellsStep (told_of refusal) s (record s { replica = r; waits = false }) drop_step
+drop-told s r None give = λ x h.
+    let (y, e, runs) = give x.client (editor-reached s x h) h.runs in
+    let taken : dropped_unless x.waits x.client ≡ Ok y = ap (λ b. dropped_unless b x.client) (sym h.waits) ∙ e in
+    subst (λ (a : Result NaiveClient LinkFault). ((drop_answer x a).refusal ≡ None) × IsEditor (record s { replica = r; waits = false }) (drop_answer x a).made) (sym taken) (
+      refl,
+      record {
+        runs = runs;
+        made = dropped-made x.load x.waits x.client y taken h.made;
+        low = h.low;
+        names = h.names;
+        name = h.name;
+        waits = refl;
+        load = h.load;
+      },
+    )
+drop-told s r (Some why) give = λ x h.
+    let (fault, e, is, same) = give x.client (editor-reached s x h) h.runs in
+    let taken : dropped_unless x.waits x.client ≡ Err fault = ap (λ b. dropped_unless b x.client) (sym h.waits) ∙ e in
+    subst (λ (a : Result NaiveClient LinkFault). ((drop_answer x a).refusal ≡ Some why) × IsEditor (record s { replica = r; waits = false }) (drop_answer x a).made) (sym taken) (
+      ap Some (sym is),
+      record {
+        runs = subst (λ (q : ReplicaState). RunsFor q x.client) (sym same) h.runs;
+        made = h.made;
+        low = h.low;
+        names = h.names;
+        name = h.name;
+        waits = refused-waits x.waits x.client fault taken;
+        load = h.load;
+      },
+    )
+
+-- ---- its start
+
+alone-start : (load : ℕ) (doc : Document) → IsStart doc → start_cost doc ≤ load → IsMadeAlone load (client_over doc)
+alone-start load doc s cost = record { start = doc; starts = s; steps = []; made = refl; formed = tt; cost = omega (arith, cost) }
+
+pub new-stands : (r : ReplicaState) (names : List Characters) (name : Characters) → names ≡ [] → name ≡ no_name → StartsOver r empty 0
+    → IsEditor (record { replica = r; names = names; name = name; waits = false; load = 0 }) new_editor
+new-stands r names name n m s =
+    let none : start_cost empty ≡ 0 = refl in
+    record {
+      runs = s.runs;
+      made = alone-start 0 empty from_nothing (omega (arith, none));
+      low = omega arith;
+      names = n;
+      name = m;
+      waits = refl;
+      load = refl;
+    }
+
+-- a list has as many elements as were made
+counted : (items : List ListElement) → element_count items ≡ length items
+counted [] = refl
+counted (e ∷ items) = let ih = counted items in omega (arith, ih)
+
+start-paid : (sum : SumDoc) → start_cost (doc_of sum) ≤ start_load (doc_of sum)
+start-paid sum =
+    let doc = doc_of sum in
+    let text = counted doc.text.items in
+    let rows = counted doc.rows.items in
+    let cols = counted doc.cols.items in
+    by doc.number (element_count doc.text.items) (element_count doc.rows.items) (element_count doc.cols.items) (len is_pending doc.text.items) (len is_pending doc.rows.items)
+    (len is_pending doc.cols.items) doc.text.made doc.rows.made doc.cols.made text rows cols
+  where
+    by : (n a b c p q o i j k : ℕ) → a ≡ i → b ≡ j → c ≡ k → n + (a + (b + c)) ≤ max (i + p) (max (j + q) (k + o)) * 3 + n
+    by n a b c p q o i j k x y z = omega (arith, x, y, z)
+
+pub summary-stands : (sum : SumDoc) (r : ReplicaState) (numbers : Numbers) (load conns : ℕ) → IsValidSummary sum → StartsOver r (doc_of sum) conns → numbers ≡ numbers_of r
+    → load ≡ numbers.made * 3 + numbers.seq → load ≤ load_limit
+    → IsEditor (record { replica = r; names = sum.conns; name = no_name; waits = false; load = load }) (editor_of sum)
+summary-stands sum r numbers load conns valid s is paid low =
+    let doc = doc_of sum in
+    let number = (stands-link r.client (client_over doc) s.runs.client).number in
+    let same : load ≡ start_load doc =
+    paid ∙ ap (λ (n : Numbers). n.made * 3 + n.seq) is ∙ ap (λ (h : HeldCounts). max h.text (max h.rows h.cols) * 3 + r.client.doc.number) s.held
+    ∙ ap (λ n. max (held_in doc).text (max (held_in doc).rows (held_in doc).cols) * 3 + n) number in
+    record {
+      runs = s.runs;
+      made = alone-start (start_load doc) doc (from_summary valid) (start-paid sum);
+      low = subst (λ n. n ≤ load_limit) same low;
+      names = refl;
+      name = refl;
+      waits = refl;
+      load = same;
+    }
+
+-- ---- what it sends
+
+first-formed : (queue : List Draft) (d : Draft) → Each IsWellFormedDraft queue → Some d ≡ slice_get queue 0 → IsWellFormedDraft d
+first-formed [] d h e = absurd (cc)
+first-formed (b ∷ ds) d h e = let same : b ≡ d = (cc) in subst IsWellFormedDraft same h.0
+
+pub draft-formed : (s : EditorState) (d : Draft) → DraftsOfClientsAreFormed → IsSomeEditor s → Some d ≡ slice_get s.replica.client.queue 0 → IsWellFormedDraft d
+draft-formed s d law some is =
+    let (x, h) = some in
+    let low = h.low in
+    let queue = (stands-link s.replica.client x.client h.runs.client).queue in
+    first-formed x.client.queue d (law x.load x.client h.made (omega (arith, low))) (is ∙ ap (λ ds. slice_get ds 0) queue)
+
+oldest-of : (queue : List Draft) (d : Draft) → Some d ≡ slice_get queue 0 → oldest_bytes queue ≡ Some (draft_bytes d)
+oldest-of [] d e = absurd (cc)
+oldest-of (b ∷ ds) d e = let same : b ≡ d = (cc) in ap (λ (f : Draft). Some (draft_bytes f)) same
+
+none-of : (queue : List Draft) → None ≡ slice_get queue 0 → oldest_bytes queue ≡ None
+none-of [] e = refl
+none-of (d ∷ ds) e = absurd (cc)
+
+pub oldest-told : (s : EditorState) (d : Draft) → Some d ≡ slice_get s.replica.client.queue 0 → (x : NaiveEditor) → IsEditor s x
+    → Some (draft_bytes d) ≡ oldest_bytes x.client.queue
+oldest-told s d is x h =
+    let queue = (stands-link s.replica.client x.client h.runs.client).queue in
+    sym (oldest-of x.client.queue d (is ∙ ap (λ ds. slice_get ds 0) queue))
+
+pub none-told : (s : EditorState) → None ≡ slice_get s.replica.client.queue 0 → (x : NaiveEditor) → IsEditor s x → None ≡ oldest_bytes x.client.queue
+none-told s is x h =
+    let queue = (stands-link s.replica.client x.client h.runs.client).queue in
+    sym (none-of x.client.queue (is ∙ ap (λ ds. slice_get ds 0) queue))
+
+pub sent-stands : (s : EditorState) (r : ReplicaState) → r ≡ with_queue (drop 1 s.replica.client.queue) s.replica → (x : NaiveEditor) → IsEditor s x
+    → IsEditor (record s { replica = r }) (editors.with_queue (drop 1 x.client.queue) x)
+sent-stands s r is x h =
+    let queue = (stands-link s.replica.client x.client h.runs.client).queue in
+    let none : x.load + 0 ≡ x.load = omega arith in
+    record {
+      runs = subst (λ (q : ReplicaState). RunsFor q (record x.client { queue = drop 1 x.client.queue }))
+          (ap (λ ds. with_queue (drop 1 ds) s.replica) (sym queue) ∙ sym is) (runs-queued (drop 1 x.client.queue) s.replica x.client h.runs);
+      made = subst (λ n. IsMadeAlone n (record x.client { queue = drop 1 x.client.queue })) none
+          (alone-after x.load x.client (record x.client { queue = drop 1 x.client.queue }) Sends h.made refl tt);
+      low = h.low;
+      names = h.names;
+      name = h.name;
+      waits = h.waits;
+      load = h.load;
+    }
+
+-- ---- what it shows
+
+pending-count : (r : IndexedClient) (x : NaiveClient) → StandsFor r x → length r.pending ≡ length x.pending
+pending-count r x t =
+    ap (λ (c : IndexedClient). length c.pending) (sym t.shows)
+    ∙ (mapped t.kept.pending ∙ ap (λ (k : NaiveClient). length k.pending) t.keeps.rest)
+  where
+    mapped : (edits : List PendingEdit) → length (map (indexed_edit t.kept.doc) edits) ≡ length edits
+    mapped [] = refl
+    mapped (edit ∷ edits) = ap suc (mapped edits)
+
+pub view-stands : (s : EditorState) (v w : View) → w ≡ record v { numbers = record v.numbers { link = shown_link s.waits v.numbers.link } } → v.numbers ≡ numbers_of s.replica
+    → (x : NaiveEditor) → IsEditor s x → view_content v ≡ content x.client → IsViewOf (as_client x) s.name w
+view-stands s v w is numbers x h shows =
+    let r = s.replica.client in
+    let t = h.runs.client in
+    let l = stands-link r x.client t in
+    let told = ap (λ (k : View). k.numbers) is in
+    record {
+      name_is = h.name;
+      seq = ap (λ (k : Numbers). k.seq) (told ∙ ap (λ (n : Numbers). record n { link = shown_link s.waits n.link }) numbers) ∙ l.number;
+      min = ap (λ (k : Numbers). k.min) (told ∙ ap (λ (n : Numbers). record n { link = shown_link s.waits n.link }) numbers) ∙ stands-minimum r x.client t;
+      pending = ap (λ (k : Numbers). k.pending) (told ∙ ap (λ (n : Numbers). record n { link = shown_link s.waits n.link }) numbers) ∙ pending-count r x.client t;
+      skipped = ap (λ (k : Numbers). k.skipped) (told ∙ ap (λ (n : Numbers). record n { link = shown_link s.waits n.link }) numbers)
+          ∙ (sym (ap (λ (d : IndexedClient). d.doc.skipped) t.shows) ∙ ap (λ (d : Document). d.skipped) t.keeps.doc.rest);
+      other = ap (λ (k : Numbers). k.other) (told ∙ ap (λ (n : Numbers). record n { link = shown_link s.waits n.link }) numbers)
+          ∙ (sym (ap (λ (d : IndexedClient). d.doc.other) t.shows) ∙ ap (λ (d : Document). d.other) t.keeps.doc.rest);
+      link = ap (λ (k : Numbers). k.link) (told ∙ ap (λ (n : Numbers). record n { link = shown_link s.waits n.link }) numbers)
+          ∙ ap (λ b. shown_link b r.link) h.waits ∙ ap (shown_link x.waits) l.link;
+      shows = ap view_content is ∙ shows;
+    }

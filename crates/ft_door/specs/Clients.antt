@@ -1,0 +1,75 @@
+-- What is said of a client that is held between calls, and of what of the bytes that it wrote was read.
+use Rattle.std.specs.Prelude.{◌≡◌, ℕ, ◌<◌, ◌≤◌, ◌||◌, IsTrue, nat_eq, List, [], ◌∷◌, ◌++◌, codes, decimal, drop, take, length, Option, Some, None}
+use Rattle.ft_msg.specs.declared.messages.Draft.{Draft}
+use Rattle.ft_seqr.specs.declared.refusals.Refusal.{Refusal}
+use Rattle.ft_seqr.specs.Refusals.{refusal_number, refusal_text}
+use Rattle.ft_seqr.specs.Walk.{Step}
+use Rattle.ft_replay.specs.LineForm.{bytes_of}
+use Rattle.ft_door.specs.declared.clients.HeldClient.{HeldClient}
+use Rattle.ft_door.specs.Editors.{EditorState, IsEditor, NaiveEditor, draft_bytes, new_editor, shown_lines, with_queue}
+
+-- what wasn't read yet of what was written
+abbrev pub unread_by : {R : Type 0} → HeldClient R → List ℕ
+unread_by run = drop run.waiting.taken run.waiting.bytes.items
+
+-- what is written of a refusal: its number and its text
+abbrev pub refusal_bytes : Refusal → List ℕ
+refusal_bytes why = bytes_of ((codes "refused " ++ (decimal (refusal_number why) ++ (codes " " ++ refusal_text why))) ∷ [])
+
+-- a client that goes on stands for this editor
+abbrev pub GoesOn : Option EditorState → NaiveEditor → Type 0
+GoesOn None x = ⊥
+GoesOn (Some s) x = IsEditor s x
+
+-- a new one, of which there is nothing to read
+pub record IsNew {R : Type 0} (run : HeldClient R) : Type 0 where
+  pub client : GoesOn run.client new_editor
+  pub unread : unread_by run ≡ []
+
+-- what a call writes that is refused so, if it is
+abbrev pub call_bytes : Option Refusal → List ℕ
+call_bytes None = []
+call_bytes (Some why) = refusal_bytes why
+
+-- the number by which C is told of a call that is refused so, if it is
+abbrev pub call_number : Option Refusal → ℕ
+call_number None = 0
+call_number (Some why) = 1
+
+-- what a number tells of a call that is this step: it was taken, or refused, and then why is written; there was no memory, and the client is at
+-- its end; a count would pass its greatest number, or it was at its end before, and nothing changed
+pub record CallsClient {R : Type 0} (step : NaiveEditor → Step NaiveEditor) (old new : HeldClient R) (status : ℕ) : Type 0 where
+  pub client : (x : NaiveEditor) → status ≤ 1 → GoesOn old.client x → GoesOn new.client (step x).made
+  pub told : (x : NaiveEditor) → status ≤ 1 → GoesOn old.client x → status ≡ call_number (step x).refusal
+  pub written : (x : NaiveEditor) → status ≤ 1 → GoesOn old.client x → unread_by new ≡ unread_by old ++ call_bytes (step x).refusal
+  pub ended : status ≡ 5 → new.client ≡ None
+  pub kept : status ≡ 5 → unread_by new ≡ unread_by old
+  pub same : 6 ≤ status → new ≡ old
+  pub closed : status ≡ 7 → old.client ≡ None
+  pub known : IsTrue (nat_eq status 0 || (nat_eq status 1 || (nat_eq status 5 || (nat_eq status 6 || nat_eq status 7))))
+
+-- what a number tells of a call for a draft: the oldest one that wasn't sent is written, and counts as sent; there was no memory, or the client is at
+-- its end, or there is none, and nothing changed
+pub record SendsDraft {R : Type 0} (old new : HeldClient R) (status : ℕ) : Type 0 where
+  pub sent : (x : NaiveEditor) → status ≡ 0 → GoesOn old.client x → (d : Draft) × (ds : List Draft) × (x.client.queue ≡ d ∷ ds)
+      × GoesOn new.client (with_queue ds x) × (unread_by new ≡ unread_by old ++ draft_bytes d)
+  pub none : (x : NaiveEditor) → status ≡ 8 → GoesOn old.client x → x.client.queue ≡ []
+  pub client : 5 ≤ status → new.client ≡ old.client
+  pub unread : 5 ≤ status → unread_by new ≡ unread_by old
+  pub closed : status ≡ 7 → old.client ≡ None
+  pub known : IsTrue (nat_eq status 0 || (nat_eq status 5 || (nat_eq status 7 || nat_eq status 8)))
+
+-- what a number tells of a call for a view: its lines are written; there was no memory, or the client is at its end
+pub record ShowsClient {R : Type 0} (old new : HeldClient R) (status : ℕ) : Type 0 where
+  pub shown : (x : NaiveEditor) → status ≡ 0 → GoesOn old.client x → unread_by new ≡ unread_by old ++ bytes_of (shown_lines x)
+  pub client : new.client ≡ old.client
+  pub unread : 5 ≤ status → unread_by new ≡ unread_by old
+  pub closed : status ≡ 7 → old.client ≡ None
+  pub known : IsTrue (nat_eq status 0 || (nat_eq status 5 || nat_eq status 7))
+
+-- the next bytes were read into the first of the room
+pub record ReadsClient {R : Type 0} (old new : HeldClient R) (room : List ℕ) (count : ℕ) : Type 0 where
+  pub within : count ≤ length room
+  pub whole : count < length room → unread_by new ≡ []
+  pub bytes : take count room ++ unread_by new ≡ unread_by old
+  pub client : new.client ≡ old.client

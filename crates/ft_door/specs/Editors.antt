@@ -1,0 +1,296 @@
+-- One client alone, whose messages go over a network of its own: what each call makes of it.
+use Rattle.std.specs.Prelude.{◌≡◌, ℕ, ◌+◌, ◌*◌, ◌≤◌, ◌^◌, Bool, true, false, cond, not, ◌&&◌, bytes_eq, nat_eq, max, List, [], ◌∷◌, Option, Some, None, option_map, Result, Ok, Err, chars, ⊤, if◌then◌else◌}
+use Rattle.std.specs.Str.{is_utf8}
+use Rattle.serde_json.specs.Written.{compact_text}
+use Rattle.ft_props.specs.Properties.{Characters}
+use Rattle.ft_sumdoc.specs.declared.summary.SumDoc.{SumDoc}
+use Rattle.ft_sumdoc.specs.declared.summary.SumFault.{SumFault}
+use Rattle.ft_sumdoc.specs.Summary.{summary}
+use Rattle.ft_op.specs.declared.operations.ChannelOp.{ChannelOp}
+use Rattle.ft_op.specs.Document.{Document, empty}
+use Rattle.ft_msg.specs.declared.faults.Cause.{Cause}
+use Rattle.ft_msg.specs.declared.faults.Cause.TheVariants.{NotUtf8, UnknownWord}
+use Rattle.ft_msg.specs.declared.faults.EditFault.{EditFault}
+use Rattle.ft_msg.specs.declared.faults.LinkFault.{LinkFault}
+use Rattle.ft_msg.specs.declared.faults.ProcessFault.{ProcessFault}
+use Rattle.ft_msg.specs.declared.faults.ProcessFault.TheVariants.{OutOfOrder}
+use Rattle.ft_msg.specs.declared.messages.Draft.{Draft}
+use Rattle.ft_msg.specs.declared.messages.Entry.{Entry}
+use Rattle.ft_msg.specs.declared.messages.Message.{Message}
+use Rattle.ft_msg.specs.declared.messages.MsgKind.{MsgKind}
+use Rattle.ft_msg.specs.declared.messages.MsgKind.TheVariants.{Join}
+use Rattle.ft_msg.specs.declared.views.Link.{Link}
+use Rattle.ft_msg.specs.declared.views.Link.TheVariants.{Joining, Offline}
+use Rattle.ft_msg.specs.Answers.{FaultKind, ReplicaState, RunsFor, Refusal as OfItsClient, held_in}
+use Rattle.ft_msg.specs.Client.{NaiveClient, client_over, connect, drop_link, local_edit}
+use Rattle.ft_msg.specs.Content.{content}
+use Rattle.ft_msg.specs.MessageGrammar.{message}
+use Rattle.ft_msg.specs.Process.{numbers_fault, process}
+use Rattle.ft_msg.specs.Summary.{doc_of}
+use Rattle.ft_msg.specs.Written.{written_draft}
+use Rattle.ft_seqr.specs.declared.events.Event.{Event}
+use Rattle.ft_seqr.specs.declared.events.Event.TheVariants.{Edit}
+use Rattle.ft_seqr.specs.declared.refusals.Refusal.{Refusal}
+use Rattle.ft_seqr.specs.declared.refusals.Refusal.TheVariants.{AlreadyConnected, Malformed, NotConnected, Summary}
+use Rattle.ft_seqr.specs.EventGrammar.{event}
+use Rattle.ft_seqr.specs.Refusals.{refusal_of_cause, refusal_of_edit, refusal_of_process}
+use Rattle.ft_seqr.specs.SessionReport.{head_line}
+use Rattle.ft_seqr.specs.ViewLines.{content_lines}
+use Rattle.ft_seqr.specs.Walk.{Step, passes, refuses}
+use Rattle.ft_seqr.specs.World.{NamedClient, body_load, op_load}
+use Rattle.ft_laws_sessions.specs.ClientDrafts.{IsMadeAlone}
+use Rattle.ft_replay.specs.LineForm.{bytes_of}
+use Rattle.ft_replay.specs.Observation.{names_with, numbered_entry}
+use Rattle.ft_door.specs.declared.calls.Call.{Call}
+use Rattle.ft_door.specs.declared.calls.Call.TheVariants as call
+use Rattle.ft_door.specs.declared.calls.Told.{Told}
+use Rattle.ft_door.specs.declared.calls.Told.TheVariants.{Full, Refused, Taken}
+
+-- what an editor has: its client; the names of the connections in the messages that it took, by number; the name of its own
+-- connection; whether it waits for the join of that one; and what its steps cost
+pub record NaiveEditor : Type 0 where
+  pub client : NaiveClient
+  pub names : List Characters
+  pub name : Characters
+  pub waits : Bool
+  pub load : ℕ
+
+-- the greatest load
+abbrev pub load_limit : ℕ
+load_limit = 2 ^ 52
+
+-- the name of a connection before the first one: an empty text
+abbrev pub no_name : Characters
+no_name = chars []
+
+-- a new one: an empty document, no connection
+abbrev pub new_editor : NaiveEditor
+new_editor = record { client = client_over empty; names = []; name = no_name; waits = false; load = 0 }
+
+-- ---- edits
+
+-- the operation of an edit
+abbrev pub edited_op : Event → Option ChannelOp
+edited_op (Edit name op) = Some op
+edited_op _ = None
+
+-- an edit of its own
+abbrev pub edit_answer : NaiveEditor → ChannelOp → Result NaiveClient EditFault → Step NaiveEditor
+edit_answer x op (Err fault) = refuses x (refusal_of_edit fault)
+edit_answer x op (Ok y) = passes (record x { client = y; load = x.load + (1 + op_load op) })
+
+abbrev pub edited : NaiveEditor → ChannelOp → Step NaiveEditor
+edited x op = edit_answer x op (local_edit x.client op)
+
+-- a line that is the event of an edit, whoever its client is; no other event is one
+abbrev pub edit_event : NaiveEditor → Option ChannelOp → Step NaiveEditor
+edit_event x None = refuses x (Malformed UnknownWord)
+edit_event x (Some op) = edited x op
+
+abbrev pub edit_reading : NaiveEditor → Result Event Cause → Step NaiveEditor
+edit_reading x (Err cause) = refuses x (refusal_of_cause cause)
+edit_reading x (Ok e) = edit_event x (edited_op e)
+
+abbrev pub edit_line : List ℕ → NaiveEditor → Step NaiveEditor
+edit_line line x = edit_reading x (event line)
+
+-- ---- messages
+
+-- why a message is refused by a client with these numbers, whoever sent it: it isn't the next one, or its other numbers
+-- contradict what is kept
+abbrev pub order_fault : ℕ → ℕ → Message → Option ProcessFault
+order_fault number minimum m =
+    cond (not (nat_eq m.seq (number + 1))) (Some (OutOfOrder (number + 1) m.seq))
+    (numbers_fault (client_over (record empty { number = number; minimum = minimum })) (record { msg = m; origin = 0 }))
+
+-- the message is the join of the connection of this name
+abbrev pub is_sender : Characters → Option Characters → Bool
+is_sender name None = false
+is_sender name (Some other) = bytes_eq name other
+
+abbrev pub is_join : MsgKind → Bool
+is_join Join = true
+is_join _ = false
+
+abbrev pub is_awaited : NaiveEditor → Message → Bool
+is_awaited x m = x.waits && (is_join m.kind && is_sender x.name m.client_id)
+
+-- the client under the number of its connection: numbers go by first appearance in the order, so it isn't known before the join
+abbrev pub or_same : NaiveClient → Result NaiveClient LinkFault → NaiveClient
+or_same x (Ok y) = y
+or_same x (Err fault) = x
+
+abbrev pub joining_as : Bool → ℕ → NaiveClient → NaiveClient
+joining_as joins conn x = cond joins (or_same x (connect x conn)) x
+
+-- the next message of the order, with the number of the connection that sent it
+abbrev pub entry_answer : NaiveEditor → Bool → Entry → Result NaiveClient ProcessFault → Step NaiveEditor
+entry_answer x joins entry (Err fault) = refuses x (refusal_of_process entry.msg.seq fault)
+entry_answer x joins entry (Ok y) = passes (record x { client = y; waits = cond joins false x.waits; load = x.load + (1 + body_load entry.msg.body) })
+
+abbrev pub take_entry : NaiveEditor → Bool → Entry → Step NaiveEditor
+take_entry x joins entry = entry_answer x joins entry (process (joining_as joins entry.origin x.client) entry)
+
+abbrev pub take_next : NaiveEditor → Message → Step NaiveEditor
+take_next x m = take_entry (record x { names = names_with x.names m.client_id }) (is_awaited x m) (numbered_entry x.names m)
+
+-- a message: the next one, or one that isn't
+abbrev pub message_answer : NaiveEditor → Message → Option ProcessFault → Step NaiveEditor
+message_answer x m (Some fault) = refuses x (refusal_of_process m.seq fault)
+message_answer x m None = take_next x m
+
+abbrev pub take_message : NaiveEditor → Message → Step NaiveEditor
+take_message x m = message_answer x m (order_fault x.client.doc.number x.client.doc.minimum m)
+
+-- why it is refused whoever sent it, if it is
+abbrev pub message_refusal : NaiveEditor → Message → Option Refusal
+message_refusal x m = option_map (refusal_of_process m.seq) (order_fault x.client.doc.number x.client.doc.minimum m)
+
+abbrev pub message_reading : NaiveEditor → Result Message Cause → Step NaiveEditor
+message_reading x (Err cause) = refuses x (refusal_of_cause cause)
+message_reading x (Ok m) = take_message x m
+
+abbrev pub process_line : List ℕ → NaiveEditor → Step NaiveEditor
+process_line line x = message_reading x (message line)
+
+-- ---- connections
+
+-- whether it has a connection, or waits for one
+abbrev pub is_offline : Link → Bool
+is_offline Offline = true
+is_offline _ = false
+
+abbrev pub is_free : NaiveEditor → Bool
+is_free x = not x.waits && is_offline x.client.link
+
+-- it waits for the join of the connection of this name
+abbrev pub connect_as : Characters → NaiveEditor → Step NaiveEditor
+connect_as name x = cond (is_free x) (passes (record x { name = name; waits = true })) (refuses x AlreadyConnected)
+
+abbrev pub connect_line : List ℕ → NaiveEditor → Step NaiveEditor
+connect_line line x = if is_utf8 line then connect_as (chars line) x else refuses x (Malformed NotUtf8)
+
+-- its connection is gone, or it waits for none any more
+abbrev pub drop_answer : NaiveEditor → Result NaiveClient LinkFault → Step NaiveEditor
+drop_answer x (Err fault) = refuses x NotConnected
+drop_answer x (Ok y) = passes (record x { client = y; waits = false })
+
+abbrev pub dropped_unless : Bool → NaiveClient → Result NaiveClient LinkFault
+dropped_unless waits x = cond waits (Ok x) (drop_link x)
+
+abbrev pub drop_step : NaiveEditor → Step NaiveEditor
+drop_step x = drop_answer x (dropped_unless x.waits x.client)
+
+-- ---- summaries
+
+-- what the start from a document costs: one for each message, and thrice the most elements in a list
+abbrev pub start_load : Document → ℕ
+start_load doc = max (held_in doc).text (max (held_in doc).rows (held_in doc).cols) * 3 + doc.number
+
+-- one that starts from a summary
+abbrev pub editor_of : SumDoc → NaiveEditor
+editor_of sum = record { client = client_over (doc_of sum); names = sum.conns; name = no_name; waits = false; load = start_load (doc_of sum) }
+
+abbrev pub load_reading : NaiveEditor → Result SumDoc SumFault → Step NaiveEditor
+load_reading x (Err fault) = refuses x (Summary fault)
+load_reading x (Ok sum) = passes (editor_of sum)
+
+abbrev pub load_line : List ℕ → NaiveEditor → Step NaiveEditor
+load_line line x = load_reading x (summary line)
+
+-- ---- each call, with the bytes that are given with it
+
+abbrev pub call_step : Call → List ℕ → NaiveEditor → Step NaiveEditor
+call_step call.Load bytes = load_line bytes
+call_step call.Connect bytes = connect_line bytes
+call_step call.Drop bytes = drop_step
+call_step call.Edit bytes = edit_line bytes
+call_step call.Process bytes = process_line bytes
+
+-- ---- what it shows
+
+-- it is shown as a client of a session of the name of its connection, and as one that joins while it waits
+abbrev pub shown_link : Bool → Link → Link
+shown_link waits link = cond waits (Joining 0) link
+
+abbrev pub as_client : NaiveEditor → NamedClient
+as_client x = record { name = x.name; connects = 0; client = record x.client { link = shown_link x.waits x.client.link } }
+
+-- the lines of its view, as a session's report has them
+abbrev pub shown_lines : NaiveEditor → List (List ℕ)
+shown_lines x = head_line (as_client x) ∷ content_lines (content x.client)
+
+-- ---- what it sends
+
+-- a draft, as it goes over the network: its one written form
+abbrev pub draft_bytes : Draft → List ℕ
+draft_bytes d = bytes_of (compact_text (written_draft d) ∷ [])
+
+-- it has these drafts to send
+abbrev pub with_queue : List Draft → NaiveEditor → NaiveEditor
+with_queue queue x = record x { client = record x.client { queue = queue } }
+
+-- the line of the oldest draft, if there is one
+abbrev pub oldest_bytes : List Draft → Option (List ℕ)
+oldest_bytes [] = None
+oldest_bytes (d ∷ ds) = Some (draft_bytes d)
+
+-- ---- for which it stands
+
+-- an editor over a replica, as contracts see it
+pub record EditorState : Type 0 where
+  pub replica : ReplicaState
+  pub names : List Characters
+  pub name : Characters
+  pub waits : Bool
+  pub load : ℕ
+
+-- its replica runs for the client, which such steps made
+pub record IsEditor (s : EditorState) (x : NaiveEditor) : Type 0 where
+  pub runs : RunsFor s.replica x.client
+  pub made : IsMadeAlone x.load x.client
+  pub low : x.load ≤ load_limit
+  pub names : s.names ≡ x.names
+  pub name : s.name ≡ x.name
+  pub waits : s.waits ≡ x.waits
+  pub load : s.load ≡ x.load
+
+-- the message is the join that it waits for
+abbrev pub is_awaited_by : EditorState → Message → Bool
+is_awaited_by s m = s.waits && (is_join m.kind && is_sender s.name m.client_id)
+
+-- for some
+abbrev pub IsSomeEditor : EditorState → Type 0
+IsSomeEditor s = (x : NaiveEditor) × IsEditor s x
+
+-- what is told of a call that is this step
+abbrev pub TellsStep : Told → EditorState → EditorState → (NaiveEditor → Step NaiveEditor) → Type 0
+TellsStep Taken old new step = (x : NaiveEditor) → IsEditor old x → ((step x).refusal ≡ None) × IsEditor new (step x).made
+TellsStep (Refused why) old new step = (x : NaiveEditor) → IsEditor old x → ((step x).refusal ≡ Some why) × IsEditor new (step x).made
+TellsStep Full old new step = new ≡ old
+
+-- what is told of a step that is refused so, if it is, and the load after it
+abbrev pub told_of : Option Refusal → Told
+told_of None = Taken
+told_of (Some why) = Refused why
+
+abbrev pub load_of : Option Refusal → ℕ → ℕ → ℕ
+load_of None load load_after = load_after
+load_of (Some why) load load_after = load
+
+-- .. and whether it waits after it
+abbrev pub waits_after : Option Refusal → Bool → Bool → Bool
+waits_after None waits joins = cond joins false waits
+waits_after (Some why) waits joins = waits
+
+-- ---- what a replica is given
+
+-- an error says that its client refuses
+abbrev pub IsRefusal : FaultKind → Type 0
+IsRefusal OfItsClient = ⊤
+IsRefusal _ = ⊥
+
+-- what it answers to a step of its client: nothing where that takes it, and why where it refuses
+abbrev pub Gives : {E : Type 0} → (E → Refusal) → ReplicaState → ReplicaState → Result NaiveClient E → Option Refusal → Type 0
+Gives refusal old new step None = (y : NaiveClient) × (step ≡ Ok y) × RunsFor new y
+Gives {E} refusal old new step (Some why) = (fault : E) × (step ≡ Err fault) × (why ≡ refusal fault) × (new ≡ old)

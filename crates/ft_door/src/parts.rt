@@ -1,0 +1,543 @@
+//! What an editor has, and what each call makes of it.
+
+ghost use Rattle.std.specs.Prelude.{◌≡◌, ◌+◌, ◌*◌, ◌-◌, ◌<◌, ◌≤◌, ◌^◌, ◌&&◌, true, not, Some, Ok, IfOk, IfSome, false, chars, drop, length, option_map, slice_get, string_bytes};
+ghost use Rattle.ft_op.specs.WellFormed.{IsWellFormed};
+ghost use Rattle.ft_sumdoc.specs.Valid.{IsValidSummary};
+ghost use Rattle.ft_msg.specs.declared.messages.Draft.{Draft};
+ghost use Rattle.ft_msg.specs.declared.messages.Message.{Message};
+ghost use Rattle.ft_msg.specs.Answers.{RunsFor, numbers_of, view_content};
+ghost use Rattle.ft_msg.specs.Client.{NaiveClient};
+ghost use Rattle.ft_msg.specs.Content.{content};
+ghost use Rattle.ft_msg.specs.Process.{process};
+ghost use Rattle.ft_msg.specs.Reached.{IsReached};
+ghost use Rattle.ft_msg.specs.WellFormed.{HasNumbersInRange, IsWellFormedDraft, IsWellFormedMessage};
+ghost use Rattle.ft_seqr.specs.declared.refusals.Refusal.TheVariants.{NotConnected};
+ghost use Rattle.ft_seqr.specs.Refusals.{refusal_of_process};
+ghost use Rattle.ft_seqr.specs.WellFormedEvent.{IsWellFormedEvent};
+ghost use Rattle.ft_seqr.specs.World.{body_load, op_load};
+ghost use Rattle.ft_replay.specs.LineForm.{bytes_of};
+ghost use Rattle.ft_replay.specs.Observation.{names_with, numbered_entry};
+ghost use Rattle.ft_door.specs.Editors.{EditorState, Gives, IsEditor, NaiveEditor, TellsStep, call_step, connect_as, connect_line, draft_bytes, drop_step, dropped_unless, edit_event, edit_line, edited, edited_op, editor_of, is_awaited_by, is_join, is_offline, is_sender, joining_as, load_limit, load_line, load_of, load_reading, message_refusal, new_editor, no_name, oldest_bytes, process_line, shown_lines, shown_link, take_message, take_next, told_of, waits_after, with_queue};
+
+use crate::calls::{Call, Told};
+use crate::giving::{begin_join, give_edit, give_entry, lose_link, order_fault};
+use ft_base::{Datum, OutOfMemory, Text};
+use ft_laws_sessions::formed::reads_are_well_formed;
+use ft_msg::{
+    Body, Cause, Draft, Entry, Link, Message, MsgKind, Names, Numbers, ProcessFault, Replica, View,
+    ViewFault, read_message, write_draft,
+};
+use ft_op::ChannelOp;
+use ft_replay::{client_text, number_sender, table_of};
+use ft_seqr::{Event, Refusal, read_event};
+use ft_session::{body_load, op_load};
+use ft_sumdoc::{SumDoc, SumFault, read_summary};
+use std::alloc::Global;
+use std::marker::Model;
+
+// How many names there may be before the next message: a number has 32 bits.
+const NAME_LIMIT: u64 = 4_294_967_295;
+
+// The greatest load of an editor.
+const LOAD_LIMIT: u64 = 1 << 52;
+
+/// What an editor has: a replica, and what is known of connections. Nothing is said of it once a call found no memory.
+///
+/// The number of a connection goes by its first appearance in the order, so it isn't known before its join comes. Until then the
+/// replica is offline, where it takes messages and edits as one that is joining does.
+#[derive(Drop)]
+pub struct Parts<R: Replica> {
+    alloc: Global,
+    replica: R,
+    /// The names of the connections in the messages that it took.
+    names: Names,
+    /// The name of its connection, the last one if it has none; empty before the first.
+    name: Text,
+    /// Whether it waits for the join of that one.
+    waits: bool,
+    /// What its steps cost: one each, and one for each sub-operation and each inserted element.
+    load: u64,
+}
+
+impl<R: Replica> Model for Parts<R> {
+    ghost use Rattle.ft_door.specs.Editors.{EditorState};
+
+    ghost Value = { EditorState };
+
+    ghost view = { λ a. record { replica = R.state a.replica; names = a.names; name = a.name; waits = a.waits; load = a.load } };
+}
+
+impl<R: Replica + Drop> Parts<R> {
+    /// Those of a new editor: an empty document, no connection.
+    ///
+    /// Returns `OutOfMemory` where there is no room for them.
+    pub fn new(alloc: Global) -> Result<Parts<R>, OutOfMemory>
+        ensures { IfOk result (λ a. IsEditor a new_editor) }
+    {
+        let name = Text::new(alloc, "")?;
+        let replica = R::start(alloc)?;
+        let names = Names::new(alloc);
+        Ok(Parts {
+            alloc,
+            replica,
+            names,
+            name,
+            waits: false,
+            load: 0,
+        })
+    }
+
+    /// Takes a call, with the bytes that are given with it.
+    ///
+    /// Returns `OutOfMemory` where there is no room for what the call makes.
+    pub fn take(&mut self, call: Call, bytes: &[u8]) -> Result<Told, OutOfMemory>
+        ensures { IfOk result (λ told. TellsStep told self.old self.new (call_step call bytes.now)) }
+    {
+        match call {
+            Call::Load => self.load(bytes),
+            Call::Connect => self.connect(bytes),
+            Call::Drop => self.drop_link(),
+            Call::Edit => self.edit(bytes),
+            Call::Process => self.process(bytes),
+        }
+    }
+
+    /// The line of the oldest draft that isn't sent, if there is one, with its LF.
+    ///
+    /// Returns `OutOfMemory` where there is no room for the line.
+    pub fn draft(&self) -> Result<Option<String>, OutOfMemory>
+        requires { (d : Draft) → Some d ≡ slice_get self.now.replica.client.queue 0 → IsWellFormedDraft d }
+        ensures { (x : NaiveEditor) → IsEditor self.now x
+            → IfOk result (λ line. option_map (λ text. string_bytes text) line ≡ oldest_bytes x.client.queue) }
+    {
+        match self.replica.queue_at(0) {
+            None => Ok(None),
+            Some(draft) => some_line(self.alloc, draft),
+        }
+    }
+
+    /// The oldest draft counts as sent.
+    pub fn sent(&mut self)
+        ensures { (x : NaiveEditor) → IsEditor self.old x → IsEditor self.new (with_queue (drop 1 x.client.queue) x) }
+    {
+        drop(self.replica.take_outgoing());
+    }
+
+    /// The lines of what is shown, each with its LF.
+    ///
+    /// Returns `OutOfMemory` where there is no room for them.
+    pub fn view_text(&self) -> Result<String, OutOfMemory>
+        ensures { (x : NaiveEditor) → IsEditor self.now x
+            → IfOk result (λ text. string_bytes text ≡ bytes_of (shown_lines x)) }
+    {
+        match self.replica.view() {
+            Ok(view) => self.text_of(view),
+            Err(ViewFault::OutOfMemory | ViewFault::Stopped { .. }) => Err(OutOfMemory),
+        }
+    }
+
+    // Takes an edit of its own.
+    fn edit(&mut self, line: &[u8]) -> Result<Told, OutOfMemory>
+        ensures { IfOk result (λ told. TellsStep told self.old self.new (edit_line line.now)) }
+    {
+        match read_event(self.alloc, line) {
+            Ok(event) => {
+                reads_are_well_formed();
+                self.take_event(event)
+            }
+            Err(Refusal::OutOfMemory) => Err(OutOfMemory),
+            Err(refusal) => Ok(Told::Refused(refusal)),
+        }
+    }
+
+    // Takes an event, which is to be an edit.
+    fn take_event(&mut self, event: Event) -> Result<Told, OutOfMemory>
+        requires { IsWellFormedEvent event }
+        ensures { IfOk result (λ told. TellsStep told self.old self.new (λ x. edit_event x (edited_op event))) }
+    {
+        match edited_op(event) {
+            Some(op) => self.take_edit(&op),
+            None => Ok(Told::Refused(Refusal::Malformed(Cause::UnknownWord))),
+        }
+    }
+
+    // Takes an edit.
+    fn take_edit(&mut self, op: &ChannelOp) -> Result<Told, OutOfMemory>
+        requires { IsWellFormed op.now }
+        ensures { IfOk result (λ told. TellsStep told self.old self.new (λ x. edited x op.now)) }
+    {
+        let Some(load) = load_with(self.load, op_load(op)?) else {
+            return Ok(Told::Full);
+        };
+        self.edit_at(op, load)
+    }
+
+    // Takes an edit, with which the load is this.
+    fn edit_at(&mut self, op: &ChannelOp, load: u64) -> Result<Told, OutOfMemory>
+        requires formed { IsWellFormed op.now }
+        requires sum { load ≡ self.old.load + (1 + op_load op.now) }
+        requires low { load ≤ load_limit }
+        ensures { IfOk result (λ told. TellsStep told self.old self.new (λ x. edited x op.now)) }
+    {
+        let refusal = give_edit(&mut self.replica, op)?;
+        self.load = load_of(refusal, self.load, load);
+        Ok(told_of(refusal))
+    }
+
+    // Takes the next message of the order.
+    fn process(&mut self, line: &[u8]) -> Result<Told, OutOfMemory>
+        ensures { IfOk result (λ told. TellsStep told self.old self.new (process_line line.now)) }
+    {
+        match read_message(self.alloc, line) {
+            Ok(msg) => self.take_message(msg),
+            Err(Cause::OutOfMemory) => Err(OutOfMemory),
+            Err(cause) => Ok(Told::Refused(Refusal::of_cause(cause))),
+        }
+    }
+
+    // Takes a message.
+    fn take_message(&mut self, msg: Message) -> Result<Told, OutOfMemory>
+        requires formed { IsWellFormedMessage msg }
+        requires in_range { HasNumbersInRange msg }
+        ensures { IfOk result (λ told. TellsStep told self.old self.new (λ x. take_message x msg)) }
+    {
+        let refusal = self.order_refusal(&msg)?;
+        match refusal {
+            None => self.take_next(msg),
+            Some(why) => Ok(Told::Refused(why)),
+        }
+    }
+
+    // Why the message is refused whoever sent it, if it is.
+    fn order_refusal(&self, msg: &Message) -> Result<Option<Refusal>, OutOfMemory>
+        requires { HasNumbersInRange msg.now }
+        ensures { (x : NaiveEditor) → IsEditor self.now x → IfOk result (λ why. why ≡ message_refusal x msg.now) }
+    {
+        let numbers = self.replica.numbers();
+        let fault = order_fault(numbers.seq, numbers.min, msg)?;
+        Ok(fault_refusal(msg.seq, fault))
+    }
+
+    // Takes the next message.
+    fn take_next(&mut self, msg: Message) -> Result<Told, OutOfMemory>
+        requires { IsWellFormedMessage msg }
+        ensures { IfOk result (λ told. TellsStep told self.old self.new (λ x. take_next x msg)) }
+    {
+        let found = self.load_after(&msg.body)?;
+        match found {
+            Some(load) => self.take_at(msg, load),
+            None => Ok(Told::Full),
+        }
+    }
+
+    // The load after a message with this body, if it may be so great and there may be a name more.
+    fn load_after(&self, body: &Body) -> Result<Option<u64>, OutOfMemory>
+        ensures load { IfOk result (λ found. IfSome found (λ load. (load ≡ self.now.load + (1 + body_load body.now)) × (load ≤ load_limit))) }
+        ensures room { IfOk result (λ found. IfSome found (λ load. length self.now.names < 2 ^ 32 - 1)) }
+    {
+        if self.names.len() as u64 >= NAME_LIMIT {
+            return Ok(None);
+        }
+        Ok(load_with(self.load, body_load(body)?))
+    }
+
+    // Takes the next message, with which the load is this.
+    fn take_at(&mut self, msg: Message, load: u64) -> Result<Told, OutOfMemory>
+        requires formed { IsWellFormedMessage msg }
+        requires room { length self.old.names < 2 ^ 32 - 1 }
+        requires sum { load ≡ self.old.load + (1 + body_load msg.body) }
+        requires low { load ≤ load_limit }
+        ensures { IfOk result (λ told. TellsStep told self.old self.new (λ x. take_next x msg)) }
+    {
+        let joins = is_awaited(self.waits, &msg, &self.name);
+        let entry = number_sender(&mut self.names, msg)?;
+        self.take_entry(&entry, joins, load)
+    }
+
+    // Takes an entry whose sender has its number, and which is the join that it waits for, or isn't.
+    fn take_entry(&mut self, entry: &Entry, joins: bool, load: u64) -> Result<Told, OutOfMemory>
+        requires formed { IsWellFormedMessage entry.now.msg }
+        requires low { load ≤ load_limit }
+        ensures { (s : EditorState) (m : Message) → entry.now ≡ numbered_entry s.names m → self.old ≡ record s { names = names_with s.names m.client_id }
+            → joins ≡ is_awaited_by s m → load ≡ s.load + (1 + body_load m.body)
+            → IfOk result (λ told. TellsStep told s self.new (λ x. take_next x m)) }
+    {
+        let refusal = receive(&mut self.replica, joins, entry)?;
+        self.waits = waits_after(refusal, self.waits, joins);
+        self.load = load_of(refusal, self.load, load);
+        Ok(told_of(refusal))
+    }
+
+    // Waits for the join of the connection whose name these bytes are.
+    fn connect(&mut self, line: &[u8]) -> Result<Told, OutOfMemory>
+        ensures { IfOk result (λ told. TellsStep told self.old self.new (connect_line line.now)) }
+    {
+        let Ok(name) = str::from_utf8(line) else {
+            return Ok(Told::Refused(Refusal::Malformed(Cause::NotUtf8)));
+        };
+        self.connect_as(name)
+    }
+
+    // Waits for the join of the connection of this name.
+    fn connect_as(&mut self, name: &str) -> Result<Told, OutOfMemory>
+        ensures { IfOk result (λ told. TellsStep told self.old self.new (connect_as (chars name.now))) }
+    {
+        if is_free(self.waits, self.replica.numbers().link) {
+            self.wait_as(name)
+        } else {
+            Ok(Told::Refused(Refusal::AlreadyConnected))
+        }
+    }
+
+    // Waits for the join of the connection of this name, where it has none and waits for none.
+    fn wait_as(&mut self, text: &str) -> Result<Told, OutOfMemory>
+        requires { not self.old.waits && is_offline self.old.replica.client.link ≡ true }
+        ensures { IfOk result (λ told. TellsStep told self.old self.new (connect_as (chars text.now))) }
+    {
+        let name = Text::new(self.alloc, text)?;
+        self.name = name;
+        self.waits = true;
+        Ok(Told::Taken)
+    }
+
+    // Is without a connection, or waits for none any more.
+    fn drop_link(&mut self) -> Result<Told, OutOfMemory>
+        ensures { IfOk result (λ told. TellsStep told self.old self.new drop_step) }
+    {
+        let refusal = drop_unless(&mut self.replica, self.waits)?;
+        self.waits = false;
+        Ok(told_of(refusal))
+    }
+
+    // Starts anew, from the summary that these bytes are.
+    fn load(&mut self, line: &[u8]) -> Result<Told, OutOfMemory>
+        ensures { IfOk result (λ told. TellsStep told self.old self.new (load_line line.now)) }
+    {
+        match read_summary(self.alloc, line) {
+            Ok(sum) => self.start_from(&sum),
+            Err(SumFault::OutOfMemory) => Err(OutOfMemory),
+            Err(fault) => Ok(Told::Refused(Refusal::Summary(fault))),
+        }
+    }
+
+    // Starts anew, from the summary, where the load isn't too great.
+    fn start_from(&mut self, sum: &SumDoc) -> Result<Told, OutOfMemory>
+        requires valid { IsValidSummary sum.now }
+        requires few { length sum.now.conns < 2 ^ 32 }
+        ensures { IfOk result (λ told. TellsStep told self.old self.new (λ x. load_reading x (Ok sum.now))) }
+    {
+        let replica = R::from_summary(self.alloc, sum)?;
+        match start_load(replica.numbers()) {
+            Some(load) => self.begin(sum, replica, load),
+            None => Ok(Told::Full),
+        }
+    }
+
+    // Starts anew, with this replica over the document of the summary.
+    fn begin(&mut self, sum: &SumDoc, replica: R, load: u64) -> Result<Told, OutOfMemory>
+        requires valid { IsValidSummary sum.now }
+        requires few { length sum.now.conns < 2 ^ 32 }
+        ensures { (IsEditor (record { replica = R.state replica; names = sum.now.conns; name = no_name; waits = false; load = load }) (editor_of sum.now))
+            → IfOk result (λ told. TellsStep told self.old self.new (λ x. load_reading x (Ok sum.now))) }
+    {
+        let alloc = self.alloc;
+        let names = table_of(alloc, &sum.conns)?;
+        let name = Text::new(alloc, "")?;
+        *self = Parts {
+            alloc,
+            replica,
+            names,
+            name,
+            waits: false,
+            load,
+        };
+        Ok(Told::Taken)
+    }
+
+    // The lines of this view of its replica, each with its LF.
+    fn text_of(&self, view: View) -> Result<String, OutOfMemory>
+        ensures { (x : NaiveEditor) → IsEditor self.now x → view.numbers ≡ numbers_of self.now.replica → view_content view ≡ content x.client
+            → IfOk result (λ text. string_bytes text ≡ bytes_of (shown_lines x)) }
+    {
+        let mut view = view;
+        let link = shown_link(self.waits, view.numbers.link);
+        view.numbers.link = link;
+        client_text(self.alloc, &self.name, &view)
+    }
+}
+
+// The refusal of the message with this number, if there is a fault.
+fn fault_refusal(number: u64, fault: Option<ProcessFault>) -> Option<Refusal>
+    ensures { result ≡ option_map (refusal_of_process number) fault }
+{
+    match fault {
+        None => None,
+        Some(fault) => Some(Refusal::of_process(number, fault)),
+    }
+}
+
+// Gives the replica the next message, before which it begins to join under the number of its sender, where it
+// joins.
+fn receive<R: Replica>(
+    replica: &mut R,
+    joins: bool,
+    entry: &Entry,
+) -> Result<Option<Refusal>, OutOfMemory>
+    requires { IsWellFormedMessage entry.now.msg }
+    ensures { (x : NaiveClient) → IsReached x → RunsFor (R.state replica.old) x
+        → IfOk result (Gives (refusal_of_process entry.now.msg.seq) (R.state replica.old) (R.state replica.new) (process (joining_as joins entry.now.origin x) entry.now)) }
+{
+    if joins {
+        take_join(replica, entry)
+    } else {
+        give_entry(replica, entry)
+    }
+}
+
+// Gives the replica its join, before which it begins to join under the number of its sender.
+//
+// Returns `OutOfMemory` where there was no memory. A join that is the next message isn't refused.
+fn take_join<R: Replica>(replica: &mut R, entry: &Entry) -> Result<Option<Refusal>, OutOfMemory>
+    requires { IsWellFormedMessage entry.now.msg }
+    ensures { (x : NaiveClient) → IsReached x → RunsFor (R.state replica.old) x
+        → IfOk result (Gives (refusal_of_process entry.now.msg.seq) (R.state replica.old) (R.state replica.new) (process (joining_as true entry.now.origin x) entry.now)) }
+{
+    begin_join(replica, entry.origin)?;
+    let refusal = give_entry(replica, entry)?;
+    match refusal {
+        None => Ok(None),
+        Some(_) => Err(OutOfMemory),
+    }
+}
+
+// The replica loses its connection, unless it only waits for one. Returns why that is refused, if it is.
+fn drop_unless<R: Replica>(replica: &mut R, waits: bool) -> Result<Option<Refusal>, OutOfMemory>
+    ensures { (x : NaiveClient) → IsReached x → RunsFor (R.state replica.old) x
+        → IfOk result (Gives (λ _. NotConnected) (R.state replica.old) (R.state replica.new) (dropped_unless waits x)) }
+{
+    if waits { Ok(None) } else { lose_link(replica) }
+}
+
+// What is told of a step that is refused so, if it is.
+fn told_of(refusal: Option<Refusal>) -> Told
+    ensures { result ≡ told_of refusal }
+{
+    match refusal {
+        None => Told::Taken,
+        Some(why) => Told::Refused(why),
+    }
+}
+
+// The load after a step that is refused so, if it is.
+fn load_of(refusal: Option<Refusal>, load: u64, load_after: u64) -> u64
+    ensures { result ≡ load_of refusal load load_after }
+{
+    if refusal.is_none() { load_after } else { load }
+}
+
+// Whether it waits after a step that is refused so, if it is, and is its join or isn't.
+fn waits_after(refusal: Option<Refusal>, waits: bool, joins: bool) -> bool
+    ensures { result ≡ waits_after refusal waits joins }
+{
+    waits && (refusal.is_some() || !joins)
+}
+
+// The operation of the event, if it is an edit.
+fn edited_op(event: Event) -> Option<ChannelOp>
+    ensures { result ≡ edited_op event }
+{
+    if let Event::Edit { op, .. } = event {
+        Some(op)
+    } else {
+        None
+    }
+}
+
+// The load after a step that costs one and so much more, if it may be so great.
+fn load_with(load: u64, more: u64) -> Option<u64>
+    ensures { IfSome result (λ sum. (sum ≡ load + (1 + more)) × (sum ≤ load_limit)) }
+{
+    let cost = more.checked_add(1)?;
+    let sum = load.checked_add(cost)?;
+    if sum <= LOAD_LIMIT { Some(sum) } else { None }
+}
+
+// The load of the start from a document with these numbers, if it may be so great.
+fn start_load(numbers: Numbers) -> Option<u64>
+    ensures { IfSome result (λ sum. (sum ≡ numbers.made * 3 + numbers.seq) × (sum ≤ load_limit)) }
+{
+    let most = numbers.made.checked_mul(3)?;
+    let sum = most.checked_add(numbers.seq)?;
+    if sum <= LOAD_LIMIT { Some(sum) } else { None }
+}
+
+// Whether the message is the join that is waited for.
+fn is_awaited(waits: bool, msg: &Message, name: &Text) -> bool
+    ensures { result ≡ (waits && (is_join msg.now.kind && is_sender name.now msg.now.client_id)) }
+{
+    waits && is_join_of(msg, name)
+}
+
+// Whether the message is the join of the connection of this name.
+fn is_join_of(msg: &Message, name: &Text) -> bool
+    ensures { result ≡ (is_join msg.now.kind && is_sender name.now msg.now.client_id) }
+{
+    matches!(msg.kind, MsgKind::Join) && is_sender(name, &msg.client_id)
+}
+
+// Whether the connection of this name sent it.
+fn is_sender(name: &Text, sender: &Option<Text>) -> bool
+    ensures { result ≡ is_sender name.now sender.now }
+{
+    match sender {
+        None => false,
+        Some(other) => name.same(other),
+    }
+}
+
+// Whether there is no connection, and none is waited for.
+fn is_free(waits: bool, link: Link) -> bool
+    ensures { result ≡ (not waits && is_offline link) }
+{
+    !waits && is_offline(link)
+}
+
+// Whether there is no connection.
+fn is_offline(link: Link) -> bool
+    ensures { result ≡ is_offline link }
+{
+    match link {
+        Link::Offline => true,
+        Link::Joining { .. } | Link::Online { .. } => false,
+    }
+}
+
+// The link that is shown of an editor that waits or doesn't.
+fn shown_link(waits: bool, link: Link) -> Link
+    ensures { result ≡ shown_link waits link }
+{
+    if waits {
+        Link::Joining { conn: 0 }
+    } else {
+        link
+    }
+}
+
+// The line of a draft, which there is, with its LF.
+fn some_line(alloc: Global, draft: &Draft) -> Result<Option<String>, OutOfMemory>
+    requires { IsWellFormedDraft draft.now }
+    ensures { IfOk result (λ line. option_map (λ text. string_bytes text) line ≡ Some (draft_bytes draft.now)) }
+{
+    let line = draft_line(alloc, draft)?;
+    Ok(Some(line))
+}
+
+// The line of a draft, with its LF.
+fn draft_line(alloc: Global, draft: &Draft) -> Result<String, OutOfMemory>
+    requires { IsWellFormedDraft draft.now }
+    ensures { IfOk result (λ line. string_bytes line ≡ draft_bytes draft.now) }
+{
+    let text = write_draft(alloc, draft)?;
+    let line = text.as_str();
+    Ok(format!(in alloc; "{line}\n")?)
+}
