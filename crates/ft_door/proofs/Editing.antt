@@ -42,7 +42,7 @@ use Rattle.ft_replay.specs.Observation.{names_with, numbered_entry}
 use Rattle.ft_session.specs.Outputs.{IsViewOf}
 use Rattle.ft_door.specs.declared.calls.Told.{Told}
 use Rattle.ft_door.specs.declared.calls.Told.TheVariants.{Full, Refused, Taken}
-use Rattle.ft_door.specs.Editors.{EditorState, Gives, IsEditor, IsSomeEditor, NaiveEditor, TellsStep, as_client, connect_as, connect_line, drop_answer, drop_step, dropped_unless, edit_answer, edited, editor_of, entry_answer, is_awaited, is_free, is_join, is_offline, is_sender, joining_as, load_limit, load_of, message_answer, new_editor, no_name, oldest_bytes, or_same, order_fault, shown_link, start_load, take_entry, is_awaited_by, message_refusal, take_message, take_next, told_of, waits_after, draft_bytes}
+use Rattle.ft_door.specs.Editors.{EditorState, AnswersStep, IsEditor, IsSomeEditor, NaiveEditor, TellsStep, as_client, connect_as, connect_line, drop_answer, drop_step, dropped_unless, edit_answer, edited, editor_of, entry_answer, is_awaited, is_free, is_join, is_offline, is_sender, joining_as, load_limit, load_of, message_answer, new_editor, no_name, oldest_bytes, or_same, order_fault, shown_link, start_load, take_entry, is_awaited_by, message_refusal, take_message, take_next, told_of, waits_after, draft_bytes}
 use Rattle.ft_door.specs.Editors as editors
 use Rattle.ft_door.proofs.GivenSteps.{runs-queued}
 
@@ -98,7 +98,7 @@ editor-as s t x is h = subst (λ (o : EditorState). IsEditor o x) (sym is) h
 
 module _ (s : EditorState) (r : ReplicaState) (op : ChannelOp) (after : ℕ) (formed : IsWellFormed op) (sum : after ≡ s.load + (1 + op_load op)) (low : after ≤ load_limit) where
   pub edit-told : (refusal : Option Refusal)
-      → ((x : NaiveClient) → IsReached x → RunsFor s.replica x → Gives refusal_of_edit s.replica r (local_edit x op) refusal)
+      → ((x : NaiveClient) → IsReached x → RunsFor s.replica x → AnswersStep refusal_of_edit s.replica r (local_edit x op) refusal)
       → TellsStep (told_of refusal) s (record s { replica = r; load = load_of refusal s.load after }) (λ x. edited x op)
   edit-told None give = λ x h.
       let (y, e, runs) = give x.client (editor-reached s x h) h.runs in
@@ -150,7 +150,7 @@ module _ (s : EditorState) (names : List Characters) (r : ReplicaState) (m : Mes
 
   entry-at : (refusal : Option Refusal)
       → ((x : NaiveClient) → IsReached x → RunsFor s.replica x
-      → Gives (refusal_of_process m.seq) s.replica r (process (joining_as joins (entry_of s).origin x) (entry_of s)) refusal)
+      → AnswersStep (refusal_of_process m.seq) s.replica r (process (joining_as joins (entry_of s).origin x) (entry_of s)) refusal)
       → TellsStep (told_of refusal) s (state_after refusal) step_at
   entry-at None give = λ x h.
       let (y, e, runs) = give x.client (editor-reached s x h) h.runs in
@@ -195,7 +195,7 @@ module _ (s : EditorState) (names : List Characters) (r : ReplicaState) (m : Mes
 
   pub entry-told : joins ≡ (s.waits && (is_join m.kind && is_sender s.name m.client_id)) → (refusal : Option Refusal)
       → ((x : NaiveClient) → IsReached x → RunsFor s.replica x
-      → Gives (refusal_of_process m.seq) s.replica r (process (joining_as joins (entry_of s).origin x) (entry_of s)) refusal)
+      → AnswersStep (refusal_of_process m.seq) s.replica r (process (joining_as joins (entry_of s).origin x) (entry_of s)) refusal)
       → TellsStep (told_of refusal) s (state_after refusal) (λ x. take_next x m)
   entry-told is refusal give =
       step-same (told_of refusal) s (state_after refusal) step_at (λ x. take_next x m)
@@ -205,7 +205,7 @@ module _ (s : EditorState) (names : List Characters) (r : ReplicaState) (m : Mes
 
 abbrev GivesEntry : ReplicaState → ReplicaState → Bool → Option Refusal → Entry → Type 0
 GivesEntry old new joins refusal entry =
-    (x : NaiveClient) → IsReached x → RunsFor old x → Gives (refusal_of_process entry.msg.seq) old new (process (joining_as joins entry.origin x) entry) refusal
+    (x : NaiveClient) → IsReached x → RunsFor old x → AnswersStep (refusal_of_process entry.msg.seq) old new (process (joining_as joins entry.origin x) entry) refusal
 
 -- .. from the names with its sender on
 pub entry-taken : (s old : EditorState) (r : ReplicaState) (m : Message) (entry : Entry) (joins : Bool) (after : ℕ) (refusal : Option Refusal) → IsWellFormedMessage entry.msg
@@ -288,7 +288,7 @@ refused-waits true x fault e = absurd (cc)
 refused-waits false x fault e = refl
 
 pub drop-told : (s : EditorState) (r : ReplicaState) (refusal : Option Refusal)
-    → ((x : NaiveClient) → IsReached x → RunsFor s.replica x → Gives (λ (fault : LinkFault). NotConnected) s.replica r (dropped_unless s.waits x) refusal)
+    → ((x : NaiveClient) → IsReached x → RunsFor s.replica x → AnswersStep (λ (fault : LinkFault). NotConnected) s.replica r (dropped_unless s.waits x) refusal)
     → TellsStep (told_of refusal) s (record s { replica = r; waits = false }) drop_step
 drop-told s r None give = λ x h.
     let (y, e, runs) = give x.client (editor-reached s x h) h.runs in

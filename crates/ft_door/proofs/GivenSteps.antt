@@ -9,11 +9,11 @@ use Rattle.ft_msg.specs.Indexed.{IndexedClient}
 use Rattle.ft_msg.specs.Reached.{IsReached}
 use Rattle.ft_msg.proofs.ReachedSteps.{reached-connect}
 use Rattle.ft_seqr.specs.declared.refusals.Refusal.{Refusal}
-use Rattle.ft_door.specs.Editors.{Gives, joining_as, or_same}
+use Rattle.ft_door.specs.Editors.{AnswersStep, joining_as, or_same}
 
 -- it takes the step
 pub given-taken : {E : Type 0} (kind : E → FaultKind) (sender : ℕ) (step : NaiveClient → Result NaiveClient E) (refusal : E → Refusal) (old new : ReplicaState)
-    → Answers kind sender step old new (Ok tt) → (x : NaiveClient) → IsReached x → RunsFor old x → Gives refusal old new (step x) None
+    → Answers kind sender step old new (Ok tt) → (x : NaiveClient) → IsReached x → RunsFor old x → AnswersStep refusal old new (step x) None
 given-taken kind sender step refusal old new a x reached h =
     let (y, e, f) = a.client x reached h.client in (y, e, record { running = a.state.runs; client = f.client })
 

@@ -291,6 +291,6 @@ IsRefusal OfItsClient = ⊤
 IsRefusal _ = ⊥
 
 -- what it answers to a step of its client: nothing where that takes it, and why where it refuses
-abbrev pub Gives : {E : Type 0} → (E → Refusal) → ReplicaState → ReplicaState → Result NaiveClient E → Option Refusal → Type 0
-Gives refusal old new step None = (y : NaiveClient) × (step ≡ Ok y) × RunsFor new y
-Gives {E} refusal old new step (Some why) = (fault : E) × (step ≡ Err fault) × (why ≡ refusal fault) × (new ≡ old)
+abbrev pub AnswersStep : {E : Type 0} → (E → Refusal) → ReplicaState → ReplicaState → Result NaiveClient E → Option Refusal → Type 0
+AnswersStep refusal old new step None = (y : NaiveClient) × (step ≡ Ok y) × RunsFor new y
+AnswersStep {E} refusal old new step (Some why) = (fault : E) × (step ≡ Err fault) × (why ≡ refusal fault) × (new ≡ old)

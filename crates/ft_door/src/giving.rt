@@ -12,7 +12,7 @@ ghost use Rattle.ft_msg.specs.Reached.{IsReached};
 ghost use Rattle.ft_msg.specs.WellFormed.{HasNumbersInRange, IsWellFormedMessage};
 ghost use Rattle.ft_seqr.specs.declared.refusals.Refusal.TheVariants.{NotConnected};
 ghost use Rattle.ft_seqr.specs.Refusals.{refusal_of_edit, refusal_of_process};
-ghost use Rattle.ft_door.specs.Editors.{Gives, IsRefusal, joining_as, order_fault};
+ghost use Rattle.ft_door.specs.Editors.{AnswersStep, IsRefusal, joining_as, order_fault};
 
 use ft_base::OutOfMemory;
 use ft_json::Field;
@@ -29,7 +29,7 @@ pub fn give_edit<R: Replica>(
 ) -> Result<Option<Refusal>, OutOfMemory>
     requires { IsWellFormed op.now }
     ensures { (x : NaiveClient) → IsReached x → RunsFor (R.state replica.old) x
-        → IfOk result (Gives refusal_of_edit (R.state replica.old) (R.state replica.new) (local_edit x op.now)) }
+        → IfOk result (AnswersStep refusal_of_edit (R.state replica.old) (R.state replica.new) (local_edit x op.now)) }
 {
     match replica.edit(op) {
         Ok(()) => Ok(None),
@@ -49,7 +49,7 @@ pub fn give_entry<R: Replica>(
 ) -> Result<Option<Refusal>, OutOfMemory>
     requires { IsWellFormedMessage entry.now.msg }
     ensures { (x : NaiveClient) → IsReached x → RunsFor (R.state replica.old) x
-        → IfOk result (Gives (refusal_of_process entry.now.msg.seq) (R.state replica.old) (R.state replica.new) (process x entry.now)) }
+        → IfOk result (AnswersStep (refusal_of_process entry.now.msg.seq) (R.state replica.old) (R.state replica.new) (process x entry.now)) }
 {
     match replica.process(entry) {
         Ok(()) => Ok(None),
@@ -78,7 +78,7 @@ pub fn begin_join<R: Replica>(replica: &mut R, conn: u32) -> Result<(), OutOfMem
 /// Returns `OutOfMemory` where it had stopped before.
 pub fn lose_link<R: Replica>(replica: &mut R) -> Result<Option<Refusal>, OutOfMemory>
     ensures { (x : NaiveClient) → IsReached x → RunsFor (R.state replica.old) x
-        → IfOk result (Gives (λ _. NotConnected) (R.state replica.old) (R.state replica.new) (drop_link x)) }
+        → IfOk result (AnswersStep (λ _. NotConnected) (R.state replica.old) (R.state replica.new) (drop_link x)) }
 {
     match replica.drop_link() {
         Ok(()) => Ok(None),

@@ -17,7 +17,7 @@ ghost use Rattle.ft_seqr.specs.WellFormedEvent.{IsWellFormedEvent};
 ghost use Rattle.ft_seqr.specs.World.{body_load, op_load};
 ghost use Rattle.ft_replay.specs.LineForm.{bytes_of};
 ghost use Rattle.ft_replay.specs.Observation.{names_with, numbered_entry};
-ghost use Rattle.ft_door.specs.Editors.{EditorState, Gives, IsEditor, NaiveEditor, TellsStep, call_step, connect_as, connect_line, draft_bytes, drop_step, dropped_unless, edit_event, edit_line, edited, edited_op, editor_of, is_awaited_by, is_join, is_offline, is_sender, joining_as, load_limit, load_line, load_of, load_reading, message_refusal, new_editor, no_name, oldest_bytes, process_line, shown_lines, shown_link, take_message, take_next, told_of, waits_after, with_queue};
+ghost use Rattle.ft_door.specs.Editors.{EditorState, AnswersStep, IsEditor, NaiveEditor, TellsStep, call_step, connect_as, connect_line, draft_bytes, drop_step, dropped_unless, edit_event, edit_line, edited, edited_op, editor_of, is_awaited_by, is_join, is_offline, is_sender, joining_as, load_limit, load_line, load_of, load_reading, message_refusal, new_editor, no_name, oldest_bytes, process_line, shown_lines, shown_link, take_message, take_next, told_of, waits_after, with_queue};
 
 use crate::calls::{Call, Told};
 use crate::giving::{begin_join, give_edit, give_entry, lose_link, order_fault};
@@ -385,7 +385,7 @@ fn receive<R: Replica>(
 ) -> Result<Option<Refusal>, OutOfMemory>
     requires { IsWellFormedMessage entry.now.msg }
     ensures { (x : NaiveClient) → IsReached x → RunsFor (R.state replica.old) x
-        → IfOk result (Gives (refusal_of_process entry.now.msg.seq) (R.state replica.old) (R.state replica.new) (process (joining_as joins entry.now.origin x) entry.now)) }
+        → IfOk result (AnswersStep (refusal_of_process entry.now.msg.seq) (R.state replica.old) (R.state replica.new) (process (joining_as joins entry.now.origin x) entry.now)) }
 {
     if joins {
         take_join(replica, entry)
@@ -400,7 +400,7 @@ fn receive<R: Replica>(
 fn take_join<R: Replica>(replica: &mut R, entry: &Entry) -> Result<Option<Refusal>, OutOfMemory>
     requires { IsWellFormedMessage entry.now.msg }
     ensures { (x : NaiveClient) → IsReached x → RunsFor (R.state replica.old) x
-        → IfOk result (Gives (refusal_of_process entry.now.msg.seq) (R.state replica.old) (R.state replica.new) (process (joining_as true entry.now.origin x) entry.now)) }
+        → IfOk result (AnswersStep (refusal_of_process entry.now.msg.seq) (R.state replica.old) (R.state replica.new) (process (joining_as true entry.now.origin x) entry.now)) }
 {
     begin_join(replica, entry.origin)?;
     let refusal = give_entry(replica, entry)?;
@@ -413,7 +413,7 @@ fn take_join<R: Replica>(replica: &mut R, entry: &Entry) -> Result<Option<Refusa
 // The replica loses its connection, unless it only waits for one. Returns why that is refused, if it is.
 fn drop_unless<R: Replica>(replica: &mut R, waits: bool) -> Result<Option<Refusal>, OutOfMemory>
     ensures { (x : NaiveClient) → IsReached x → RunsFor (R.state replica.old) x
-        → IfOk result (Gives (λ _. NotConnected) (R.state replica.old) (R.state replica.new) (dropped_unless waits x)) }
+        → IfOk result (AnswersStep (λ _. NotConnected) (R.state replica.old) (R.state replica.new) (dropped_unless waits x)) }
 {
     if waits { Ok(None) } else { lose_link(replica) }
 }
