@@ -1,6 +1,7 @@
 #!/bin/sh
 # build.sh: builds the static library and the examples for C and Python, runs them on two sessions, and compares what they
-# write with what `vemiktag session` writes: tea_at_five.report here, and readme_history.report of examples.
+# write with what `vemiktag session` writes: tea_at_five.report here, and readme_history.report of examples. Two editors, each with a client,
+# show what is in editors.told.
 #
 #   ASAN=1       with the address, leak and undefined behaviour sanitizers of the C compiler
 #   VALGRIND=1   under valgrind
@@ -28,6 +29,10 @@ $cc $flags -o "$out/report" "$here/report.c" "$archive" "$memory"
 $cc $flags -o "$out/session" "$here/session.c" "$archive" "$memory"
 # shellcheck disable=SC2086
 $cc $flags -Wl,--wrap=malloc,--wrap=realloc -o "$out/handles" "$here/handles.c" "$archive" "$memory"
+# shellcheck disable=SC2086
+$cc $flags -o "$out/client" "$here/client.c" "$archive" "$memory"
+# shellcheck disable=SC2086
+$cc $flags -Wl,--wrap=malloc,--wrap=realloc -o "$out/clients" "$here/clients.c" "$archive" "$memory"
 # shellcheck disable=SC2086
 $cc $flags -Wl,--wrap=malloc,--wrap=realloc -o "$out/edges" "$here/edges.c" "$archive" "$memory"
 printf '{ global: vemiktag_*; local: *; };\n' > "$out/exports"
@@ -69,3 +74,10 @@ compare_both "Python, line by line" python3 "$here/session.py"
 $under "$out/edges" < "$top/examples/tea_at_five.session"
 # shellcheck disable=SC2086
 $under "$out/handles" < "$top/examples/tea_at_five.session"
+# shellcheck disable=SC2086
+$under "$out/client" | cmp - "$here/editors.told"
+echo "C, two editors: as editors.told"
+python3 "$here/editors.py" | cmp - "$here/editors.told"
+echo "Python, two editors: as editors.told"
+# shellcheck disable=SC2086
+$under "$out/clients"

@@ -1,9 +1,10 @@
 """Vemiktag for Python, over libvemiktag.so, which build.sh makes. No packages are needed."""
 
 import ctypes
+import json
 import os
 
-DONE, SOME_REFUSED, TOO_SMALL, OUT_OF_MEMORY, TOO_LONG, CLOSED = 0, 1, 4, 5, 6, 7
+DONE, SOME_REFUSED, TOO_SMALL, OUT_OF_MEMORY, TOO_LONG, CLOSED, NOTHING = 0, 1, 4, 5, 6, 7, 8
 
 _HERE = os.path.dirname(os.path.abspath(__file__))
 _lib = ctypes.CDLL(os.environ.get("VEMIKTAG_SO", os.path.join(_HERE, "libvemiktag.so")))
@@ -102,3 +103,98 @@ class Session:
         if status == TOO_LONG:
             raise ValueError("the session has heard more than 16,777,216 lines")
         return status
+
+
+for _name, _takes in [
+    ("new", [_session]),
+    ("load", [_session, ctypes.c_char_p, _size]),
+    ("connect", [_session, ctypes.c_char_p, _size]),
+    ("drop", [_session]),
+    ("edit", [_session, ctypes.c_char_p, _size]),
+    ("process", [_session, ctypes.c_char_p, _size]),
+    ("outgoing", [_session]),
+    ("view", [_session]),
+    ("waiting", [_session, _count]),
+    ("read", [_session, ctypes.c_char_p, _size, _count]),
+    ("free", [_session]),
+]:
+    _call = getattr(_lib, "vemiktag_client_" + _name)
+    _call.restype, _call.argtypes = ctypes.c_uint32, _takes
+
+
+class Client:
+    """One editor's copy of the document. It may be used by one thread, and by one call at a time.
+
+    Each call raises ValueError where it was refused, and then nothing changed, and where the client takes nothing more; and
+    MemoryError where there was no memory.
+    """
+
+    def __init__(self, summary=None):
+        self._held = _Held()
+        self._at = ctypes.byref(self._held)
+        self._call("new")
+        if summary is not None:
+            self._call("load", summary)
+
+    def connect(self, name):
+        """Waits for the join of the connection of this name, a new one. It is online once it has processed the join."""
+        self._call("connect", name.encode())
+
+    def drop(self):
+        """Its connection is gone; what it has pending stays so."""
+        self._call("drop")
+
+    def edit(self, op, address="text"):
+        """Takes an operation of its own: a dict as docs/FORMATS.md has it."""
+        event = {"client": "", "do": "edit", "address": address, "op": op}
+        self._call("edit", json.dumps(event).encode())
+
+    def insert(self, place, text):
+        self.edit({"type": 0, "pos1": place, "seg": text})
+
+    def remove(self, start, end):
+        self.edit({"type": 1, "pos1": start, "pos2": end})
+
+    def process(self, message):
+        """Takes the next message of the order, a dict."""
+        self._call("process", json.dumps(message).encode())
+
+    def outgoing(self):
+        """The drafts that it has to send, oldest first, as dicts. Each counts as sent once it is taken."""
+        while (draft := self._call("outgoing")) is not None:
+            yield json.loads(draft)
+
+    def view(self):
+        """The lines of what it shows."""
+        return self._call("view").decode().split("\n")[:-1]
+
+    def text(self):
+        """Its text, without the markers."""
+        return next(json.loads(line[5:]) for line in self.view() if line.startswith("text "))
+
+    def free(self):
+        """Frees what the client holds. It does no harm to free it twice."""
+        _lib.vemiktag_client_free(self._at)
+
+    __del__ = free
+
+    def _call(self, name, given=None):
+        call = getattr(_lib, "vemiktag_client_" + name)
+        status = call(self._at) if given is None else call(self._at, given, len(given))
+        if status == OUT_OF_MEMORY:
+            raise MemoryError
+        if status in (TOO_LONG, CLOSED):
+            raise ValueError("the client is full" if status == TOO_LONG else "the client takes nothing more")
+        if status == NOTHING:
+            return None
+        told = self._read()
+        if status == SOME_REFUSED:
+            raise ValueError(told.decode().rstrip())
+        return told
+
+    def _read(self):
+        count = ctypes.c_size_t()
+        _lib.vemiktag_client_waiting(self._at, ctypes.byref(count))
+        told = ctypes.create_string_buffer(max(count.value, 1))
+        _lib.vemiktag_client_read(self._at, told, count.value, ctypes.byref(count))
+        return told.raw[: count.value]
