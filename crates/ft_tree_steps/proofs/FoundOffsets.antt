@@ -1,10 +1,13 @@
 -- Places that are found, as elements on leaves.
-use Rattle.std.proofs.Common.{◌≡◌, ℕ, zero, suc, ◌+◌, ◌-◌, ◌<◌, ◌≤◌, Bool, List, [], ◌∷◌, length, Option, Some, None, IsSomeAnd, nat_eq, nat_le, subst, refl, sym, ◌∙◌, ap, inl, inr, arith}
+use Rattle.std.proofs.Common.{◌≡◌, ℕ, zero, suc, ◌+◌, ◌-◌, ◌<◌, ◌≤◌, Bool, List, [], ◌∷◌, length, Option, Some, None, Result, Ok, Err, IsSomeAnd, nat_eq, nat_le, subst, refl, sym, ◌∙◌, ap, inl, inr, arith}
 use Rattle.std.specs.Option.{SomeIff}
+use Rattle.std.specs.Prelude.{IfOk, IfErr}
+use Rattle.std.specs.Result.{result_ok}
 use Rattle.std.proofs.lemmas.Bool.{cases_lt, cond-false, cond-true, le-leb, lt-leb, ne_eqb}
 use Rattle.ft_base.specs.declared.stamps.Stamp.{Stamp}
 use Rattle.ft_base.specs.Scan.{len, place}
 use Rattle.ft_block.specs.declared.blocks.Found.{Found}
+use Rattle.ft_block.specs.declared.blocks.OutOfRange.{OutOfRange}
 use Rattle.ft_block.specs.declared.leaves.LenView.{LenView}
 use Rattle.ft_block.specs.Leaves.{length_by, place_by, place_from, times_leaf, value_at}
 use Rattle.ft_tree_leaves.specs.declared.leaves.TreeLeaf.{TreeLeaf}
@@ -26,6 +29,12 @@ module _ {L : Type 0} (f : L → ℕ) where
   -- there is no place beyond what is seen
   pub none_beyond : (xs : List (ℕ × L)) (p : ℕ) → length_by f xs < p → place_by f xs p ≡ None
   none_beyond xs p h = cond-false (nat_eq p 0) _ _ (ne_eqb p 0 (omega arith)) ∙ none_from xs p h
+
+  -- a search that tells the place, or the length seen where the place is beyond it
+  pub place-found : (xs : List (ℕ × L)) (p : ℕ) (r : Result Found OutOfRange) → IfOk r (λ found. place_by f xs p ≡ Some found)
+      → IfErr r (λ e. e.length ≡ length_by f xs) → IfErr r (λ e. e.length < p) → result_ok r ≡ place_by f xs p
+  place-found xs p (Ok found) is length beyond = sym is
+  place-found xs p (Err e) is length beyond = sym (none_beyond xs p (subst (λ n. n < p) length beyond))
 
   beyond_from : (xs : List (ℕ × L)) (p : ℕ) → 0 < p → place_from f xs p ≡ None → length_by f xs < p
   beyond_from [] p some e = some

@@ -6,7 +6,7 @@ ghost use Rattle.ft_base.specs.Scan.{place, put};
 ghost use Rattle.ft_block.specs.declared.leaves.LenView.{LenView};
 ghost use Rattle.ft_block.specs.Leaves.{IsPlaceIn, ids};
 ghost use Rattle.ft_tree_leaves.specs.Edits.{up_to_place, with_place};
-ghost use Rattle.ft_tree_leaves.specs.Elements.{is_pending, new_elements, seen_in};
+ghost use Rattle.ft_tree_leaves.specs.Elements.{new_elements, seen_in};
 ghost use Rattle.ft_tree_leaves.specs.LeafLists.{Extends, elements, pending_leaves};
 ghost use Rattle.ft_tree_leaves.specs.Places.{put_place, shifted_place};
 ghost use Rattle.ft_tree_leaves.specs.Plain.{passes};
@@ -63,9 +63,9 @@ pub fn leaf_behind<C: Content>(blocks: &Blocks<TreeLeaf<C>>, at: Option<NodeId>)
     }
 }
 
-/// The leaf behind which an insertion goes that passes the leaves with a pending one at the place, or that
-/// place where it is to pass none.
-pub fn behind_run<C: Content, G: Ledger>(
+// The leaf behind which an insertion goes that passes the leaves with a pending one at the place, or that
+// place where it is to pass none.
+fn behind_run<C: Content, G: Ledger>(
     blocks: &Blocks<TreeLeaf<C>>,
     at: Option<NodeId>,
     past_pending: bool,
@@ -80,27 +80,9 @@ pub fn behind_run<C: Content, G: Ledger>(
     ensures reads { steps.new ≤ steps.old + pending_leaves (from_place blocks.now.leaves (node_behind blocks.now.leaves at)) + 1 }
     ensures no_reads { past_pending ≡ false → steps.new ≡ steps.old }
 {
-    if past_pending {
-        behind_pending(blocks, at, steps)
-    } else {
-        at
+    if !past_pending {
+        return at;
     }
-}
-
-// The leaf behind which an insertion goes that passes the leaves with a pending one at the place.
-fn behind_pending<C: Content, G: Ledger>(
-    blocks: &Blocks<TreeLeaf<C>>,
-    at: Option<NodeId>,
-    steps: &mut Steps<G>,
-) -> Option<NodeId>
-    requires usable { IsTrue blocks.now.usable }
-    requires place { IsPlaceIn blocks.now.leaves at }
-    ensures live { IsPlaceIn blocks.now.leaves result }
-    ensures run { let leaves = blocks.now.leaves in
-        length (elements C.units C.by (up_to_place leaves result))
-        ≡ length (elements C.units C.by (up_to_place leaves at)) + prefix_len is_pending (elements C.units C.by (from_place leaves (node_behind leaves at))) }
-    ensures reads { steps.new ≤ steps.old + pending_leaves (from_place blocks.now.leaves (node_behind blocks.now.leaves at)) + 1 }
-{
     // What holds of the leaves at any time is read off its contract.
     let _first = blocks.first();
     let mut end = at;

@@ -1,87 +1,13 @@
 //! Leaves in blocks: where a place is, for calls that are given no counter of steps.
 
-ghost use Rattle.std.specs.Prelude.{◌≡◌, ◌<◌, ◌≤◌, IsTrue};
-ghost use Rattle.ft_block.specs.declared.leaves.LenView.TheVariants.{All, At, Stage};
-ghost use Rattle.ft_block.specs.Leaves.{IsFromFloor, last_stage, place_by};
+ghost use Rattle.std.specs.Prelude.{◌≡◌, ◌<◌, IsTrue};
+ghost use Rattle.ft_block.specs.Leaves.{IsFromFloor, place_by};
 ghost use Rattle.ft_tree_leaves.specs.LeafLists.{leaf_length, leaf_removed};
 
-use ft_base::{Perspective, Steps};
+use ft_base::Steps;
 use ft_block::{Blocks, Found, LenView};
 use ft_tree_leaves::{Content, TreeLeaf};
 use std::sync::ledger::{Blank, Ledger};
-
-// The place of the `p`-th element that the perspective sees.
-fn find_at<C: Content, G: Ledger>(
-    blocks: &Blocks<TreeLeaf<C>>,
-    p: u64,
-    at: Perspective,
-    steps: &mut Steps<G>,
-) -> Option<Found>
-    requires usable { IsTrue blocks.now.usable }
-    requires floor { blocks.now.floor ≤ at.r }
-    ensures { result ≡ place_by (leaf_length C.units (At at)) blocks.now.leaves p }
-{
-    match blocks.find(p, at, steps) {
-        Ok(found) => Some(found),
-        Err(_) => None,
-    }
-}
-
-// The place of the `p`-th element of the local view.
-fn find_last<C: Content, G: Ledger>(
-    blocks: &Blocks<TreeLeaf<C>>,
-    p: u64,
-    steps: &mut Steps<G>,
-) -> Option<Found>
-    requires { IsTrue blocks.now.usable }
-    ensures { result ≡ place_by (leaf_length C.units last_stage) blocks.now.leaves p }
-{
-    match blocks.find_local(p, steps) {
-        Ok(found) => Some(found),
-        Err(_) => None,
-    }
-}
-
-// The place of the `p`-th element that the pending stage sees.
-fn find_of_stage<C: Content>(blocks: &Blocks<TreeLeaf<C>>, p: u64, stage: u64) -> Option<Found>
-    requires { IsTrue blocks.now.usable }
-    ensures { result ≡ place_by (leaf_length C.units (Stage stage)) blocks.now.leaves p }
-{
-    match blocks.find_at_stage(p, stage) {
-        Ok(found) => Some(found),
-        Err(_) => None,
-    }
-}
-
-// The place of the `p`-th of all elements.
-fn find_of_all<C: Content, G: Ledger>(
-    blocks: &Blocks<TreeLeaf<C>>,
-    p: u64,
-    steps: &mut Steps<G>,
-) -> Option<Found>
-    requires { IsTrue blocks.now.usable }
-    ensures { result ≡ place_by (leaf_length C.units All) blocks.now.leaves p }
-{
-    match blocks.find_any(p, steps) {
-        Ok(found) => Some(found),
-        Err(_) => None,
-    }
-}
-
-// The place of the `p`-th element whose first removal is sequenced.
-fn find_of_removed<C: Content, G: Ledger>(
-    blocks: &Blocks<TreeLeaf<C>>,
-    p: u64,
-    steps: &mut Steps<G>,
-) -> Option<Found>
-    requires { IsTrue blocks.now.usable }
-    ensures { result ≡ place_by (leaf_removed C.units) blocks.now.leaves p }
-{
-    match blocks.find_removed(p, steps) {
-        Ok(found) => Some(found),
-        Err(_) => None,
-    }
-}
 
 /// The leaf that holds the `p`-th of the elements whose first removal is sequenced, and how many of these stand in it
 /// up to that one; the head of the list for `p` = 0. None exactly where `p` is above their number.
@@ -99,7 +25,7 @@ pub fn find_removed_leaf<C: Content, G: Ledger>(
     ensures { result ≡ place_by (leaf_removed C.units) blocks.now.leaves p }
 {
     let mut steps = Steps::<G>::new(blank);
-    find_of_removed(blocks, p, &mut steps)
+    blocks.find_removed(p, &mut steps).ok()
 }
 
 /// The leaf that holds the `p`-th element that the view sees, and how many of its elements stand up to that
@@ -122,14 +48,14 @@ pub fn find_leaf<C: Content, G: Ledger>(
 {
     let mut steps = Steps::<G>::new(blank);
     match view {
-        LenView::At(at) => find_at(blocks, p, at, &mut steps),
+        LenView::At(at) => blocks.find(p, at, &mut steps).ok(),
         LenView::Stage(stage) => {
             if stage == u64::MAX {
-                find_last(blocks, p, &mut steps)
+                blocks.find_local(p, &mut steps).ok()
             } else {
-                find_of_stage(blocks, p, stage)
+                blocks.find_at_stage(p, stage).ok()
             }
         }
-        LenView::All => find_of_all(blocks, p, &mut steps),
+        LenView::All => blocks.find_any(p, &mut steps).ok(),
     }
 }

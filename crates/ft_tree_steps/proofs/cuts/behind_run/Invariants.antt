@@ -5,7 +5,7 @@ use Rattle.ft_tree_leaves.specs.Edits.{up_to_place}
 use Rattle.ft_tree_leaves.specs.Elements.{is_pending}
 use Rattle.ft_tree_leaves.specs.LeafLists.{elements, pending_leaves}
 use Rattle.ft_tree_blocks.specs.Walks.{from_place, node_behind}
-use Rattle.ft_tree_steps.proofs.cuts.behind_pending.Given as goal
+use Rattle.ft_tree_steps.proofs.cuts.behind_run.Given as goal
 
 -- what is passed, and the run behind it, are as many elements as at first
 abbrev pub invariant-loop-next : goal.invariant-loop-next
