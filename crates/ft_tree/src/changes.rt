@@ -95,13 +95,11 @@ impl<C: Content> Tree<C> {
         ensures rest { OnOk result (KeepsRest self.old self.new) }
         ensures made { OnOk result (self.new.made ≡ self.old.made) }
     {
-        match self.start_at(p, q, at, steps) {
-            Ok(found) => {
-                let edit = RangeEdit::Remove(Stamp::Acked { seq, conn: at.c });
-                self.edit_and_slide(&found, p, q, LenView::At(at), &edit)
-            }
-            Err(e) => Err(e),
-        }
+        let found = self.start_at(p, q, at, steps)?;
+        let edit = RangeEdit::Remove(Stamp::Acked { seq, conn: at.c });
+        self.edit(&found, p, q, LenView::At(at), &edit)?;
+        self.slide();
+        Ok(())
     }
 
     /// Adds changes of a pending stage, which is above all that are pending, to each element that the local

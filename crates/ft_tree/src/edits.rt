@@ -1,14 +1,12 @@
-//! Leaves in blocks: how a leaf comes to their end, or is taken out.
+//! Leaves in blocks: how a leaf comes to their end, and what is left of one that was taken out.
 
-ghost use Rattle.std.specs.Prelude.{◌≡◌, ◌+◌, ◌++◌, ◌<◌, ◌^◌, [], IfOk, IsTrue, OnOk, Some, true, length, option_map};
-ghost use Rattle.ft_block.specs.Leaves.{IsLeafIn, ids, value_at, without_leaf};
-ghost use Rattle.ft_tree_leaves.specs.Edits.{IsFreeOf, closed_by, with_place};
+ghost use Rattle.std.specs.Prelude.{◌≡◌, ◌+◌, ◌++◌, ◌<◌, ◌^◌, [], IsTrue, OnOk, true, length};
+ghost use Rattle.ft_block.specs.Leaves.{ids};
 ghost use Rattle.ft_tree_leaves.specs.Elements.{elements_with};
 ghost use Rattle.ft_tree_leaves.specs.LeafLists.{Extends, elements};
-ghost use Rattle.ft_tree_leaves.specs.References.{ChangesReferences, KeepsReferences};
+ghost use Rattle.ft_tree_leaves.specs.References.{KeepsReferences};
 
 use crate::finds::find_end;
-use ft_arena::NodeId;
 use ft_base::{Datum, Element, OutOfMemory};
 use ft_props::{Overlay, Props};
 use ft_tree_blocks::LeafBlocks;
@@ -18,22 +16,11 @@ use std::alloc::Global;
 use std::marker::Brand;
 use std::sync::ledger::Blank;
 
-/// Takes the leaf of a node out, on which no reference is, and returns its content.
-pub(crate) fn take_content<C: Content + Drop>(
-    blocks: &mut LeafBlocks<C>,
-    id: NodeId,
-) -> Result<C, OutOfMemory>
-    requires usable { IsTrue blocks.old.usable }
-    requires live { IsLeafIn blocks.old.leaves id }
-    requires free { IsFreeOf C.units C.by blocks.old.leaves id blocks.old.refs }
-    ensures content { IfOk result (λ content. option_map (λ x. x.content) (value_at blocks.old.leaves id) ≡ Some content) }
-    ensures leaves { OnOk result (blocks.new.leaves ≡ without_leaf blocks.old.leaves id) }
-    ensures refs { OnOk result (ChangesReferences (with_place (closed_by C.units C.by blocks.old.leaves id)) blocks.old.refs blocks.new.refs) }
-    ensures usable { OnOk result (blocks.new.usable ≡ true) }
-    ensures floor { blocks.new.floor ≡ blocks.old.floor }
+/// The content of a leaf that was taken out.
+pub(crate) fn content_of<C: Content + Drop>(leaf: TreeLeaf<C>) -> C
+    ensures { result ≡ leaf.content }
 {
-    let content = blocks.take(id)?.content;
-    Ok(content)
+    leaf.content
 }
 
 /// Puts a leaf of elements with these stamps and acknowledged properties at the end.

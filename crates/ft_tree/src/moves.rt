@@ -9,7 +9,7 @@ ghost use Rattle.ft_tree_leaves.specs.LeafLists.{Extends, elements};
 ghost use Rattle.ft_tree_leaves.specs.References.{ChangesReferences, KeepsReferences};
 ghost use Rattle.ft_tree.specs.State.{KeepsRest};
 
-use crate::edits::{append, take_content};
+use crate::edits::{append, content_of};
 use crate::tree::Tree;
 use ft_arena::NodeId;
 use ft_base::{Element, OutOfMemory};
@@ -156,10 +156,10 @@ impl<C: Content> Tree<C> {
         // What holds of the leaves at any time is read off its contract.
         let _first = self.blocks.first();
         let sweep = sweep_without(self.blocks.list(), id, self.sweep);
-        match take_content(&mut self.blocks, id) {
-            Ok(content) => {
+        match self.blocks.take(id) {
+            Ok(leaf) => {
                 self.sweep = sweep;
-                Ok(content)
+                Ok(content_of(leaf))
             }
             Err(e) => {
                 self.usable = false;

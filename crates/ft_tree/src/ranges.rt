@@ -8,7 +8,7 @@ ghost use Rattle.ft_tree_steps.specs.RangeEdits.{MayEdit};
 ghost use Rattle.ft_tree_steps.specs.LeafSteps.{IsInLeaf, held_place};
 ghost use Rattle.ft_tree_leaves.specs.Elements.{seen_in};
 ghost use Rattle.ft_tree_leaves.specs.LeafLists.{Extends, elements};
-ghost use Rattle.ft_tree_leaves.specs.References.{ChangesReferences, KeepsReferences, slid_reference};
+ghost use Rattle.ft_tree_leaves.specs.References.{KeepsReferences};
 ghost use Rattle.ft_tree.specs.Inside.{edited_element};
 ghost use Rattle.ft_tree.specs.State.{IsRefused, KeepsRest};
 ghost use Rattle.ft_tree.specs.declared.faults.TreeFault.TheVariants as fault;
@@ -113,42 +113,6 @@ impl<C: Content> Tree<C> {
                 self.usable = false;
                 Err(TreeFault::OutOfMemory)
             }
-        }
-    }
-
-    /// The same, after which acknowledged references slide.
-    ///
-    /// Returns `OutOfMemory` where there is no room for it, and then the tree may be used no more.
-    pub(crate) fn edit_and_slide(
-        &mut self,
-        found: &Found,
-        p: u64,
-        q: u64,
-        view: LenView,
-        edit: &RangeEdit,
-    ) -> Result<(), TreeFault>
-        requires usable { IsTrue self.old.usable }
-        requires order { p ≤ q }
-        requires held { IsInLeaf C.units self.old.leaves found.now.leaf found.now.offset }
-        requires place { let list = elements C.units C.by self.old.leaves in
-            held_place C.units C.by self.old.leaves found.now.leaf found.now.offset ≡ place (seen_in view) p list }
-        requires may { All (λ e. MayEdit edit.now e.overlay) (elements C.units C.by self.old.leaves) }
-        ensures elements { let old = elements C.units C.by self.old.leaves in
-            OnOk result (elements C.units C.by self.new.leaves ≡ change_range (seen_in view) p q (edited_element C.author edit.now) old) }
-        ensures refs { let new = elements C.units C.by self.new.leaves in
-            OnOk result (ChangesReferences (slid_reference new) self.old.refs self.new.refs) }
-        ensures nodes { OnOk result (Extends (ids self.old.leaves) (ids self.new.leaves)) }
-        ensures rest { OnOk result (KeepsRest self.old self.new) }
-        ensures made { OnOk result (self.new.made ≡ self.old.made) }
-        ensures err { IfErr result (λ e. e ≡ fault.OutOfMemory) }
-        ensures unusable { OnErr result (self.new.usable ≡ false) }
-    {
-        match self.edit(found, p, q, view, edit) {
-            Ok(()) => {
-                self.slide();
-                Ok(())
-            }
-            Err(e) => Err(e),
         }
     }
 }
