@@ -11,3 +11,4 @@ pub mod State
 pub mod Inside
 pub mod LeafPlaces
 pub mod LastStanding
+pub mod NewLeaves

@@ -2,7 +2,7 @@
 //! touched.
 
 ghost use Rattle.std.specs.Prelude.{[], ◌≡◌, ◌≢◌, ℕ, ◌+◌, ◌<◌, ◌^◌, ◌≤◌, IfOk, IfSome, IsSomeAnd, IsTrue, None, OnOk, Some, false, length, option_map, true};
-ghost use Rattle.ft_block.specs.Leaves.{IsLeafIn, IsPlaceIn, change_leaf, join_leaf, length_by, move_leaf, put_leaf, split_leaf, times_leaf, value_after, value_at, without_leaf};
+ghost use Rattle.ft_block.specs.Leaves.{IsLeafIn, IsPlaceIn, change_leaf, join_leaf, length_by, move_leaf, value_at, without_leaf};
 ghost use Rattle.ft_tree_leaves.specs.BlockChanges.{MayChange, changed_leaf};
 ghost use Rattle.ft_tree_leaves.specs.Edits.{ChangesReference, IsFreeOf, closed_by, moved_by, up_to_place, with_place};
 ghost use Rattle.ft_tree_leaves.specs.LeafLists.{elements};
@@ -10,6 +10,7 @@ ghost use Rattle.ft_tree_leaves.specs.Places.{shifted_place};
 ghost use Rattle.ft_tree_leaves.specs.References.{ChangesReferences, IsReferenceIn, KeepsReferences, reference_place, reference_at, slid_reference};
 ghost use Rattle.ft_tree_blocks.specs.Anchors.{references_on};
 ghost use Rattle.ft_tree_blocks.specs.LeafPlaces.{IsOnLeaf, place_on};
+ghost use Rattle.ft_tree_blocks.specs.NewLeaves.{CanJoin, CutsLeaf, PutsLeaf};
 ghost use Rattle.ft_tree_blocks.specs.Touched.{Tracks};
 ghost use Rattle.ft_tree_blocks.specs.Unsettled.{IsSoundOn};
 
@@ -40,8 +41,7 @@ pub(crate) fn insert_anchored<C: Content + Drop>(
     requires place { IsPlaceIn blocks.old.leaves at }
     requires fits { length_by (λ x. length (C.units x.content)) blocks.old.leaves + length (C.units leaf.content) < 2 ^ 64 }
     requires settled { leaf.overlay.pending ≡ [] }
-    ensures ok { IfOk result (λ id. blocks.new.leaves ≡ put_leaf blocks.old.leaves at (id, leaf)) }
-    ensures fresh { IfOk result (λ id. times_leaf blocks.old.leaves id ≡ 0) }
+    ensures puts { IfOk result (λ id. PutsLeaf at leaf blocks.old.leaves blocks.new.leaves id) }
     ensures tracks { OnOk result (Tracks blocks.new.leaves touched.new.items) }
     ensures refs { let i = length (elements C.units C.by (up_to_place blocks.old.leaves at)) in
         OnOk result (ChangesReferences (with_place (shifted_place i (length (C.units leaf.content))))
@@ -70,9 +70,7 @@ pub(crate) fn split_anchored<C: Content>(
     requires sound { IsSoundOn C.units blocks.old.leaves refs.old.anchors refs.old.unsettled.items }
     requires low { 1 ≤ at }
     requires high { IsSomeAnd (value_at blocks.old.leaves leaf) (λ v. at < length (C.units v.content)) }
-    ensures ok { IfOk result (λ id. blocks.new.leaves
-        ≡ split_leaf (λ v. record v { content = C.front v.content at }) (λ v. record v { content = C.rear v.content at }) blocks.old.leaves leaf id) }
-    ensures fresh { IfOk result (λ id. times_leaf blocks.old.leaves id ≡ 0) }
+    ensures cuts { IfOk result (λ id. CutsLeaf C.front C.rear leaf at blocks.old.leaves blocks.new.leaves id) }
     ensures tracks { OnOk result (Tracks blocks.new.leaves touched.new.items) }
     ensures refs { OnOk result
         (KeepsReferences (references_on C.units C.by blocks.old.leaves refs.old.anchors)
@@ -128,8 +126,7 @@ pub(crate) fn join_anchored<C: Content + Drop>(
     requires usable { IsTrue blocks.old.usable }
     requires tracks { Tracks blocks.old.leaves touched.old.items }
     requires sound { IsSoundOn C.units blocks.old.leaves refs.old.anchors refs.old.unsettled.items }
-    requires can { IsSomeAnd (value_at blocks.old.leaves id) (λ v.
-        IsSomeAnd (value_after blocks.old.leaves id) (λ w. IsTrue (C.joins v.content w.content) × (v.stamps ≡ w.stamps))) }
+    requires can { CanJoin C.joins blocks.old.leaves id }
     ensures ok { OnOk result (blocks.new.leaves ≡ join_leaf (λ v w. record v { content = C.joined v.content w.content }) blocks.old.leaves id) }
     ensures tracks { OnOk result (Tracks blocks.new.leaves touched.new.items) }
     ensures refs { OnOk result

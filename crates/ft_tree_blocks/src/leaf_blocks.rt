@@ -36,7 +36,7 @@ use crate::anchored::{
     take_anchored,
 };
 use crate::leaf_refs::LeafRefs;
-use crate::next_stages::{next_pending_in, next_removal_in};
+use crate::next_stages::{Wanted, next_wanted_in};
 use crate::pruning::prune_in;
 use crate::stage_leaves::stage_leaves_in;
 use crate::stage_nodes::StageNodes;
@@ -427,7 +427,9 @@ impl<C: Content> LeafBlocks<C> {
         requires { IsTrue self.now.usable }
         ensures { result ≡ next_removal_above stage (elements C.units C.by self.now.leaves) }
     {
-        next_removal_in(&self.blocks, &self.touched, stage)
+        // What holds of the leaves at any time is read off its contract.
+        let _first = self.blocks.first();
+        next_wanted_in(&self.blocks, &self.touched, stage, Wanted::Removal)
     }
 
     /// The least pending stage above this one of which a leaf has something: None exactly where there is none. It
@@ -436,7 +438,9 @@ impl<C: Content> LeafBlocks<C> {
         requires { IsTrue self.now.usable }
         ensures { result ≡ next_pending_above stage self.now.leaves }
     {
-        next_pending_in(&self.blocks, &self.touched, stage)
+        // What holds of the leaves at any time is read off its contract.
+        let _first = self.blocks.first();
+        next_wanted_in(&self.blocks, &self.touched, stage, Wanted::Anything)
     }
 
     /// The nodes of the leaves that have something of the stage: its insertion, a removal mark or changes. They

@@ -4,8 +4,6 @@
 ghost use Rattle.std.specs.Prelude.{◌≡◌, ◌&&◌, All, IsTrue, nat_lt};
 ghost use Rattle.std.specs.List.{list_any};
 ghost use Rattle.ft_block.specs.Leaves.{IsLeafIn};
-ghost use Rattle.ft_tree_leaves.specs.Edits.{next_pending_above, next_removal_above};
-ghost use Rattle.ft_tree_leaves.specs.LeafLists.{elements};
 ghost use Rattle.ft_tree_blocks.specs.Touched.{Tracks};
 ghost use Rattle.ft_tree_blocks.specs.Wanted.{IsLeastStage, has_wanted, is_wanted_at};
 
@@ -70,8 +68,8 @@ fn is_wanted_above<C: Content>(
     stage < list.stage() && is_any_wanted(blocks, list.nodes(), list.stage(), wanted)
 }
 
-// The least pending stage above this one of which a leaf has that.
-fn next_wanted_in<C: Content>(
+/// The least pending stage above this one of which a leaf has that.
+pub(crate) fn next_wanted_in<C: Content>(
     blocks: &Blocks<TreeLeaf<C>>,
     touched: &VecDeque<StageNodes>,
     stage: u64,
@@ -87,34 +85,4 @@ fn next_wanted_in<C: Content>(
         }
     }
     None
-}
-
-/// The least pending stage above this one that marks an element as removed.
-pub(crate) fn next_removal_in<C: Content>(
-    blocks: &Blocks<TreeLeaf<C>>,
-    touched: &VecDeque<StageNodes>,
-    stage: u64,
-) -> Option<u64>
-    requires usable { IsTrue blocks.now.usable }
-    requires tracks { Tracks blocks.now.leaves touched.now.items }
-    ensures { result ≡ next_removal_above stage (elements C.units C.by blocks.now.leaves) }
-{
-    // What holds of the leaves at any time is read off its contract.
-    let _first = blocks.first();
-    next_wanted_in(blocks, touched, stage, Wanted::Removal)
-}
-
-/// The least pending stage above this one of which a leaf has something.
-pub(crate) fn next_pending_in<C: Content>(
-    blocks: &Blocks<TreeLeaf<C>>,
-    touched: &VecDeque<StageNodes>,
-    stage: u64,
-) -> Option<u64>
-    requires usable { IsTrue blocks.now.usable }
-    requires tracks { Tracks blocks.now.leaves touched.now.items }
-    ensures { result ≡ next_pending_above stage blocks.now.leaves }
-{
-    // What holds of the leaves at any time is read off its contract.
-    let _first = blocks.first();
-    next_wanted_in(blocks, touched, stage, Wanted::Anything)
 }

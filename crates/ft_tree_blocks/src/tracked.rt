@@ -3,9 +3,10 @@
 ghost use Rattle.std.specs.Prelude.{[], ◌≡◌, ◌≢◌, ◌+◌, ◌<◌, ◌^◌, ℕ, ◌≤◌, IfOk, IsSomeAnd, IsTrue, OnOk, Some, false, length, not, true};
 ghost use Rattle.std.specs.List.{list_any};
 ghost use Rattle.ft_base.specs.Visibility.{is_acked};
-ghost use Rattle.ft_block.specs.Leaves.{IsLeafIn, IsPlaceIn, change_leaf, join_leaf, length_by, move_leaf, put_leaf, split_leaf, times_leaf, value_after, value_at, without_leaf};
+ghost use Rattle.ft_block.specs.Leaves.{IsLeafIn, IsPlaceIn, change_leaf, join_leaf, length_by, move_leaf, value_at, without_leaf};
 ghost use Rattle.ft_tree_leaves.specs.BlockChanges.{MayChange, changed_leaf};
 ghost use Rattle.ft_tree_leaves.specs.Edits.{is_touched_by};
+ghost use Rattle.ft_tree_blocks.specs.NewLeaves.{CanJoin, CutsLeaf, PutsLeaf};
 ghost use Rattle.ft_tree_blocks.specs.Touched.{AreRising, Notes, Tracks, added_stage, is_listed, purged_at};
 
 use crate::stage_nodes::StageNodes;
@@ -29,8 +30,7 @@ pub(crate) fn insert_in<C: Content + Drop>(
     requires place { IsPlaceIn blocks.old.leaves at }
     requires fits { length_by (λ x. length (C.units x.content)) blocks.old.leaves + length (C.units leaf.content) < 2 ^ 64 }
     requires settled { leaf.overlay.pending ≡ [] }
-    ensures ok { IfOk result (λ id. blocks.new.leaves ≡ put_leaf blocks.old.leaves at (id, leaf)) }
-    ensures fresh { IfOk result (λ id. times_leaf blocks.old.leaves id ≡ 0) }
+    ensures puts { IfOk result (λ id. PutsLeaf at leaf blocks.old.leaves blocks.new.leaves id) }
     ensures tracks { OnOk result (Tracks blocks.new.leaves touched.new.items) }
     ensures usable { OnOk result (blocks.new.usable ≡ true) }
     ensures floor { blocks.new.floor ≡ blocks.old.floor }
@@ -97,9 +97,7 @@ pub(crate) fn split_in<C: Content>(
     requires tracks { Tracks blocks.old.leaves touched.old.items }
     requires low { 1 ≤ at }
     requires high { IsSomeAnd (value_at blocks.old.leaves leaf) (λ v. at < length (C.units v.content)) }
-    ensures ok { IfOk result (λ id. blocks.new.leaves
-        ≡ split_leaf (λ v. record v { content = C.front v.content at }) (λ v. record v { content = C.rear v.content at }) blocks.old.leaves leaf id) }
-    ensures fresh { IfOk result (λ id. times_leaf blocks.old.leaves id ≡ 0) }
+    ensures cuts { IfOk result (λ id. CutsLeaf C.front C.rear leaf at blocks.old.leaves blocks.new.leaves id) }
     ensures tracks { OnOk result (Tracks blocks.new.leaves touched.new.items) }
     ensures usable { OnOk result (blocks.new.usable ≡ true) }
     ensures floor { blocks.new.floor ≡ blocks.old.floor }
@@ -205,8 +203,7 @@ pub(crate) fn join_in<C: Content + Drop>(
 ) -> Result<(), OutOfMemory>
     requires usable { IsTrue blocks.old.usable }
     requires tracks { Tracks blocks.old.leaves touched.old.items }
-    requires can { IsSomeAnd (value_at blocks.old.leaves id) (λ v.
-        IsSomeAnd (value_after blocks.old.leaves id) (λ w. IsTrue (C.joins v.content w.content) × (v.stamps ≡ w.stamps))) }
+    requires can { CanJoin C.joins blocks.old.leaves id }
     ensures ok { OnOk result (blocks.new.leaves ≡ join_leaf (λ v w. record v { content = C.joined v.content w.content }) blocks.old.leaves id) }
     ensures tracks { OnOk result (Tracks blocks.new.leaves touched.new.items) }
     ensures usable { OnOk result (blocks.new.usable ≡ true) }

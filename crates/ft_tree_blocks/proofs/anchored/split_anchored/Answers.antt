@@ -14,7 +14,7 @@ pub cut-requires : goal.cut-requires
 cut-requires g c = λ e.
     let xs = c.args.blocks.now.leaves in
     let live = is_live xs c.args.leaf (is_given (value_at xs c.args.leaf) (λ v. c.args.at < length (g.C.Content.units v.content)) c.requires.high) in
-    omega (arith, live, c.in_ok-rear.ensures.fresh, ap (times_leaf xs) e)
+    omega (arith, live, c.in_ok-rear.ensures.cuts.fresh, ap (times_leaf xs) e)
 
 pub returns-clause-refs : goal.returns-clause-refs
 returns-clause-refs g c =
@@ -30,10 +30,10 @@ returns-clause-refs g c =
     let rear : TreeLeaf g.row.C.Denot → TreeLeaf g.row.C.Denot = λ w. record w { content = g.C.Content.rear w.content at } in
     let high : at < length (us v.content) = subst (λ (o : Option (TreeLeaf g.row.C.Denot)). IsSomeAnd o (λ w. at < length (us w.content))) c.leaf.ensures c.requires.high in
     let kept = kept_cut us by xs once a ns c.requires.sound c.split_in.new.blocks.leaves c.args.leaf v c.leaf.ensures front rear at c.in_ok-rear.rear c.stands-stands.result
-    c.cut.new.self.anchors c.cut.new.self.unsettled.items c.in_ok-rear.ensures.ok
+    c.cut.new.self.anchors c.cut.new.self.unsettled.items c.in_ok-rear.ensures.cuts.ok
     (front_length us v.content (g.C.Content.front v.content at) at high (g.met.C.Content.front_units v.content at c.requires.low high))
     (rear_length us v.content (g.C.Content.rear v.content at) at high (g.met.C.Content.rear_units v.content at c.requires.low high)) refl refl
-    c.in_ok-rear.ensures.fresh c.in_ok-cut.ensures.held c.in_ok-cut.ensures.moves c.stands-stands.ensures c.in_ok-cut.ensures.notes in
+    c.in_ok-rear.ensures.cuts.fresh c.in_ok-cut.ensures.held c.in_ok-cut.ensures.moves c.stands-stands.ensures c.in_ok-cut.ensures.notes in
     kept_references us by xs c.split_in.new.blocks.leaves a c.cut.new.self.anchors c.cut.new.self.unsettled.items kept
 
 pub returns-clause-sound : goal.returns-clause-sound
@@ -50,8 +50,11 @@ returns-clause-sound g c =
     let rear : TreeLeaf g.row.C.Denot → TreeLeaf g.row.C.Denot = λ w. record w { content = g.C.Content.rear w.content at } in
     let high : at < length (us v.content) = subst (λ (o : Option (TreeLeaf g.row.C.Denot)). IsSomeAnd o (λ w. at < length (us w.content))) c.leaf.ensures c.requires.high in
     let kept = kept_cut us by xs once a ns c.requires.sound c.split_in.new.blocks.leaves c.args.leaf v c.leaf.ensures front rear at c.in_ok-rear.rear c.stands-stands.result
-    c.cut.new.self.anchors c.cut.new.self.unsettled.items c.in_ok-rear.ensures.ok
+    c.cut.new.self.anchors c.cut.new.self.unsettled.items c.in_ok-rear.ensures.cuts.ok
     (front_length us v.content (g.C.Content.front v.content at) at high (g.met.C.Content.front_units v.content at c.requires.low high))
     (rear_length us v.content (g.C.Content.rear v.content at) at high (g.met.C.Content.rear_units v.content at c.requires.low high)) refl refl
-    c.in_ok-rear.ensures.fresh c.in_ok-cut.ensures.held c.in_ok-cut.ensures.moves c.stands-stands.ensures c.in_ok-cut.ensures.notes in
+    c.in_ok-rear.ensures.cuts.fresh c.in_ok-cut.ensures.held c.in_ok-cut.ensures.moves c.stands-stands.ensures c.in_ok-cut.ensures.notes in
     kept.sound
+
+pub returns-clause-cuts : goal.returns-clause-cuts
+returns-clause-cuts g c = c.in_ok-rear.ensures.cuts

@@ -27,3 +27,6 @@ returns-clause-tracks g c =
     (λ k t. c.in_ok-note_stamps.ensures.listed k
     (ap (λ (x : TreeLeaf g.row.C.Denot). is_stamped_by k x.stamps) read ∙ new_touched leaf k c.requires.settled t)
     (ap (λ (e : Element). is_stamped_by k e) c.universal-old.ensures)))
+
+pub returns-clause-puts : goal.returns-clause-puts
+returns-clause-puts g c = record { ok = c.in_ok-id.ensures.ok; fresh = c.in_ok-id.ensures.fresh }

@@ -36,3 +36,6 @@ returns-clause-tracks g c =
     tracks-is (split_leaf f r xs id new) c.split.new.self.leaves c.note_rear.new.touched.items c.note_rear.new.touched.items c.in_ok-rear.ensures.ok refl
     (tracks-split xs ss c.requires.tracks f r id new c.note_rear.new.touched.items c.in_ok-note_rear.ensures.notes c.in_ok-rear.ensures.fresh (λ k v. refl)
     (λ k v at t. c.in_ok-note_rear.ensures.listed k (ap (is_touched_by k) (sym (read v at)) ∙ t) (c.requires.tracks.covers k id v at t)) here)
+
+pub returns-clause-cuts : goal.returns-clause-cuts
+returns-clause-cuts g c = record { ok = c.in_ok-rear.ensures.ok; fresh = c.in_ok-rear.ensures.fresh }
