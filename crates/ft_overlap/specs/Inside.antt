@@ -1,5 +1,5 @@
 -- How an `Index` keeps its items. No public clause cites this module.
-use Rattle.std.specs.Prelude.{◌≡◌, ℕ, ℤ, zero, suc, ◌-◌, ◌≤ℤ◌, ◌<ℤ◌, List, [], ◌∷◌, ◌++◌, Option, Some, None, All, Contains}
+use Rattle.std.specs.Prelude.{◌≡◌, ℕ, ℤ, zero, suc, ◌-◌, ◌<◌, ◌≤ℤ◌, ◌<ℤ◌, List, [], ◌∷◌, ◌++◌, Option, Some, None, All, Contains}
 use Rattle.std.specs.List.{flat_map}
 use Rattle.ft_arena.specs.Forest.{Forest, leaf_value, block_value, kids_of}
 use Rattle.ft_arena.specs.Ids.{without}
@@ -119,3 +119,9 @@ pub record IsFirstWith (key : ℕ) (s : Nodes) (id : ℕ) : Type 0 where
   pub there : leaf_value s id ≡ Some item
   pub first : item_at key (items_of s s.leaves) ≡ Some item
   pub rest : items_of s (without s.leaves id) ≡ without_key key (items_of s s.leaves)
+
+-- a blank of this name and so many parts, of which there is one, is that of the ledger
+pub record IsBlankOf (ledger_name ledger_parts blank_name blank_parts : ℕ) : Type 0 where
+  pub name : blank_name ≡ ledger_name
+  pub parts : blank_parts ≡ ledger_parts
+  pub one : 0 < blank_parts

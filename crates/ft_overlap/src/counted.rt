@@ -1,12 +1,12 @@
 //! The calls that are given no counter of steps: each makes one of its own.
 
-ghost use Rattle.std.specs.Prelude.{◌≡◌, ℕ, ◌<◌, Some, None, IsSome, IfOk, OnErr, MatchOption};
+ghost use Rattle.std.specs.Prelude.{◌≡◌, ℕ, Some, None, IsSome, IfOk, OnErr, MatchOption};
 ghost use Rattle.ft_arena.specs.Forest.{IsForest, leaf_value};
 ghost use Rattle.ft_shape.specs.Tree.{IsTree};
 ghost use Rattle.ft_shape.specs.Told.{KeepsBut};
 ghost use Rattle.ft_shape.specs.Steps.{TakesLeaf};
 ghost use Rattle.ft_overlap.specs.Items.{put_item, item_at, IsRising};
-ghost use Rattle.ft_overlap.specs.Inside.{IsRooted, IsFirstWith, NamesOne, NamesLast, EndsKnown, items_of};
+ghost use Rattle.ft_overlap.specs.Inside.{IsBlankOf, IsRooted, IsFirstWith, NamesOne, NamesLast, EndsKnown, items_of};
 
 use crate::grow::{insert_at, insert_first, insert_front};
 use crate::items::{Item, Places};
@@ -25,9 +25,7 @@ pub(crate) fn insert_in<P: Places, G: Ledger>(
     at: &P,
     blank: Blank,
 ) -> Result<Option<usize>, OutOfMemory>
-    requires name { blank.name ≡ G.name }
-    requires parts { blank.parts ≡ G.parts }
-    requires part { 0 < blank.parts }
+    requires blank { IsBlankOf G.name G.parts blank.name blank.parts }
     requires rooted { IsRooted arena.old root }
     requires one { KeepsBut NamesOne arena.old None }
     requires last { KeepsBut (NamesLast (P.end_place at.now)) arena.old None }
@@ -65,9 +63,7 @@ pub(crate) fn find_key<G: Ledger>(
     key: u64,
     blank: Blank,
 ) -> Option<NodeId>
-    requires name { blank.name ≡ G.name }
-    requires parts { blank.parts ≡ G.parts }
-    requires part { 0 < blank.parts }
+    requires blank { IsBlankOf G.name G.parts blank.name blank.parts }
     requires forest { IsForest arena.now }
     ensures { MatchOption result (item_at key (items_of arena.now arena.now.leaves) ≡ None) (λ id. IsFirstWith key arena.now id) }
 {
@@ -83,9 +79,7 @@ pub(crate) fn take_in<P: Places, G: Ledger>(
     at: &P,
     blank: Blank,
 ) -> (Option<usize>, Item)
-    requires name { blank.name ≡ G.name }
-    requires parts { blank.parts ≡ G.parts }
-    requires part { 0 < blank.parts }
+    requires blank { IsBlankOf G.name G.parts blank.name blank.parts }
     requires tree { IsTree arena.old root }
     requires live { IsSome (leaf_value arena.old id) }
     requires one { KeepsBut NamesOne arena.old None }

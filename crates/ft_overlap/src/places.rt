@@ -5,7 +5,7 @@ ghost use Rattle.ft_arena.specs.Forest.{IsForest, entry, leaf_value, block_value
 ghost use Rattle.ft_shape.specs.Tree.{IsTree};
 ghost use Rattle.ft_overlap.specs.Items.{item_at, IsRising};
 ghost use Rattle.ft_overlap.specs.Inside.{IsPlaceFor, IsFirstWith, items_of};
-ghost use Rattle.ft_overlap.specs.Search.{IsFirstBelow, IsStartedBy, IsChildBy, IsReached};
+ghost use Rattle.ft_overlap.specs.Search.{IsFirstBelow, IsStartedBy, IsChildBy};
 
 use crate::items::{Item, Places};
 use ft_arena::{Arena, Kids, Node, NodeId};
@@ -82,31 +82,6 @@ fn child_by<P: Places, G: Ledger>(
     child
 }
 
-// The last leaf below a node before the first item that starts behind a place.
-fn place_below<P: Places, G: Ledger>(
-    arena: &Arena<Item, Headed<Item>>,
-    _root: NodeId,
-    node: NodeId,
-    start: i64,
-    at: &P,
-    steps: &mut Steps<G>,
-) -> NodeId
-    requires tree { IsTree arena.now _root }
-    requires live { IsSome (entry arena.now node) }
-    requires reached { IsReached (P.end_place at.now) start arena.now node }
-    requires rising { IsRising (P.end_place at.now) (items_of arena.now arena.now.leaves) }
-    requires known { (id : ℕ) (x : Item) → leaf_value arena.now id ≡ Some x → P.Knows at.now x.start }
-    ensures { IsPlaceFor (P.end_place at.now) start arena.now (Some result) }
-{
-    match arena.read(node, steps) {
-        Node::Leaf { .. } => node,
-        Node::Block { kids, .. } => {
-            let child = child_by(arena, _root, node, kids, start, at, steps);
-            place_below(arena, _root, child, start, at, steps)
-        }
-    }
-}
-
 // The last leaf before the first item that starts behind this one, if that isn't the first: down from the root.
 pub(crate) fn place_for<P: Places, G: Ledger>(
     arena: &Arena<Item, Headed<Item>>,
@@ -126,7 +101,11 @@ pub(crate) fn place_for<P: Places, G: Ledger>(
     if at.place(first.start) > start {
         return None;
     }
-    Some(place_below(arena, root, root, start, at, steps))
+    let mut node = root;
+    'levels: while let Node::Block { kids, .. } = arena.read(node, steps) {
+        node = child_by(arena, root, node, kids, start, at, steps);
+    }
+    Some(node)
 }
 
 // The first leaf whose item has this key, if there is one.
