@@ -1,16 +1,13 @@
 //! How the leaves of pending insertions are moved in place, stage after stage.
 
-ghost use Rattle.std.specs.Prelude.{◌≡◌, ℕ, ◌-◌, ◌≤◌, None, IsTrue, IfOk, OnOk, filter, true};
+ghost use Rattle.std.specs.Prelude.{◌≡◌, ℕ, ◌-◌, ◌≤◌, None, IsTrue, IfOk, OnOk, filter};
 ghost use Rattle.ft_base.specs.Scan.{len};
 ghost use Rattle.ft_block.specs.Leaves.{IsLeafIn, IsPlaceIn, move_leaf, value_at, without_leaf};
 ghost use Rattle.ft_rebase.specs.Moves.{AreMoves, EndsLeaf, leaf_stamps, moved_stage, seen_node, seen_size};
-ghost use Rattle.ft_rebase.specs.RebuiltPlaces.{rebuilt_place};
-ghost use Rattle.ft_rebase.specs.Spots.{KeepsSpots};
-ghost use Rattle.ft_rebase.specs.StageLists.{StagesUpTo, StandSideBySide, seen_by, sequenced, with_stages};
-ghost use Rattle.ft_tree_leaves.specs.Edits.{with_place};
+ghost use Rattle.ft_rebase.specs.RebuiltPlaces.{MovesStages};
+ghost use Rattle.ft_rebase.specs.Spots.{KeepsSpots, StaysInUse};
+ghost use Rattle.ft_rebase.specs.StageLists.{StagesUpTo, StandSideBySide, seen_by, sequenced};
 ghost use Rattle.ft_tree_leaves.specs.LeafLists.{elements};
-ghost use Rattle.ft_tree_leaves.specs.References.{ChangesReferences};
-ghost use Rattle.ft_tree.specs.State.{KeepsRest};
 
 use crate::positions::{inserted_leaves, insertion_position};
 use ft_arena::NodeId;
@@ -34,18 +31,11 @@ where
     C: Drop,
     requires usable { IsTrue tree.old.usable }
     requires side { StandSideBySide (λ e. e.stamps) (elements C.units C.by tree.old.leaves) }
-    ensures elements { let old = elements C.units C.by tree.old.leaves in
-        (last : ℕ) → StagesUpTo (λ e. e.stamps) last old
-        → OnOk result (elements C.units C.by tree.new.leaves
-        ≡ with_stages (λ e. e.stamps) old (filter (sequenced (λ e. e.stamps)) old) last) }
+    ensures moves { (last : ℕ) → StagesUpTo (λ e. e.stamps) last (elements C.units C.by tree.old.leaves)
+        → OnOk result (MovesStages C.units C.by last tree.old tree.new) }
     ensures nodes { OnOk result (filter (sequenced leaf_stamps) tree.new.leaves ≡ filter (sequenced leaf_stamps) tree.old.leaves) }
     ensures refs { OnOk result (KeepsSpots C.units tree.old tree.new) }
-    ensures places { let old = elements C.units C.by tree.old.leaves in
-        (last : ℕ) → StagesUpTo (λ e. e.stamps) last old
-        → OnOk result (ChangesReferences (with_place (rebuilt_place (λ e. e.stamps) last old)) tree.old.refs tree.new.refs) }
-    ensures rest { OnOk result (KeepsRest tree.old tree.new) }
-    ensures made { OnOk result (tree.new.made ≡ tree.old.made) }
-    ensures usable { OnOk result (tree.new.usable ≡ true) }
+    ensures stays { OnOk result (StaysInUse tree.old tree.new) }
 {
     // What holds of the leaves at any time is read off its contract.
     let _first = tree.first_leaf();
@@ -109,9 +99,7 @@ where
         → position ≡ seen_size C.units (stage - 1) q tree.old.leaves
         → OnOk result (tree.new.leaves ≡ moved_stage leaf_stamps (stage - 1) q tree.old.leaves) }
     ensures refs { OnOk result (KeepsSpots C.units tree.old tree.new) }
-    ensures rest { OnOk result (KeepsRest tree.old tree.new) }
-    ensures made { OnOk result (tree.new.made ≡ tree.old.made) }
-    ensures usable { OnOk result (tree.new.usable ≡ true) }
+    ensures stays { OnOk result (StaysInUse tree.old tree.new) }
 {
     // What holds of the leaves at any time is read off its contract.
     let _first = tree.first_leaf();
@@ -136,9 +124,7 @@ where
     requires place { IsPlaceIn (without_leaf tree.old.leaves leaf) at.now }
     ensures leaves { OnOk result (tree.new.leaves ≡ move_leaf tree.old.leaves leaf at.now (value_at tree.old.leaves leaf)) }
     ensures refs { OnOk result (KeepsSpots C.units tree.old tree.new) }
-    ensures rest { OnOk result (KeepsRest tree.old tree.new) }
-    ensures made { OnOk result (tree.new.made ≡ tree.old.made) }
-    ensures usable { OnOk result (tree.new.usable ≡ true) }
+    ensures stays { OnOk result (StaysInUse tree.old tree.new) }
 {
     // What holds of the leaves at any time is read off its contract.
     let _first = tree.first_leaf();

@@ -11,7 +11,7 @@ ghost use Rattle.ft_tree_leaves.specs.References.{ChangesReferences, KeepsRefere
 ghost use Rattle.ft_rebase.specs.Moves.{leaf_stamps};
 ghost use Rattle.ft_rebase.specs.Normalised.{carried_by, carried_leaf, carried_pair, is_gone, rebuilt_list};
 ghost use Rattle.ft_rebase.specs.RebuiltPlaces.{rebuilt_place};
-ghost use Rattle.ft_rebase.specs.Spots.{KeepsSpots};
+ghost use Rattle.ft_rebase.specs.Spots.{KeepsSpots, StaysInUse};
 ghost use Rattle.ft_rebase.specs.StageLists.{StagesUpTo, StandSideBySide, sequenced};
 ghost use Rattle.ft_tree.specs.State.{KeepsRest};
 
@@ -47,37 +47,19 @@ where
     ensures usable { OnOk result (tree.new.usable ≡ true) }
     ensures err { OnErr result (tree.new.usable ≡ false) }
 {
-    match carry_and_move(tree) {
-        Ok(()) => Ok(()),
+    match carry_leaves(tree) {
+        Ok(()) => match move_stages(tree) {
+            Ok(()) => Ok(()),
+            Err(e) => {
+                tree.spoil();
+                Err(e)
+            }
+        },
         Err(e) => {
             tree.spoil();
             Err(e)
         }
     }
-}
-
-// Takes what is pending off the leaves that are gone, and moves those of pending insertions.
-fn carry_and_move<C: Content>(tree: &mut Tree<C>) -> Result<(), OutOfMemory>
-where
-    C: Drop,
-    requires usable { IsTrue tree.old.usable }
-    requires side { StandSideBySide (λ e. e.stamps) (elements C.units C.by tree.old.leaves) }
-    ensures elements { let old = elements C.units C.by tree.old.leaves in
-        (last : ℕ) → StagesUpTo (λ e. e.stamps) last old
-        → OnOk result (elements C.units C.by tree.new.leaves ≡ rebuilt_list last old) }
-    ensures nodes { OnOk result (filter (sequenced leaf_stamps) tree.new.leaves
-        ≡ map carried_pair (filter (sequenced leaf_stamps) tree.old.leaves)) }
-    ensures refs { OnOk result (KeepsSpots C.units tree.old tree.new) }
-    ensures places { let old = elements C.units C.by tree.old.leaves in
-        (last : ℕ) → StagesUpTo (λ e. e.stamps) last old
-        → OnOk result (ChangesReferences (with_place (rebuilt_place (λ e. e.stamps) last old)) tree.old.refs tree.new.refs) }
-    ensures rest { OnOk result (KeepsRest tree.old tree.new) }
-    ensures made { OnOk result (tree.new.made ≡ tree.old.made) }
-    ensures usable { OnOk result (tree.new.usable ≡ true) }
-{
-    carry_leaves(tree)?;
-    move_stages(tree)?;
-    Ok(())
 }
 
 // Whether the insertion and a removal are sequenced.
@@ -112,9 +94,7 @@ fn carry_leaf<C: Content>(tree: &mut Tree<C>, leaf: NodeId) -> Result<(), OutOfM
     requires live { IsLeafIn tree.old.leaves leaf }
     ensures leaves { OnOk result (tree.new.leaves ≡ change_leaf carried_leaf tree.old.leaves leaf) }
     ensures refs { OnOk result (KeepsReferences tree.old.refs tree.new.refs) }
-    ensures rest { OnOk result (KeepsRest tree.old tree.new) }
-    ensures made { OnOk result (tree.new.made ≡ tree.old.made) }
-    ensures usable { OnOk result (tree.new.usable ≡ true) }
+    ensures stays { OnOk result (StaysInUse tree.old tree.new) }
 {
     // What holds of the leaves at any time is read off its contract.
     let _first = tree.first_leaf();
@@ -131,9 +111,7 @@ fn carry_stage<C: Content>(tree: &mut Tree<C>, stage: u64) -> Result<(), OutOfMe
     requires { IsTrue tree.old.usable }
     ensures leaves { OnOk result (tree.new.leaves ≡ map (carried_by stage) tree.old.leaves) }
     ensures refs { OnOk result (KeepsReferences tree.old.refs tree.new.refs) }
-    ensures rest { OnOk result (KeepsRest tree.old tree.new) }
-    ensures made { OnOk result (tree.new.made ≡ tree.old.made) }
-    ensures usable { OnOk result (tree.new.usable ≡ true) }
+    ensures stays { OnOk result (StaysInUse tree.old tree.new) }
 {
     // What holds of the leaves at any time is read off its contract.
     let _first = tree.first_leaf();
@@ -150,9 +128,7 @@ fn carry_leaves<C: Content>(tree: &mut Tree<C>) -> Result<(), OutOfMemory>
     requires { IsTrue tree.old.usable }
     ensures leaves { OnOk result (tree.new.leaves ≡ map carried_pair tree.old.leaves) }
     ensures refs { OnOk result (KeepsReferences tree.old.refs tree.new.refs) }
-    ensures rest { OnOk result (KeepsRest tree.old tree.new) }
-    ensures made { OnOk result (tree.new.made ≡ tree.old.made) }
-    ensures usable { OnOk result (tree.new.usable ≡ true) }
+    ensures stays { OnOk result (StaysInUse tree.old tree.new) }
 {
     let mut next = Some(0);
     while let Some(stage) = next {

@@ -1,4 +1,4 @@
-use Rattle.std.proofs.Common.{Result, Ok, Err, Some, None, subst}
+use Rattle.std.proofs.Common.{Result, Ok, Err, Some, None, subst, ◌∙◌}
 use Rattle.std.specs.Prelude.{OnOk}
 use Rattle.ft_block.specs.Leaves.{IsPlaceIn, without_leaf}
 use Rattle.ft_tree_blocks.proofs.Walks.{live_value}
@@ -26,3 +26,13 @@ returns-in-None-clause-refs g c =
     both_ok c.move_leaf-in-None.result c.move_leaf-in-None.ensures.leaves c.move_leaf-in-None.ensures.refs
     (λ moved refs. keeps_spots g.C.Content.units g.C.Content.by c.args.tree.now c.move_leaf-in-None.new.self c.args.leaf None v.0
     c.first_leaf-first.ensures.once c.requires.live v.1 place moved refs)
+
+pub returns-in-Some-clause-stays : goal.returns-in-Some-clause-stays
+returns-in-Some-clause-stays g c =
+    both_ok c.move_leaf.result c.move_leaf.ensures.rest c.move_leaf.ensures.made
+    (λ rest made. record { rest = rest; made = made; usable = rest.usable ∙ c.requires.usable })
+
+pub returns-in-None-clause-stays : goal.returns-in-None-clause-stays
+returns-in-None-clause-stays g c =
+    both_ok c.move_leaf-in-None.result c.move_leaf-in-None.ensures.rest c.move_leaf-in-None.ensures.made
+    (λ rest made. record { rest = rest; made = made; usable = rest.usable ∙ c.requires.usable })

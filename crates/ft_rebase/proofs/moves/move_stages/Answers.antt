@@ -39,21 +39,29 @@ loop-next-preserved g c =
     record {
       left = next.after c.put_stage.new.tree.leaves (c.in_ok-put_stage.ensures.leaves next.ends.count next.ends.fits next.ends.is);
       refs = spots_more c.loop-next.invariant.refs c.in_ok-put_stage.ensures.refs;
-      rest = rest_more c.loop-next.invariant.rest c.in_ok-put_stage.ensures.rest;
-      made = c.in_ok-put_stage.ensures.made ∙ c.loop-next.invariant.made;
-      usable = c.in_ok-put_stage.ensures.usable;
+      rest = rest_more c.loop-next.invariant.rest c.in_ok-put_stage.ensures.stays.rest;
+      made = c.in_ok-put_stage.ensures.stays.made ∙ c.loop-next.invariant.made;
+      usable = c.in_ok-put_stage.ensures.stays.usable;
     }
 
-pub returns-clause-elements : goal.returns-clause-elements
-returns-clause-elements g c last h =
+pub returns-clause-moves : goal.returns-clause-moves
+returns-clause-moves g c last h =
     let us = g.C.Content.units in
     let by = g.C.Content.by in
     let xs = c.args.tree.now.leaves in
     let now = c.loop-next.tree.leaves in
-    let some = c.first_leaf-first.ensures.some in
+    let before = c.first_leaf-first.ensures in
+    let after = c.first_leaf-moved.ensures in
     let done = drop_all c.loop-next.next-index c.deref-next-items.result.now c.loop-next-test.false in
     let left = subst (λ (ls : List StageMove). MovesLeft us xs ls now) done c.loop-next.invariant.left in
-    elements_moved us xs now left by some (leaves_side us by xs some c.requires.side) last h
+    let side = leaves_side us by xs before.some c.requires.side in
+    record {
+      list = elements_moved us xs now left by before.some side last h;
+      places = refs-moved us by c.args.tree.now c.loop-next.tree (rebuilt_place (λ (e : TreeElement g.row.C-Unit.Denot). e.stamps) last (elements us by xs))
+          c.loop-next.invariant.refs (λ r j e. omega (arith, length-elements us by xs, before.inside r j e))
+          (λ r j e. omega (arith, length-elements us by now, after.inside r j e))
+          (λ i j s a b. spot_moved us xs now left by before.some side before.once after.once last h i j s a b);
+    }
 
 pub returns-clause-nodes : goal.returns-clause-nodes
 returns-clause-nodes g c =
@@ -64,17 +72,9 @@ returns-clause-nodes g c =
     let left = subst (λ (ls : List StageMove). MovesLeft us xs ls now) done c.loop-next.invariant.left in
     nodes_kept us xs now left
 
-pub returns-clause-places : goal.returns-clause-places
-returns-clause-places g c last h =
-    let us = g.C.Content.units in
-    let by = g.C.Content.by in
-    let xs = c.args.tree.now.leaves in
-    let now = c.loop-next.tree.leaves in
-    let before = c.first_leaf-first.ensures in
-    let after = c.first_leaf-moved.ensures in
-    let done = drop_all c.loop-next.next-index c.deref-next-items.result.now c.loop-next-test.false in
-    let left = subst (λ (ls : List StageMove). MovesLeft us xs ls now) done c.loop-next.invariant.left in
-    refs-moved us by c.args.tree.now c.loop-next.tree (rebuilt_place (λ (e : TreeElement g.row.C-Unit.Denot). e.stamps) last (elements us by xs))
-    c.loop-next.invariant.refs (λ r j e. omega (arith, length-elements us by xs, before.inside r j e))
-    (λ r j e. omega (arith, length-elements us by now, after.inside r j e))
-    (λ i j s a b. spot_moved us xs now left by before.some (leaves_side us by xs before.some c.requires.side) before.once after.once last h i j s a b)
+pub returns-clause-stays : goal.returns-clause-stays
+returns-clause-stays g c = record {
+  rest = c.loop-next.invariant.rest;
+  made = c.loop-next.invariant.made;
+  usable = c.loop-next.invariant.usable;
+}

@@ -62,9 +62,9 @@ loop-leaf-preserved g c =
     record {
       moved = subst (MovesBlock t xs at c.pop.new.self.items) (sym c.in_ok-move_behind.ensures.leaves) next.after;
       refs = spots_more c.loop-leaf.invariant.refs c.in_ok-move_behind.ensures.refs;
-      rest = rest_more c.loop-leaf.invariant.rest c.in_ok-move_behind.ensures.rest;
-      made = c.in_ok-move_behind.ensures.made ∙ c.loop-leaf.invariant.made;
-      usable = c.in_ok-move_behind.ensures.usable;
+      rest = rest_more c.loop-leaf.invariant.rest c.in_ok-move_behind.ensures.stays.rest;
+      made = c.in_ok-move_behind.ensures.stays.made ∙ c.loop-leaf.invariant.made;
+      usable = c.in_ok-move_behind.ensures.stays.usable;
     }
 
 pub returns-clause-leaves : goal.returns-clause-leaves
@@ -75,3 +75,10 @@ returns-clause-leaves g c q fits is =
     stage_moved c.args.stage c.requires.stage xs c.first_leaf-first.ensures.once q at c.loop-leaf.tree.leaves fits
     (c.leaf_before-at.ensures q fits is)
     (subst (λ rest. MovesBlock (inserted_by leaf_stamps c.args.stage) xs at rest c.loop-leaf.tree.leaves) none c.loop-leaf.invariant.moved)
+
+pub returns-clause-stays : goal.returns-clause-stays
+returns-clause-stays g c = record {
+  rest = c.loop-leaf.invariant.rest;
+  made = c.loop-leaf.invariant.made;
+  usable = c.loop-leaf.invariant.usable;
+}

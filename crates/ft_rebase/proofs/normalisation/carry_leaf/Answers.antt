@@ -1,10 +1,11 @@
-use Rattle.std.proofs.Common.{sym, ◌∙◌, ap}
+use Rattle.std.proofs.Common.{refl, sym, ◌∙◌, ap}
 use Rattle.ft_tree_blocks.proofs.WalkEdits.{change-here, change-nothing}
 use Rattle.ft_tree_blocks.proofs.Walks.{live_value}
 use Rattle.ft_tree_leaves.specs.Edits.{sequenced_leaf}
 use Rattle.ft_rebase.specs.Normalised.{carried_leaf, is_gone}
 use Rattle.ft_rebase.proofs.CarriedLeaves.{carried-gone, carried-kept}
 use Rattle.ft_rebase.proofs.ListedLeaves.{mapped_value}
+use Rattle.ft_rebase.proofs.MovedSpots.{rest_same}
 use Rattle.ft_rebase.proofs.normalisation.carry_leaf.Goals as goal
 use Rattle.ft_rebase.proofs.normalisation.carry_leaf.Goals.{then-not-is_gone-via-then-not-is_gone, then-not-is_gone-via-else-not-is_gone+then-not-has_pending}
 
@@ -30,3 +31,11 @@ returns-clause-leaves g c =
     c.in_ok-unmark_all.ensures.leaves
     ∙ sym (change-here carried_leaf sequenced_leaf xs c.args.leaf v.0 c.first_leaf-first.ensures.once v.1
     (carried-gone v.0 (ap is_gone stamps ∙ sym c.is_gone.ensures ∙ c.if-not-is_gone.false)))
+
+pub returns-then-not-is_gone-clause-stays : goal.returns-then-not-is_gone-clause-stays
+returns-then-not-is_gone-clause-stays g c = record { rest = rest_same c.args.tree.now; made = refl; usable = c.requires.usable }
+
+pub returns-clause-stays : goal.returns-clause-stays
+returns-clause-stays g c =
+    let unmarked = c.in_ok-unmark_all.ensures in
+    record { rest = unmarked.rest; made = unmarked.made; usable = unmarked.rest.usable ∙ c.requires.usable }

@@ -4,7 +4,8 @@ use Rattle.ft_rebase.specs.Normalised.{carried_pair}
 use Rattle.ft_rebase.proofs.CarriedStages.{all_carried, carries_stage, fewer_stages, list-carried}
 use Rattle.ft_rebase.proofs.MovedSpots.{rest_more, rest_same}
 use Rattle.ft_rebase.proofs.NextStages.{IsBelow}
-use Rattle.ft_tree.specs.State.{KeepsRest, TreeState}
+use Rattle.ft_rebase.specs.Spots.{StaysInUse}
+use Rattle.ft_tree.specs.State.{TreeState}
 use Rattle.ft_rebase.proofs.normalisation.carry_leaves.Goals as goal
 
 pub loop-next-init : goal.loop-next-init
@@ -32,9 +33,9 @@ loop-next-preserved g c =
       done = carries_stage k xs now c.next_pending-next.result c.in_ok-carry_stage.ensures.leaves c.next_pending-next.ensures
           (λ j h. c.loop-next.invariant.done j (subst (IsBelow j) (sym c.in-Some.is) h));
       refs = λ r. c.in_ok-carry_stage.ensures.refs r ∙ c.loop-next.invariant.refs r;
-      rest = rest_more c.loop-next.invariant.rest c.in_ok-carry_stage.ensures.rest;
-      made = c.in_ok-carry_stage.ensures.made ∙ c.loop-next.invariant.made;
-      usable = c.in_ok-carry_stage.ensures.usable;
+      rest = rest_more c.loop-next.invariant.rest c.in_ok-carry_stage.ensures.stays.rest;
+      made = c.in_ok-carry_stage.ensures.stays.made ∙ c.loop-next.invariant.made;
+      usable = c.in_ok-carry_stage.ensures.stays.usable;
     }
 
 pub returns : goal.returns
@@ -45,7 +46,9 @@ returns g c =
           ∙ sym (all_carried c.loop-next.tree.leaves (λ j. c.loop-next.invariant.done j (subst (IsBelow j) (sym c.in_default.is) tt)))
           ∙ c.loop-next.invariant.leaves;
       refs = λ r. ap (λ (s : TreeState g.row.C.Denot). reference_at s.refs r) same ∙ c.loop-next.invariant.refs r;
-      rest = subst (KeepsRest c.args.tree.now) (sym same) c.loop-next.invariant.rest;
-      made = ap (λ (s : TreeState g.row.C.Denot). s.made) same ∙ c.loop-next.invariant.made;
-      usable = ap (λ (s : TreeState g.row.C.Denot). s.usable) same ∙ c.loop-next.invariant.usable;
+      stays = subst (StaysInUse c.args.tree.now) (sym same) (record {
+        rest = c.loop-next.invariant.rest;
+        made = c.loop-next.invariant.made;
+        usable = c.loop-next.invariant.usable;
+      });
     }

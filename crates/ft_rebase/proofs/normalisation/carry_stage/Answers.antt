@@ -43,9 +43,9 @@ loop-leaf-preserved g c =
           c.loop-leaf-test.true c.leaf-item.is made c.loop-leaf.invariant.leaves;
       nodes = ap ids made ∙ ids-change carried_leaf was c.leaf-item.result ∙ c.loop-leaf.invariant.nodes;
       refs = λ r. c.in_ok-carry_leaf.ensures.refs r ∙ c.loop-leaf.invariant.refs r;
-      rest = rest_more c.loop-leaf.invariant.rest c.in_ok-carry_leaf.ensures.rest;
-      made = c.in_ok-carry_leaf.ensures.made ∙ c.loop-leaf.invariant.made;
-      usable = c.in_ok-carry_leaf.ensures.usable;
+      rest = rest_more c.loop-leaf.invariant.rest c.in_ok-carry_leaf.ensures.stays.rest;
+      made = c.in_ok-carry_leaf.ensures.stays.made ∙ c.loop-leaf.invariant.made;
+      usable = c.in_ok-carry_leaf.ensures.stays.usable;
     }
 
 pub returns : goal.returns
@@ -55,7 +55,9 @@ returns g c = record {
       (drop_all c.loop-leaf.leaf-index c.deref-leaf-items.result.now c.loop-leaf-test.false))
       ∙ c.loop-leaf.invariant.leaves;
   refs = c.loop-leaf.invariant.refs;
-  rest = c.loop-leaf.invariant.rest;
-  made = c.loop-leaf.invariant.made;
-  usable = c.loop-leaf.invariant.usable;
+  stays = record {
+    rest = c.loop-leaf.invariant.rest;
+    made = c.loop-leaf.invariant.made;
+    usable = c.loop-leaf.invariant.usable;
+  };
 }
