@@ -45,74 +45,6 @@ fn may_be_made(tree: &Tree<TextContent>, count: u64, at: Perspective) -> bool
     at.r >= tree.floor() && count <= tree.length(LenView::At(at))
 }
 
-// Puts in what a message puts in.
-fn insert<G: Ledger>(
-    alloc: Global,
-    tree: &mut Tree<TextContent>,
-    edit: &Edit,
-    steps: &mut Steps<G>,
-) -> Result<bool, StepFault>
-    requires { IsTrue tree.old.usable }
-    ensures { OnOk result (Passes tree.old tree.new) }
-{
-    if !may_be_made(tree, edit.p, edit.at) {
-        return Ok(false);
-    }
-    hear(alloc, tree, edit.p, edit.text, edit.seq, edit.at, steps)?;
-    Ok(true)
-}
-
-// Puts in what the client puts in.
-fn put<G: Ledger>(
-    alloc: Global,
-    tree: &mut Tree<TextContent>,
-    edit: &Edit,
-    stage: u64,
-    steps: &mut Steps<G>,
-) -> Result<bool, StepFault>
-    requires { IsTrue tree.old.usable }
-    ensures { OnOk result (Passes tree.old tree.new) }
-{
-    if edit.p > tree.length(LOCAL) {
-        return Ok(false);
-    }
-    write(alloc, tree, edit.p, edit.text, stage, steps)?;
-    Ok(true)
-}
-
-// Removes what a message removes.
-fn remove<G: Ledger>(
-    tree: &mut Tree<TextContent>,
-    edit: &Edit,
-    steps: &mut Steps<G>,
-) -> Result<bool, StepFault>
-    requires { IsTrue tree.old.usable }
-    ensures { OnOk result (Passes tree.old tree.new) }
-{
-    if edit.p > edit.q || !may_be_made(tree, edit.q, edit.at) {
-        return Ok(false);
-    }
-    strike(tree, edit.p, edit.q, edit.seq, edit.at, steps)?;
-    Ok(true)
-}
-
-// Removes what the client removes.
-fn take_out<G: Ledger>(
-    tree: &mut Tree<TextContent>,
-    edit: &Edit,
-    stage: u64,
-    steps: &mut Steps<G>,
-) -> Result<bool, StepFault>
-    requires { IsTrue tree.old.usable }
-    ensures { OnOk result (Passes tree.old tree.new) }
-{
-    if edit.p > edit.q || edit.q > tree.length(LOCAL) {
-        return Ok(false);
-    }
-    erase(tree, edit.p, edit.q, stage, steps)?;
-    Ok(true)
-}
-
 // Makes the edit, of that stage if it is the client's own, and tells whether it can be made.
 fn make<G: Ledger>(
     alloc: Global,
@@ -142,11 +74,32 @@ fn make_counted<G: Ledger>(
     ensures { OnOk result (Passes tree.old tree.new) }
 {
     match edit.kind {
-        Kind::Insert => insert(alloc, tree, edit, steps),
-        Kind::Write => put(alloc, tree, edit, stage, steps),
-        Kind::Remove => remove(tree, edit, steps),
-        Kind::Erase => take_out(tree, edit, stage, steps),
+        Kind::Insert => {
+            if !may_be_made(tree, edit.p, edit.at) {
+                return Ok(false);
+            }
+            hear(alloc, tree, edit.p, edit.text, edit.seq, edit.at, steps)?;
+        }
+        Kind::Write => {
+            if edit.p > tree.length(LOCAL) {
+                return Ok(false);
+            }
+            write(alloc, tree, edit.p, edit.text, stage, steps)?;
+        }
+        Kind::Remove => {
+            if edit.p > edit.q || !may_be_made(tree, edit.q, edit.at) {
+                return Ok(false);
+            }
+            strike(tree, edit.p, edit.q, edit.seq, edit.at, steps)?;
+        }
+        Kind::Erase => {
+            if edit.p > edit.q || edit.q > tree.length(LOCAL) {
+                return Ok(false);
+            }
+            erase(tree, edit.p, edit.q, stage, steps)?;
+        }
     }
+    Ok(true)
 }
 
 /// Makes an edit, of the next stage if it is the client's own, and tells whether it can be made.
