@@ -10,15 +10,9 @@
 mod trees;
 mod units;
 
-use anyhow::{Context, Error};
+use anyhow::Error;
+use ft_tests_steps::number;
 use std::env;
-
-// The number that the word is.
-fn number(word: Option<String>) -> Result<u32, Error> {
-    let word = word.context("too few numbers")?;
-    let number = word.parse().context("a word is no number")?;
-    Ok(number)
-}
 
 fn main(rt: HostRuntime) -> Result<(), Error> {
     let mut words = env::args(&rt)?.skip(1);

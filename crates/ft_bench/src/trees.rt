@@ -7,6 +7,7 @@ use crate::units::Unit;
 use ft_arena::NodeId;
 use ft_base::{OutOfMemory, Perspective, Steps};
 use ft_block::{Blocks, LenView};
+use ft_tests_steps::{Numbers, sender};
 use std::alloc::Global;
 use std::marker::Brand;
 use std::sync::ledger::{Blank, Ledger};
@@ -21,38 +22,6 @@ pub struct Answer {
     pub found: u32,
     /// How many leaves were taken out.
     pub taken: u32,
-}
-
-/// The numbers of Lehmer's generator with the factor 48,271, one after another.
-#[derive(Drop)]
-struct Numbers {
-    last: u64,
-    ghost small: { last < 2147483647 },
-}
-
-impl Numbers {
-    fn new() -> Numbers {
-        Numbers { last: 1 }
-    }
-
-    fn next(&mut self) -> u64 {
-        self.last = self.last * 48271 % 2147483647;
-        self.last
-    }
-}
-
-/// How many connections take turns.
-const CONNECTIONS: u64 = 8;
-
-// The perspective of the n-th message's sender, who had seen all before it but some of the window.
-fn sender(n: u64, window: u32) -> Perspective
-    requires { 1 ≤ window }
-    ensures { n ≤ result.r + window }
-{
-    Perspective {
-        r: n.saturating_sub(n % u64::from(window)),
-        c: (n % CONNECTIONS) as u32 + 1,
-    }
 }
 
 // The leaf that holds the place, if it is not the head.
@@ -84,12 +53,12 @@ fn filled<G: Ledger>(
     ensures floor { IfOk result (λ blocks. blocks.floor ≤ leaves - window) }
 {
     let mut blocks = Blocks::new(alloc);
-    let mut numbers = Numbers::new();
+    let mut numbers = Numbers::after(1);
     for n in 0..leaves {
         // What holds of the leaves at any time is read off its contract.
         let _first = blocks.first();
         let n = u64::from(n);
-        let at = sender(n, window);
+        let at = sender(n, window, 1);
         let p = numbers.next() % (n + 1);
         let after = leaf_with(&blocks, p, at, steps);
         blocks.insert_after(after, Unit::new(alloc, n + 1, at.c))?;
@@ -111,7 +80,7 @@ fn found_among<G: Ledger>(
     requires floor { blocks.now.floor ≤ leaves - window }
     ensures { result ≤ finds }
 {
-    let mut numbers = Numbers::new();
+    let mut numbers = Numbers::after(1);
     let mut found = 0;
     for _i in 0..finds {
         let r = u64::from(leaves).saturating_sub(numbers.next() % u64::from(window));
@@ -134,7 +103,7 @@ fn taken_from<G: Ledger>(
     requires floor { blocks.old.floor ≤ leaves }
     ensures { OnOk result (IsTrue blocks.new.usable) }
 {
-    let mut numbers = Numbers::new();
+    let mut numbers = Numbers::after(1);
     let mut taken = 0;
     for n in 0..takes.min(leaves) {
         let p = numbers.next() % u64::from(leaves - n) + 1;

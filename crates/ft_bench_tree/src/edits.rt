@@ -8,7 +8,7 @@ use ft_base::{Perspective, Steps};
 use ft_block::LenView;
 use ft_rebase::regenerate;
 use ft_tests_steps::texts::{acknowledge, hear, strike, write};
-use ft_tests_steps::{Numbers, StepFault};
+use ft_tests_steps::{Numbers, StepFault, sender};
 use ft_tree::{TextContent, Tree};
 use std::alloc::Global;
 use std::marker::Brand;
@@ -48,22 +48,8 @@ pub struct Answer {
     pub shown: u64,
 }
 
-/// How many connections take turns.
-const CONNECTIONS: u64 = 8;
-
 // The view of the client.
 const LOCAL: LenView = LenView::Stage(u64::MAX);
-
-// The perspective of the n-th message's sender, who had seen all before it but some of the window.
-fn sender(n: u64, window: u32) -> Perspective
-    requires { 1 ≤ window }
-    ensures { n ≤ result.r + window }
-{
-    Perspective {
-        r: n.saturating_sub(n % u64::from(window)),
-        c: (n % CONNECTIONS) as u32 + 2,
-    }
-}
 
 // So many elements, each put in at a pseudo-random place.
 fn filled<G: Ledger>(
@@ -81,7 +67,7 @@ fn filled<G: Ledger>(
     let mut tree = Tree::new(alloc);
     for n in 0..elements {
         let n = u64::from(n);
-        let at = sender(n, window);
+        let at = sender(n, window, 2);
         let p = numbers.next_up_to(tree.length(LenView::At(at)));
         hear(alloc, &mut tree, p, "x", n + 1, at, steps)?;
         tree.raise_floor((n + 1).saturating_sub(u64::from(window)));

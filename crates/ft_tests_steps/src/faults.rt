@@ -15,6 +15,8 @@ pub enum StepFault {
     TooLarge,
     /// The position is above the length seen.
     OutOfRange,
+    /// A word is missing, or is no number.
+    NoNumber,
     /// There is no memory.
     OutOfMemory,
 }
@@ -28,6 +30,7 @@ impl fmt::Display for StepFault {
                 StepFault::NotARun => "not a run",
                 StepFault::TooLarge => "too large",
                 StepFault::OutOfRange => "out of range",
+                StepFault::NoNumber => "a word is missing, or is no number",
                 StepFault::OutOfMemory => "out of memory",
             }
         )

@@ -6,4 +6,4 @@ pub mod numbers;
 pub mod texts;
 
 pub use faults::StepFault;
-pub use numbers::Numbers;
+pub use numbers::{Numbers, number, sender};
