@@ -13,3 +13,4 @@ pub mod CompactedSteps
 pub mod RebuiltSteps
 pub mod PieceSteps
 pub mod LeafWalks
+pub mod SameStamps

@@ -1,4 +1,6 @@
 //! Lists of a merge tree's elements, which are known by their place, beside the document's lists, whose elements are known by their
-//! name: lemmas alone, of any content. Each step of a tree is that of the document's list, and it is told where the element of
-//! each name stands afterwards.
+//! name: lemmas of any content. Each step of a tree is that of the document's list, and it is told where the element of each name
+//! stands afterwards. And the stamps of elements as marks of a summary, and back.
 #![tactic(auto)]
+
+pub mod marks;
