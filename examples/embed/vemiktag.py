@@ -42,16 +42,37 @@ class _Held(ctypes.Structure):
     _fields_ = [("at", ctypes.c_void_p), ("open", ctypes.c_bool)]
 
 
-_session, _count, _size = ctypes.POINTER(_Held), ctypes.POINTER(ctypes.c_size_t), ctypes.c_size_t
-for _name, _takes in [
-    ("new", [_session]),
-    ("line", [_session, ctypes.c_char_p, _size, _count]),
-    ("close", [_session, _count]),
-    ("read", [_session, ctypes.c_char_p, _size, _count]),
-    ("free", [_session]),
-]:
-    _call = getattr(_lib, "vemiktag_session_" + _name)
-    _call.restype, _call.argtypes = ctypes.c_uint32, _takes
+_handle, _count, _size = ctypes.POINTER(_Held), ctypes.POINTER(ctypes.c_size_t), ctypes.c_size_t
+_given = [ctypes.c_char_p, _size]
+
+
+def _declare(kind, calls):
+    """Declares the calls on a handle of this kind, each with what it takes behind the handle."""
+    for name, takes in calls.items():
+        call = getattr(_lib, f"vemiktag_{kind}_{name}")
+        call.restype, call.argtypes = ctypes.c_uint32, [_handle, *takes]
+
+
+_declare(
+    "session",
+    {"new": [], "line": [*_given, _count], "close": [_count], "read": [*_given, _count], "free": []},
+)
+_declare(
+    "client",
+    {
+        "new": [],
+        "load": _given,
+        "connect": _given,
+        "drop": [],
+        "edit": _given,
+        "process": _given,
+        "outgoing": [],
+        "view": [],
+        "waiting": [_count],
+        "read": [*_given, _count],
+        "free": [],
+    },
+)
 
 
 class Session:
@@ -105,23 +126,6 @@ class Session:
         return status
 
 
-for _name, _takes in [
-    ("new", [_session]),
-    ("load", [_session, ctypes.c_char_p, _size]),
-    ("connect", [_session, ctypes.c_char_p, _size]),
-    ("drop", [_session]),
-    ("edit", [_session, ctypes.c_char_p, _size]),
-    ("process", [_session, ctypes.c_char_p, _size]),
-    ("outgoing", [_session]),
-    ("view", [_session]),
-    ("waiting", [_session, _count]),
-    ("read", [_session, ctypes.c_char_p, _size, _count]),
-    ("free", [_session]),
-]:
-    _call = getattr(_lib, "vemiktag_client_" + _name)
-    _call.restype, _call.argtypes = ctypes.c_uint32, _takes
-
-
 class Client:
     """One editor's copy of the document. It may be used by one thread, and by one call at a time.
 
@@ -135,6 +139,12 @@ class Client:
         self._call("new")
         if summary is not None:
             self._call("load", summary)
+
+    def __enter__(self):
+        return self
+
+    def __exit__(self, *_):
+        self.free()
 
     def connect(self, name):
         """Waits for the join of the connection of this name, a new one. It is online once it has processed the join."""
