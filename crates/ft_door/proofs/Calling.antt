@@ -1,51 +1,56 @@
 -- What a held client is told of its calls.
-use Rattle.std.proofs.Common.{◌≡◌, ℕ, List, [], ◌∷◌, ◌++◌, Some, None, drop, refl, sym, ◌∙◌, ap, subst, append-nil, arith}
+use Rattle.std.proofs.Common.{◌≡◌, ℕ, Bool, List, [], ◌∷◌, ◌++◌, Some, None, drop, refl, sym, ◌∙◌, ap, subst, append-nil, arith}
 use Rattle.ft_msg.specs.declared.messages.Draft.{Draft}
 use Rattle.ft_seqr.specs.declared.refusals.Refusal.{Refusal}
 use Rattle.ft_seqr.specs.Walk.{Step}
 use Rattle.ft_replay.specs.LineForm.{bytes_of}
-use Rattle.ft_door.specs.declared.calls.Told.TheVariants.{Refused, Taken}
+use Rattle.ft_door.specs.declared.calls.Told.TheVariants.{Full, Refused, Taken}
 use Rattle.ft_door.specs.declared.clients.HeldClient.{HeldClient}
 use Rattle.ft_door.specs.Clients.{CallsClient, GoesOn, SendsDraft, ShowsClient, call_bytes, call_number, refusal_bytes, unread_by}
 use Rattle.ft_door.specs.Editors.{EditorState, IsEditor, NaiveEditor, TellsStep, draft_bytes, oldest_bytes, shown_lines, with_queue}
 
 module _ {R : Type 0} (run : HeldClient R) (s t : EditorState) where
   -- a call was taken
-  pub call-taken : (step : NaiveEditor → Step NaiveEditor) → TellsStep Taken s t step → CallsClient step (record run { client = Some s }) (record run { client = Some t }) 0
-  call-taken step tells = record {
+  pub call-taken : (step : NaiveEditor → Step NaiveEditor) (exceeds : NaiveEditor → Bool) → TellsStep Taken s t step exceeds
+      → CallsClient step exceeds (record run { client = Some s }) (record run { client = Some t }) 0
+  call-taken step exceeds tells = record {
     client = λ x low h. (tells x h).1;
     told = λ x low h. ap call_number (sym (tells x h).0);
     written = λ x low h. sym (append-nil (unread_by run)) ∙ ap (λ refusal. unread_by run ++ call_bytes refusal) (sym (tells x h).0);
     ended = λ is. absurd (cc);
     kept = λ is. absurd (cc);
     same = λ large. absurd (omega (arith, large));
+    full = λ x is. absurd (cc);
     closed = λ is. absurd (cc);
     known = refl;
   }
 
   -- it was refused, and why is written
-  pub call-refused : (new : HeldClient R) (step : NaiveEditor → Step NaiveEditor) (why : Refusal) → new.client ≡ Some t → unread_by new ≡ unread_by run ++ refusal_bytes why
-      → TellsStep (Refused why) s t step → CallsClient step (record run { client = Some s }) new 1
-  call-refused new step why is written tells = record {
+  pub call-refused : (new : HeldClient R) (step : NaiveEditor → Step NaiveEditor) (exceeds : NaiveEditor → Bool) (why : Refusal) → new.client ≡ Some t
+      → unread_by new ≡ unread_by run ++ refusal_bytes why → TellsStep (Refused why) s t step exceeds → CallsClient step exceeds (record run { client = Some s }) new 1
+  call-refused new step exceeds why is written tells = record {
     client = λ x low h. subst (λ client. GoesOn client (step x).made) (sym is) (tells x h).1;
     told = λ x low h. ap call_number (sym (tells x h).0);
     written = λ x low h. written ∙ ap (λ refusal. unread_by run ++ call_bytes refusal) (sym (tells x h).0);
     ended = λ is. absurd (cc);
     kept = λ is. absurd (cc);
     same = λ large. absurd (omega (arith, large));
+    full = λ x is. absurd (cc);
     closed = λ is. absurd (cc);
     known = refl;
   }
 
-  -- a count would pass its greatest number
-  pub call-full : (step : NaiveEditor → Step NaiveEditor) → t ≡ s → CallsClient step (record run { client = Some s }) (record run { client = Some t }) 6
-  call-full step same = record {
+  -- it was too much
+  pub call-full : (step : NaiveEditor → Step NaiveEditor) (exceeds : NaiveEditor → Bool) → TellsStep Full s t step exceeds
+      → CallsClient step exceeds (record run { client = Some s }) (record run { client = Some t }) 6
+  call-full step exceeds tells = record {
     client = λ x low. absurd (omega (arith, low));
     told = λ x low. absurd (omega (arith, low));
     written = λ x low. absurd (omega (arith, low));
     ended = λ is. absurd (cc);
     kept = λ is. absurd (cc);
-    same = λ large. ap (λ (c : EditorState). record run { client = Some c }) same;
+    same = λ large. ap (λ (c : EditorState). record run { client = Some c }) tells.0;
+    full = λ x six h. tells.1 x h;
     closed = λ is. absurd (cc);
     known = refl;
   }
@@ -77,15 +82,16 @@ module _ {R : Type 0} (run : HeldClient R) (s t : EditorState) where
           )
 
 -- there was no memory for a call
-pub call-ended : {R : Type 0} (old new : HeldClient R) (step : NaiveEditor → Step NaiveEditor) → new.client ≡ None → unread_by new ≡ unread_by old
-    → CallsClient step old new 5
-call-ended old new step is same = record {
+pub call-ended : {R : Type 0} (old new : HeldClient R) (step : NaiveEditor → Step NaiveEditor) (exceeds : NaiveEditor → Bool) → new.client ≡ None → unread_by new ≡ unread_by old
+    → CallsClient step exceeds old new 5
+call-ended old new step exceeds is same = record {
   client = λ x low. absurd (omega (arith, low));
   told = λ x low. absurd (omega (arith, low));
   written = λ x low. absurd (omega (arith, low));
   ended = λ five. is;
   kept = λ five. same;
   same = λ large. absurd (omega (arith, large));
+  full = λ x is. absurd (cc);
   closed = λ is. absurd (cc);
   known = refl;
 }

@@ -1,5 +1,7 @@
 -- What an editor is told of its calls, and for which one it stands then.
-use Rattle.std.proofs.Common.{chars, if◌then◌else◌, ◌≡◌, ℕ, ◌+◌, ◌*◌, ◌≤◌, Bool, true, false, cond, not, ◌&&◌, List, [], ◌∷◌, Option, Some, None, Result, Ok, Err, drop, length, map, max, option_map, suc, slice_get, refl, sym, ◌∙◌, ap, subst, arith}
+use Rattle.std.proofs.Common.{chars, if◌then◌else◌, ◌≡◌, ℕ, ◌+◌, ◌*◌, ◌<◌, ◌≤◌, Bool, true, false, cond, not, ◌&&◌, IsTrue, nat_le, List, [], ◌∷◌, Option, Some, None, Result, Ok, Err, drop, length, map, max, option_map, suc, slice_get, refl, sym, ◌∙◌, ap, subst, arith}
+use Rattle.std.proofs.lemmas.Bool.{lt-ltb, le-leb, or_left, or_right}
+use Rattle.std.proofs.lemmas.Bool.Decides.{nat_tests}
 use Rattle.std.proofs.lemmas.Str.{IsUtf8-from_is_utf8, is_utf8-from_IsUtf8}
 use Rattle.std.specs.Str.{IsUtf8, is_utf8}
 use Rattle.ft_base.specs.Scan.{len}
@@ -14,6 +16,7 @@ use Rattle.ft_msg.specs.declared.faults.Cause.TheVariants.{NotUtf8}
 use Rattle.ft_msg.specs.declared.faults.EditFault.{EditFault}
 use Rattle.ft_msg.specs.declared.faults.LinkFault.{LinkFault}
 use Rattle.ft_msg.specs.declared.faults.ProcessFault.{ProcessFault}
+use Rattle.ft_msg.specs.declared.messages.Body.{Body}
 use Rattle.ft_msg.specs.declared.messages.Draft.{Draft}
 use Rattle.ft_msg.specs.declared.messages.Entry.{Entry}
 use Rattle.ft_msg.specs.declared.messages.Message.{Message}
@@ -42,28 +45,31 @@ use Rattle.ft_replay.specs.Observation.{names_with, numbered_entry}
 use Rattle.ft_session.specs.Outputs.{IsViewOf}
 use Rattle.ft_door.specs.declared.calls.Told.{Told}
 use Rattle.ft_door.specs.declared.calls.Told.TheVariants.{Full, Refused, Taken}
-use Rattle.ft_door.specs.Editors.{EditorState, AnswersStep, IsEditor, IsSomeEditor, NaiveEditor, TellsStep, as_client, connect_as, connect_line, drop_answer, drop_step, dropped_unless, edit_answer, edited, editor_of, entry_answer, is_awaited, is_free, is_join, is_offline, is_sender, joining_as, load_limit, load_of, message_answer, new_editor, no_name, oldest_bytes, or_same, order_fault, shown_link, start_load, take_entry, is_awaited_by, message_refusal, take_message, take_next, told_of, waits_after, draft_bytes}
+use Rattle.ft_door.specs.Editors.{EditorState, AnswersStep, IsEditor, IsSomeEditor, NaiveEditor, TellsStep, as_client, connect_as, connect_line, drop_answer, drop_step, dropped_unless, edit_answer, edit_exceeds, edited, editor_of, entry_answer, is_awaited, is_free, is_join, is_offline, is_sender, joining_as, load_exceeds, load_limit, load_of, load_reading, load_reading_exceeds, message_answer, message_answer_exceeds, message_exceeds, name_limit, never_exceeds, new_editor, next_exceeds, no_name, oldest_bytes, or_same, order_fault, shown_link, start_load, take_entry, is_awaited_by, message_refusal, take_message, take_next, told_of, waits_after, draft_bytes}
 use Rattle.ft_door.specs.Editors as editors
 use Rattle.ft_door.proofs.GivenSteps.{runs-queued}
 
 -- ---- what is told of a step
 
 -- it stands for some editor behind it
-pub still-some : (told : Told) (old new : EditorState) (step : NaiveEditor → Step NaiveEditor) → TellsStep told old new step → IsSomeEditor old → IsSomeEditor new
-still-some Taken old new step t some = ((step some.0).made, (t some.0 some.1).1)
-still-some (Refused why) old new step t some = ((step some.0).made, (t some.0 some.1).1)
-still-some Full old new step t some = subst IsSomeEditor (sym t) some
+pub still-some : (told : Told) (old new : EditorState) (step : NaiveEditor → Step NaiveEditor) (exceeds : NaiveEditor → Bool) → TellsStep told old new step exceeds
+    → IsSomeEditor old → IsSomeEditor new
+still-some Taken old new step exceeds t some = ((step some.0).made, (t some.0 some.1).1)
+still-some (Refused why) old new step exceeds t some = ((step some.0).made, (t some.0 some.1).1)
+still-some Full old new step exceeds t some = subst IsSomeEditor (sym t.0) some
 
--- what is told of one step is told of another that is the same
-pub step-same : (told : Told) (old new : EditorState) (step other : NaiveEditor → Step NaiveEditor) → ((x : NaiveEditor) → IsEditor old x → step x ≡ other x)
-    → TellsStep told old new step → TellsStep told old new other
-step-same Taken old new step other same t = λ x h. subst (λ (s : Step NaiveEditor). (s.refusal ≡ None) × IsEditor new s.made) (same x h) (t x h)
-step-same (Refused why) old new step other same t = λ x h. subst (λ (s : Step NaiveEditor). (s.refusal ≡ Some why) × IsEditor new s.made) (same x h) (t x h)
-step-same Full old new step other same t = t
+-- what is told of one step is told of another that is the same, and is too much where that is
+pub step-same : (told : Told) (old new : EditorState) (step other : NaiveEditor → Step NaiveEditor) (exceeds beyond : NaiveEditor → Bool)
+    → ((x : NaiveEditor) → IsEditor old x → step x ≡ other x) → ((x : NaiveEditor) → IsEditor old x → exceeds x ≡ beyond x)
+    → TellsStep told old new step exceeds → TellsStep told old new other beyond
+step-same Taken old new step other exceeds beyond same both t = λ x h. subst (λ (s : Step NaiveEditor). (s.refusal ≡ None) × IsEditor new s.made) (same x h) (t x h)
+step-same (Refused why) old new step other exceeds beyond same both t = λ x h.
+    subst (λ (s : Step NaiveEditor). (s.refusal ≡ Some why) × IsEditor new s.made) (same x h) (t x h)
+step-same Full old new step other exceeds beyond same both t = (t.0, λ x h. sym (both x h) ∙ t.1 x h)
 
 -- it is refused, and changes nothing
 pub refused-told : (why : Refusal) (s : EditorState) (step : NaiveEditor → Step NaiveEditor) → ((x : NaiveEditor) → IsEditor s x → step x ≡ refuses x why)
-    → TellsStep (Refused why) s s step
+    → TellsStep (Refused why) s s step never_exceeds
 refused-told why s step is = λ x h. subst (λ (t : Step NaiveEditor). (t.refusal ≡ Some why) × IsEditor s t.made) (sym (is x h)) (refl, h)
 
 -- another replica that is as it was
@@ -85,11 +91,11 @@ editor-reached s x h = alone-reached x.load x.client h.made
 abbrev pub state_of : ReplicaState → List Characters → Characters → Bool → ℕ → EditorState
 state_of replica names name waits load = record { replica = replica; names = names; name = name; waits = waits; load = load }
 
-pub told-as : (told other : Told) (old was new is : EditorState) (step : NaiveEditor → Step NaiveEditor) → told ≡ other → was ≡ old → new ≡ is → TellsStep other was is step
-    → TellsStep told old new step
-told-as told other old was new is step a b c t =
-    subst (λ (o : EditorState). TellsStep told o new step) b
-    (subst (λ (n : EditorState). TellsStep told was n step) (sym c) (subst (λ (k : Told). TellsStep k was is step) (sym a) t))
+pub told-as : (told other : Told) (old was new is : EditorState) (step : NaiveEditor → Step NaiveEditor) (exceeds : NaiveEditor → Bool) → told ≡ other → was ≡ old → new ≡ is
+    → TellsStep other was is step exceeds → TellsStep told old new step exceeds
+told-as told other old was new is step exceeds a b c t =
+    subst (λ (o : EditorState). TellsStep told o new step exceeds) b
+    (subst (λ (n : EditorState). TellsStep told was n step exceeds) (sym c) (subst (λ (k : Told). TellsStep k was is step exceeds) (sym a) t))
 
 pub editor-as : (s t : EditorState) (x : NaiveEditor) → s ≡ t → IsEditor t x → IsEditor s x
 editor-as s t x is h = subst (λ (o : EditorState). IsEditor o x) (sym is) h
@@ -97,10 +103,10 @@ editor-as s t x is h = subst (λ (o : EditorState). IsEditor o x) (sym is) h
 -- ---- an edit
 
 module _ (s : EditorState) (r : ReplicaState) (op : ChannelOp) (after : ℕ) (formed : IsWellFormed op) (sum : after ≡ s.load + (1 + op_load op)) (low : after ≤ load_limit) where
-  pub edit-told : (refusal : Option Refusal)
+  pub edit-told : (exceeds : NaiveEditor → Bool) (refusal : Option Refusal)
       → ((x : NaiveClient) → IsReached x → RunsFor s.replica x → AnswersStep refusal_of_edit s.replica r (local_edit x op) refusal)
-      → TellsStep (told_of refusal) s (record s { replica = r; load = load_of refusal s.load after }) (λ x. edited x op)
-  edit-told None give = λ x h.
+      → TellsStep (told_of refusal) s (record s { replica = r; load = load_of refusal s.load after }) (λ x. edited x op) exceeds
+  edit-told exceeds None give = λ x h.
       let (y, e, runs) = give x.client (editor-reached s x h) h.runs in
       let load = h.load in
       subst (λ (a : Result NaiveClient EditFault). ((edit_answer x op a).refusal ≡ None) × IsEditor (record s { replica = r; load = after }) (edit_answer x op a).made) (sym e) (
@@ -115,7 +121,7 @@ module _ (s : EditorState) (r : ReplicaState) (op : ChannelOp) (after : ℕ) (fo
           load = omega (arith, load, sum);
         },
       )
-  edit-told (Some why) give = λ x h.
+  edit-told exceeds (Some why) give = λ x h.
       let (fault, e, is, same) = give x.client (editor-reached s x h) h.runs in
       subst (λ (a : Result NaiveClient EditFault). ((edit_answer x op a).refusal ≡ Some why) × IsEditor (record s { replica = r }) (edit_answer x op a).made) (sym e)
       (ap Some (sym is), same-editor s r x same h)
@@ -148,11 +154,11 @@ module _ (s : EditorState) (names : List Characters) (r : ReplicaState) (m : Mes
   names-after : (x : NaiveEditor) → IsEditor s x → names ≡ names_with x.names m.client_id
   names-after x h = named ∙ ap (λ (ns : List Characters). names_with ns m.client_id) h.names
 
-  entry-at : (refusal : Option Refusal)
+  entry-at : (exceeds : NaiveEditor → Bool) (refusal : Option Refusal)
       → ((x : NaiveClient) → IsReached x → RunsFor s.replica x
       → AnswersStep (refusal_of_process m.seq) s.replica r (process (joining_as joins (entry_of s).origin x) (entry_of s)) refusal)
-      → TellsStep (told_of refusal) s (state_after refusal) step_at
-  entry-at None give = λ x h.
+      → TellsStep (told_of refusal) s (state_after refusal) step_at exceeds
+  entry-at exceeds None give = λ x h.
       let (y, e, runs) = give x.client (editor-reached s x h) h.runs in
       let load = h.load in
       let at : NaiveEditor = record x { names = names_with x.names m.client_id } in
@@ -173,7 +179,7 @@ module _ (s : EditorState) (names : List Characters) (r : ReplicaState) (m : Mes
           load = omega (arith, load, sum);
         },
       )
-  entry-at (Some why) give = λ x h.
+  entry-at exceeds (Some why) give = λ x h.
       let (fault, e, is, replica) = give x.client (editor-reached s x h) h.runs in
       let at : NaiveEditor = record x { names = names_with x.names m.client_id } in
       let same = ap (λ (ns : List Characters). numbered_entry ns m) h.names in
@@ -193,29 +199,30 @@ module _ (s : EditorState) (names : List Characters) (r : ReplicaState) (m : Mes
         },
       )
 
-  pub entry-told : joins ≡ (s.waits && (is_join m.kind && is_sender s.name m.client_id)) → (refusal : Option Refusal)
+  pub entry-told : joins ≡ (s.waits && (is_join m.kind && is_sender s.name m.client_id)) → (exceeds : NaiveEditor → Bool) (refusal : Option Refusal)
       → ((x : NaiveClient) → IsReached x → RunsFor s.replica x
       → AnswersStep (refusal_of_process m.seq) s.replica r (process (joining_as joins (entry_of s).origin x) (entry_of s)) refusal)
-      → TellsStep (told_of refusal) s (state_after refusal) (λ x. take_next x m)
-  entry-told is refusal give =
-      step-same (told_of refusal) s (state_after refusal) step_at (λ x. take_next x m)
+      → TellsStep (told_of refusal) s (state_after refusal) (λ x. take_next x m) exceeds
+  entry-told is exceeds refusal give =
+      step-same (told_of refusal) s (state_after refusal) step_at (λ x. take_next x m) exceeds exceeds
       (λ x h. ap (λ b. take_entry (record x { names = names_with x.names m.client_id }) b (numbered_entry x.names m))
       (is ∙ ap (λ b. b && (is_join m.kind && is_sender s.name m.client_id)) h.waits ∙ ap (λ (n : Characters). x.waits && (is_join m.kind && is_sender n m.client_id)) h.name))
-      (entry-at refusal give)
+      (λ x h. refl) (entry-at exceeds refusal give)
 
 abbrev GivesEntry : ReplicaState → ReplicaState → Bool → Option Refusal → Entry → Type 0
 GivesEntry old new joins refusal entry =
     (x : NaiveClient) → IsReached x → RunsFor old x → AnswersStep (refusal_of_process entry.msg.seq) old new (process (joining_as joins entry.origin x) entry) refusal
 
 -- .. from the names with its sender on
-pub entry-taken : (s old : EditorState) (r : ReplicaState) (m : Message) (entry : Entry) (joins : Bool) (after : ℕ) (refusal : Option Refusal) → IsWellFormedMessage entry.msg
+pub entry-taken : (s old : EditorState) (r : ReplicaState) (m : Message) (entry : Entry) (joins : Bool) (after : ℕ) (exceeds : NaiveEditor → Bool) (refusal : Option Refusal)
+    → IsWellFormedMessage entry.msg
     → after ≤ load_limit → entry ≡ numbered_entry s.names m → old ≡ record s { names = names_with s.names m.client_id } → joins ≡ is_awaited_by s m
     → after ≡ s.load + (1 + body_load m.body) → GivesEntry old.replica r joins refusal entry
-    → TellsStep (told_of refusal) s (record old { replica = r; waits = waits_after refusal old.waits joins; load = load_of refusal old.load after }) (λ x. take_next x m)
-entry-taken s old r m entry joins after refusal formed low entry_is old_is is sum give =
+    → TellsStep (told_of refusal) s (record old { replica = r; waits = waits_after refusal old.waits joins; load = load_of refusal old.load after }) (λ x. take_next x m) exceeds
+entry-taken s old r m entry joins after exceeds refusal formed low entry_is old_is is sum give =
     subst (λ (o : EditorState). GivesEntry o.replica r joins refusal entry
-    → TellsStep (told_of refusal) s (record o { replica = r; waits = waits_after refusal o.waits joins; load = load_of refusal o.load after }) (λ x. take_next x m)) (sym old_is)
-    (λ given. entry-told s (names_with s.names m.client_id) r m joins after (subst (λ (e : Entry). IsWellFormedMessage e.msg) entry_is formed) sum low refl is refusal
+    → TellsStep (told_of refusal) s (record o { replica = r; waits = waits_after refusal o.waits joins; load = load_of refusal o.load after }) (λ x. take_next x m) exceeds) (sym old_is)
+    (λ given. entry-told s (names_with s.names m.client_id) r m joins after (subst (λ (e : Entry). IsWellFormedMessage e.msg) entry_is formed) sum low refl is exceeds refusal
     (subst (GivesEntry s.replica r joins refusal) entry_is given)) give
 
 -- its numbers are those of the editor for which it stands
@@ -244,6 +251,31 @@ message-next x m e = by (order_fault x.client.doc.number x.client.doc.minimum m)
     by None f = refl
     by (Some fault) f = absurd (cc)
 
+pub message-exceeds : (x : NaiveEditor) (m : Message) → None ≡ message_refusal x m → next_exceeds x m.body ≡ message_exceeds x m
+message-exceeds x m e = by (order_fault x.client.doc.number x.client.doc.minimum m) e
+  where
+    by : (o : Option ProcessFault) → None ≡ option_map (refusal_of_process m.seq) o → next_exceeds x m.body ≡ message_answer_exceeds x m o
+    by None f = refl
+    by (Some fault) f = absurd (cc)
+
+-- ---- what is too much
+
+-- the load would be
+pub load-full : (s : EditorState) (x : NaiveEditor) (more : ℕ) → load_limit < s.load + (1 + more) → IsEditor s x → IsTrue (load_exceeds x more)
+load-full s x more above h = let load = h.load in grind (arith, nat_tests)
+
+-- there are as many names as there may be
+pub names-full : (s : EditorState) (x : NaiveEditor) (body : Body) → name_limit ≤ length s.names → IsEditor s x → IsTrue (next_exceeds x body)
+names-full s x body many h =
+    let few : nat_le name_limit (length x.names) ≡ true = le-leb name_limit (length x.names) (subst (λ names. name_limit ≤ length names) h.names many) in
+    or_left (nat_le name_limit (length x.names)) (load_exceeds x (body_load body)) few
+
+pub message-full : (s : EditorState) (x : NaiveEditor) (body : Body) → load_limit < s.load + (1 + body_load body) → IsEditor s x → IsTrue (next_exceeds x body)
+message-full s x body above h = or_right (nat_le name_limit (length x.names)) (load_exceeds x (body_load body)) (load-full s x (body_load body) above h)
+
+pub edit-full : (s : EditorState) (op : ChannelOp) → load_limit < s.load + (1 + op_load op) → TellsStep Full s s (λ x. edited x op) (λ x. edit_exceeds x (Some op))
+edit-full s op above = (refl, λ x h. load-full s x (op_load op) above h)
+
 -- ---- connections
 
 -- whether it is free, by what its replica tells
@@ -253,7 +285,7 @@ free-same s x h =
 
 -- it waits for the join of a connection, or has or waits for one
 pub connect-told : (s : EditorState) (name : Characters) → not s.waits && is_offline s.replica.client.link ≡ true
-    → TellsStep Taken s (record s { name = name; waits = true }) (connect_as name)
+    → TellsStep Taken s (record s { name = name; waits = true }) (connect_as name) never_exceeds
 connect-told s name free = λ x h.
     subst (λ (t : Step NaiveEditor). (t.refusal ≡ None) × IsEditor (record s { name = name; waits = true }) t.made)
     (ap (λ b. cond b (passes (record x { name = name; waits = true })) (refuses x AlreadyConnected)) (sym free ∙ free-same s x h))
@@ -289,7 +321,7 @@ refused-waits false x fault e = refl
 
 pub drop-told : (s : EditorState) (r : ReplicaState) (refusal : Option Refusal)
     → ((x : NaiveClient) → IsReached x → RunsFor s.replica x → AnswersStep (λ (fault : LinkFault). NotConnected) s.replica r (dropped_unless s.waits x) refusal)
-    → TellsStep (told_of refusal) s (record s { replica = r; waits = false }) drop_step
+    → TellsStep (told_of refusal) s (record s { replica = r; waits = false }) drop_step never_exceeds
 drop-told s r None give = λ x h.
     let (y, e, runs) = give x.client (editor-reached s x h) h.runs in
     let taken : dropped_unless x.waits x.client ≡ Ok y = ap (λ b. dropped_unless b x.client) (sym h.waits) ∙ e in
@@ -357,15 +389,26 @@ start-paid sum =
     by : (n a b c p q o i j k : ℕ) → a ≡ i → b ≡ j → c ≡ k → n + (a + (b + c)) ≤ max (i + p) (max (j + q) (k + o)) * 3 + n
     by n a b c p q o i j k x y z = omega (arith, x, y, z)
 
+-- the load by the numbers of a replica that starts from it
+pub start-same : (sum : SumDoc) (r : ReplicaState) (numbers : Numbers) (conns : ℕ) → StartsOver r (doc_of sum) conns → numbers ≡ numbers_of r
+    → numbers.made * 3 + numbers.seq ≡ start_load (doc_of sum)
+start-same sum r numbers conns s is =
+    let doc = doc_of sum in
+    let number = (stands-link r.client (client_over doc) s.runs.client).number in
+    ap (λ (n : Numbers). n.made * 3 + n.seq) is ∙ ap (λ (h : HeldCounts). max h.text (max h.rows h.cols) * 3 + r.client.doc.number) s.held
+    ∙ ap (λ n. max (held_in doc).text (max (held_in doc).rows (held_in doc).cols) * 3 + n) number
+
+pub summary-full : (s : EditorState) (sum : SumDoc) (r : ReplicaState) (numbers : Numbers) (conns : ℕ) → StartsOver r (doc_of sum) conns → numbers ≡ numbers_of r
+    → load_limit < numbers.made * 3 + numbers.seq → TellsStep Full s s (λ x. load_reading x (Ok sum)) (λ x. load_reading_exceeds (Ok sum))
+summary-full s sum r numbers conns starts is above =
+    (refl, λ x h. lt-ltb load_limit (start_load (doc_of sum)) (subst (λ load. load_limit < load) (start-same sum r numbers conns starts is) above))
+
 pub summary-stands : (sum : SumDoc) (r : ReplicaState) (numbers : Numbers) (load conns : ℕ) → IsValidSummary sum → StartsOver r (doc_of sum) conns → numbers ≡ numbers_of r
     → load ≡ numbers.made * 3 + numbers.seq → load ≤ load_limit
     → IsEditor (record { replica = r; names = sum.conns; name = no_name; waits = false; load = load }) (editor_of sum)
 summary-stands sum r numbers load conns valid s is paid low =
     let doc = doc_of sum in
-    let number = (stands-link r.client (client_over doc) s.runs.client).number in
-    let same : load ≡ start_load doc =
-    paid ∙ ap (λ (n : Numbers). n.made * 3 + n.seq) is ∙ ap (λ (h : HeldCounts). max h.text (max h.rows h.cols) * 3 + r.client.doc.number) s.held
-    ∙ ap (λ n. max (held_in doc).text (max (held_in doc).rows (held_in doc).cols) * 3 + n) number in
+    let same : load ≡ start_load doc = paid ∙ start-same sum r numbers conns s is in
     record {
       runs = s.runs;
       made = alone-start (start_load doc) doc (from_summary valid) (start-paid sum);

@@ -1,5 +1,5 @@
 -- What is said of a client that is held between calls, and of what of the bytes that it wrote was read.
-use Rattle.std.specs.Prelude.{◌≡◌, ℕ, ◌<◌, ◌≤◌, ◌||◌, IsTrue, nat_eq, List, [], ◌∷◌, ◌++◌, codes, decimal, drop, take, length, Option, Some, None}
+use Rattle.std.specs.Prelude.{◌≡◌, ℕ, ◌<◌, ◌≤◌, ◌||◌, Bool, IsTrue, nat_eq, List, [], ◌∷◌, ◌++◌, codes, decimal, drop, take, length, Option, Some, None}
 use Rattle.ft_msg.specs.declared.messages.Draft.{Draft}
 use Rattle.ft_seqr.specs.declared.refusals.Refusal.{Refusal}
 use Rattle.ft_seqr.specs.Refusals.{refusal_number, refusal_text}
@@ -37,13 +37,14 @@ call_number None = 0
 call_number (Some why) = 1
 
 -- what a number tells of a call that is this step: it was taken, or refused, and then why is written; there was no memory, and the client is at
--- its end; a count would pass its greatest number, or it was at its end before, and nothing changed
-pub record CallsClient {R : Type 0} (step : NaiveEditor → Step NaiveEditor) (old new : HeldClient R) (status : ℕ) : Type 0 where
+-- its end; the call was too much, or the client was at its end before, and nothing changed
+pub record CallsClient {R : Type 0} (step : NaiveEditor → Step NaiveEditor) (exceeds : NaiveEditor → Bool) (old new : HeldClient R) (status : ℕ) : Type 0 where
   pub client : (x : NaiveEditor) → status ≤ 1 → GoesOn old.client x → GoesOn new.client (step x).made
   pub told : (x : NaiveEditor) → status ≤ 1 → GoesOn old.client x → status ≡ call_number (step x).refusal
   pub written : (x : NaiveEditor) → status ≤ 1 → GoesOn old.client x → unread_by new ≡ unread_by old ++ call_bytes (step x).refusal
   pub ended : status ≡ 5 → new.client ≡ None
   pub kept : status ≡ 5 → unread_by new ≡ unread_by old
+  pub full : (x : NaiveEditor) → status ≡ 6 → GoesOn old.client x → IsTrue (exceeds x)
   pub same : 6 ≤ status → new ≡ old
   pub closed : status ≡ 7 → old.client ≡ None
   pub known : IsTrue (nat_eq status 0 || (nat_eq status 1 || (nat_eq status 5 || (nat_eq status 6 || nat_eq status 7))))

@@ -1,5 +1,5 @@
 -- One client alone, whose messages go over a network of its own: what each call makes of it.
-use Rattle.std.specs.Prelude.{◌≡◌, ℕ, ◌+◌, ◌*◌, ◌≤◌, ◌^◌, Bool, true, false, cond, not, ◌&&◌, bytes_eq, nat_eq, max, List, [], ◌∷◌, Option, Some, None, option_map, Result, Ok, Err, chars, ⊤, if◌then◌else◌}
+use Rattle.std.specs.Prelude.{◌≡◌, ℕ, ◌+◌, ◌*◌, ◌-◌, ◌≤◌, ◌^◌, Bool, true, false, cond, not, ◌&&◌, ◌||◌, IsTrue, bytes_eq, nat_eq, nat_le, nat_lt, length, max, List, [], ◌∷◌, Option, Some, None, option_map, Result, Ok, Err, chars, ⊤, if◌then◌else◌}
 use Rattle.std.specs.Str.{is_utf8}
 use Rattle.serde_json.specs.Written.{compact_text}
 use Rattle.ft_props.specs.Properties.{Characters}
@@ -14,6 +14,7 @@ use Rattle.ft_msg.specs.declared.faults.EditFault.{EditFault}
 use Rattle.ft_msg.specs.declared.faults.LinkFault.{LinkFault}
 use Rattle.ft_msg.specs.declared.faults.ProcessFault.{ProcessFault}
 use Rattle.ft_msg.specs.declared.faults.ProcessFault.TheVariants.{OutOfOrder}
+use Rattle.ft_msg.specs.declared.messages.Body.{Body}
 use Rattle.ft_msg.specs.declared.messages.Draft.{Draft}
 use Rattle.ft_msg.specs.declared.messages.Entry.{Entry}
 use Rattle.ft_msg.specs.declared.messages.Message.{Message}
@@ -59,6 +60,10 @@ pub record NaiveEditor : Type 0 where
 abbrev pub load_limit : ℕ
 load_limit = 2 ^ 52
 
+-- the number of names from which on it takes no further message
+abbrev pub name_limit : ℕ
+name_limit = 2 ^ 32 - 1
+
 -- the name of a connection before the first one: an empty text
 abbrev pub no_name : Characters
 no_name = chars []
@@ -66,6 +71,16 @@ no_name = chars []
 -- a new one: an empty document, no connection
 abbrev pub new_editor : NaiveEditor
 new_editor = record { client = client_over empty; names = []; name = no_name; waits = false; load = 0 }
+
+-- ---- what is too much for it: it isn't taken then, and nothing changes
+
+-- a step that costs one and so much more brings it beyond the greatest load
+abbrev pub load_exceeds : NaiveEditor → ℕ → Bool
+load_exceeds x more = nat_lt load_limit (x.load + (1 + more))
+
+-- nothing is
+abbrev pub never_exceeds : NaiveEditor → Bool
+never_exceeds x = false
 
 -- ---- edits
 
@@ -93,6 +108,18 @@ edit_reading x (Ok e) = edit_event x (edited_op e)
 
 abbrev pub edit_line : List ℕ → NaiveEditor → Step NaiveEditor
 edit_line line x = edit_reading x (event line)
+
+-- whether it is too much, also where it would be refused
+abbrev pub edit_exceeds : NaiveEditor → Option ChannelOp → Bool
+edit_exceeds x None = false
+edit_exceeds x (Some op) = load_exceeds x (op_load op)
+
+abbrev pub edit_reading_exceeds : NaiveEditor → Result Event Cause → Bool
+edit_reading_exceeds x (Err cause) = false
+edit_reading_exceeds x (Ok e) = edit_exceeds x (edited_op e)
+
+abbrev pub edit_line_exceeds : List ℕ → NaiveEditor → Bool
+edit_line_exceeds line x = edit_reading_exceeds x (event line)
 
 -- ---- messages
 
@@ -153,6 +180,24 @@ message_reading x (Ok m) = take_message x m
 abbrev pub process_line : List ℕ → NaiveEditor → Step NaiveEditor
 process_line line x = message_reading x (message line)
 
+-- whether it is too much: the next one is, whoever sent it, where there are as many names as there may be
+abbrev pub next_exceeds : NaiveEditor → Body → Bool
+next_exceeds x body = nat_le name_limit (length x.names) || load_exceeds x (body_load body)
+
+abbrev pub message_answer_exceeds : NaiveEditor → Message → Option ProcessFault → Bool
+message_answer_exceeds x m (Some fault) = false
+message_answer_exceeds x m None = next_exceeds x m.body
+
+abbrev pub message_exceeds : NaiveEditor → Message → Bool
+message_exceeds x m = message_answer_exceeds x m (order_fault x.client.doc.number x.client.doc.minimum m)
+
+abbrev pub message_reading_exceeds : NaiveEditor → Result Message Cause → Bool
+message_reading_exceeds x (Err cause) = false
+message_reading_exceeds x (Ok m) = message_exceeds x m
+
+abbrev pub process_line_exceeds : List ℕ → NaiveEditor → Bool
+process_line_exceeds line x = message_reading_exceeds x (message line)
+
 -- ---- connections
 
 -- whether it has a connection, or waits for one
@@ -198,6 +243,14 @@ load_reading x (Ok sum) = passes (editor_of sum)
 abbrev pub load_line : List ℕ → NaiveEditor → Step NaiveEditor
 load_line line x = load_reading x (summary line)
 
+-- whether it is too much: what it had before doesn't count
+abbrev pub load_reading_exceeds : Result SumDoc SumFault → Bool
+load_reading_exceeds (Err fault) = false
+load_reading_exceeds (Ok sum) = nat_lt load_limit (start_load (doc_of sum))
+
+abbrev pub load_line_exceeds : List ℕ → NaiveEditor → Bool
+load_line_exceeds line x = load_reading_exceeds (summary line)
+
 -- ---- each call, with the bytes that are given with it
 
 abbrev pub call_step : Call → List ℕ → NaiveEditor → Step NaiveEditor
@@ -206,6 +259,14 @@ call_step call.Connect bytes = connect_line bytes
 call_step call.Drop bytes = drop_step
 call_step call.Edit bytes = edit_line bytes
 call_step call.Process bytes = process_line bytes
+
+-- whether it is too much for it
+abbrev pub call_exceeds : Call → List ℕ → NaiveEditor → Bool
+call_exceeds call.Load bytes = load_line_exceeds bytes
+call_exceeds call.Connect bytes = never_exceeds
+call_exceeds call.Drop bytes = never_exceeds
+call_exceeds call.Edit bytes = edit_line_exceeds bytes
+call_exceeds call.Process bytes = process_line_exceeds bytes
 
 -- ---- what it shows
 
@@ -263,11 +324,11 @@ is_awaited_by s m = s.waits && (is_join m.kind && is_sender s.name m.client_id)
 abbrev pub IsSomeEditor : EditorState → Type 0
 IsSomeEditor s = (x : NaiveEditor) × IsEditor s x
 
--- what is told of a call that is this step
-abbrev pub TellsStep : Told → EditorState → EditorState → (NaiveEditor → Step NaiveEditor) → Type 0
-TellsStep Taken old new step = (x : NaiveEditor) → IsEditor old x → ((step x).refusal ≡ None) × IsEditor new (step x).made
-TellsStep (Refused why) old new step = (x : NaiveEditor) → IsEditor old x → ((step x).refusal ≡ Some why) × IsEditor new (step x).made
-TellsStep Full old new step = new ≡ old
+-- what is told of a call: it was this step, which takes it or refuses it; or it is too much, and nothing changed
+abbrev pub TellsStep : Told → EditorState → EditorState → (NaiveEditor → Step NaiveEditor) → (NaiveEditor → Bool) → Type 0
+TellsStep Taken old new step exceeds = (x : NaiveEditor) → IsEditor old x → ((step x).refusal ≡ None) × IsEditor new (step x).made
+TellsStep (Refused why) old new step exceeds = (x : NaiveEditor) → IsEditor old x → ((step x).refusal ≡ Some why) × IsEditor new (step x).made
+TellsStep Full old new step exceeds = (new ≡ old) × ((x : NaiveEditor) → IsEditor old x → IsTrue (exceeds x))
 
 -- what is told of a step that is refused so, if it is, and the load after it
 abbrev pub told_of : Option Refusal → Told

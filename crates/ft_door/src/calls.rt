@@ -26,6 +26,6 @@ pub enum Told {
     Taken,
     /// It is refused.
     Refused(Refusal),
-    /// A count would pass its greatest number, and nothing changed.
+    /// It is too much: a count would pass its greatest number. Nothing changed.
     Full,
 }

@@ -1,10 +1,10 @@
 //! A client that is held between calls.
 
-ghost use Rattle.std.specs.Prelude.{◌≡◌, ◌++◌, [], IfOk, None, Some, length, string_bytes};
+ghost use Rattle.std.specs.Prelude.{◌≡◌, ◌++◌, [], Bool, IfOk, None, Some, length, string_bytes};
 ghost use Rattle.ft_seqr.specs.Walk.{Step};
 ghost use Rattle.ft_replay.specs.LineForm.{bytes_of};
 ghost use Rattle.ft_door.specs.Clients.{CallsClient, IsNew, ReadsClient, SendsDraft, ShowsClient, refusal_bytes, unread_by};
-ghost use Rattle.ft_door.specs.Editors.{EditorState, IsEditor, NaiveEditor, TellsStep, call_step, oldest_bytes, shown_lines};
+ghost use Rattle.ft_door.specs.Editors.{EditorState, IsEditor, NaiveEditor, TellsStep, call_exceeds, call_step, oldest_bytes, shown_lines};
 
 use crate::calls::{Call, Told};
 use crate::editors::Editor;
@@ -58,9 +58,10 @@ impl<R: Replica + Drop> HeldClient<R> {
     ///
     /// Returns `DONE` where it was taken; `SOME_REFUSED` where it was refused, and then why is put behind what isn't read yet;
     /// `OUT_OF_MEMORY` where there is no room for what it makes, and then the client is at its end; `TOO_LONG` where its steps would
-    /// cost more than 2^52, or it would see more than 2^32 - 1 connections, and `CLOSED` where it is at its end: then nothing changed.
+    /// cost more than 2^52, or the next message comes where it has seen 2^32 - 1 connections, and `CLOSED` where it is at its end: then
+    /// nothing changed.
     pub fn call(&mut self, call: Call, bytes: &[u8]) -> u32
-        ensures { CallsClient (call_step call bytes.now) self.old self.new result }
+        ensures { CallsClient (call_step call bytes.now) (call_exceeds call bytes.now) self.old self.new result }
     {
         let Some(client) = self.client.take() else {
             return CLOSED;
@@ -148,8 +149,8 @@ impl<R: Replica + Drop> HeldClient<R> {
     // Keeps the client behind a call of which this is told, and writes why it is refused, if it is.
     fn settle(&mut self, client: Editor<R>, told: Told) -> u32
         requires { self.old.client ≡ None }
-        ensures { (s : EditorState) (step : NaiveEditor → Step NaiveEditor) → TellsStep told s client step
-            → CallsClient step (record self.old { client = Some s }) self.new result }
+        ensures { (s : EditorState) (step : NaiveEditor → Step NaiveEditor) (exceeds : NaiveEditor → Bool) → TellsStep told s client step exceeds
+            → CallsClient step exceeds (record self.old { client = Some s }) self.new result }
     {
         match told {
             Told::Taken => {
@@ -167,8 +168,8 @@ impl<R: Replica + Drop> HeldClient<R> {
     // Keeps the client, and writes why a call was refused; without memory for that it is at its end.
     fn refuse(&mut self, client: Editor<R>, why: Refusal) -> u32
         requires { self.old.client ≡ None }
-        ensures { (s : EditorState) (step : NaiveEditor → Step NaiveEditor) → TellsStep (Told.Refused why) s client step
-            → CallsClient step (record self.old { client = Some s }) self.new result }
+        ensures { (s : EditorState) (step : NaiveEditor → Step NaiveEditor) (exceeds : NaiveEditor → Bool) → TellsStep (Told.Refused why) s client step exceeds
+            → CallsClient step exceeds (record self.old { client = Some s }) self.new result }
     {
         let Ok(text) = refusal_line(self.alloc, why) else {
             return OUT_OF_MEMORY;

@@ -2,7 +2,7 @@
 
 ghost use Rattle.std.specs.Prelude.{◌≡◌, IfOk, drop, option_map, string_bytes};
 ghost use Rattle.ft_replay.specs.LineForm.{bytes_of};
-ghost use Rattle.ft_door.specs.Editors.{IsEditor, NaiveEditor, TellsStep, call_step, new_editor, oldest_bytes, shown_lines, with_queue};
+ghost use Rattle.ft_door.specs.Editors.{IsEditor, NaiveEditor, TellsStep, call_exceeds, call_step, new_editor, oldest_bytes, shown_lines, with_queue};
 
 use crate::calls::{Call, Told};
 use crate::parts::Parts;
@@ -44,7 +44,7 @@ impl<R: Replica + Drop> Editor<R> {
     ///
     /// Returns `OutOfMemory` where there is no room for what the call makes, and then the editor is gone.
     pub fn take(self, call: Call, bytes: &[u8]) -> Result<(Editor<R>, Told), OutOfMemory>
-        ensures { IfOk result (λ p. TellsStep p.1 self p.0 (call_step call bytes.now)) }
+        ensures { IfOk result (λ p. TellsStep p.1 self p.0 (call_step call bytes.now) (call_exceeds call bytes.now)) }
     {
         let Editor { mut parts } = self;
         let told = parts.take(call, bytes)?;

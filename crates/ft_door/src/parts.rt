@@ -1,6 +1,6 @@
 //! What an editor has, and what each call makes of it.
 
-ghost use Rattle.std.specs.Prelude.{◌≡◌, ◌+◌, ◌*◌, ◌-◌, ◌<◌, ◌≤◌, ◌^◌, ◌&&◌, true, not, Some, Ok, IfOk, IfSome, false, chars, drop, length, option_map, slice_get, string_bytes};
+ghost use Rattle.std.specs.Prelude.{◌≡◌, ◌+◌, ◌*◌, ◌<◌, ◌≤◌, ◌^◌, ◌&&◌, true, not, Some, Ok, IfOk, IfNone, IfSome, IsTrue, false, chars, drop, length, option_map, slice_get, string_bytes};
 ghost use Rattle.ft_op.specs.WellFormed.{IsWellFormed};
 ghost use Rattle.ft_sumdoc.specs.Valid.{IsValidSummary};
 ghost use Rattle.ft_msg.specs.declared.messages.Draft.{Draft};
@@ -17,7 +17,7 @@ ghost use Rattle.ft_seqr.specs.WellFormedEvent.{IsWellFormedEvent};
 ghost use Rattle.ft_seqr.specs.World.{body_load, op_load};
 ghost use Rattle.ft_replay.specs.LineForm.{bytes_of};
 ghost use Rattle.ft_replay.specs.Observation.{names_with, numbered_entry};
-ghost use Rattle.ft_door.specs.Editors.{EditorState, AnswersStep, IsEditor, NaiveEditor, TellsStep, call_step, connect_as, connect_line, draft_bytes, drop_step, dropped_unless, edit_event, edit_line, edited, edited_op, editor_of, is_awaited_by, is_join, is_offline, is_sender, joining_as, load_limit, load_line, load_of, load_reading, message_refusal, new_editor, no_name, oldest_bytes, process_line, shown_lines, shown_link, take_message, take_next, told_of, waits_after, with_queue};
+ghost use Rattle.ft_door.specs.Editors.{EditorState, AnswersStep, IsEditor, NaiveEditor, TellsStep, call_exceeds, call_step, connect_as, connect_line, draft_bytes, drop_step, dropped_unless, edit_event, edit_exceeds, edit_line, edit_line_exceeds, edited, edited_op, editor_of, is_awaited_by, is_join, is_offline, is_sender, joining_as, load_limit, load_line, load_line_exceeds, load_of, load_reading, load_reading_exceeds, message_exceeds, message_refusal, name_limit, never_exceeds, new_editor, next_exceeds, no_name, oldest_bytes, process_line, process_line_exceeds, shown_lines, shown_link, take_message, take_next, told_of, waits_after, with_queue};
 
 use crate::calls::{Call, Told};
 use crate::giving::{begin_join, give_edit, give_entry, lose_link, order_fault};
@@ -91,7 +91,7 @@ impl<R: Replica + Drop> Parts<R> {
     ///
     /// Returns `OutOfMemory` where there is no room for what the call makes.
     pub fn take(&mut self, call: Call, bytes: &[u8]) -> Result<Told, OutOfMemory>
-        ensures { IfOk result (λ told. TellsStep told self.old self.new (call_step call bytes.now)) }
+        ensures { IfOk result (λ told. TellsStep told self.old self.new (call_step call bytes.now) (call_exceeds call bytes.now)) }
     {
         match call {
             Call::Load => self.load(bytes),
@@ -138,7 +138,7 @@ impl<R: Replica + Drop> Parts<R> {
 
     // Takes an edit of its own.
     fn edit(&mut self, line: &[u8]) -> Result<Told, OutOfMemory>
-        ensures { IfOk result (λ told. TellsStep told self.old self.new (edit_line line.now)) }
+        ensures { IfOk result (λ told. TellsStep told self.old self.new (edit_line line.now) (edit_line_exceeds line.now)) }
     {
         match read_event(self.alloc, line) {
             Ok(event) => {
@@ -153,7 +153,7 @@ impl<R: Replica + Drop> Parts<R> {
     // Takes an event, which is to be an edit.
     fn take_event(&mut self, event: Event) -> Result<Told, OutOfMemory>
         requires { IsWellFormedEvent event }
-        ensures { IfOk result (λ told. TellsStep told self.old self.new (λ x. edit_event x (edited_op event))) }
+        ensures { IfOk result (λ told. TellsStep told self.old self.new (λ x. edit_event x (edited_op event)) (λ x. edit_exceeds x (edited_op event))) }
     {
         match edited_op(event) {
             Some(op) => self.take_edit(&op),
@@ -164,7 +164,7 @@ impl<R: Replica + Drop> Parts<R> {
     // Takes an edit.
     fn take_edit(&mut self, op: &ChannelOp) -> Result<Told, OutOfMemory>
         requires { IsWellFormed op.now }
-        ensures { IfOk result (λ told. TellsStep told self.old self.new (λ x. edited x op.now)) }
+        ensures { IfOk result (λ told. TellsStep told self.old self.new (λ x. edited x op.now) (λ x. edit_exceeds x (Some op.now))) }
     {
         let Some(load) = load_with(self.load, op_load(op)?) else {
             return Ok(Told::Full);
@@ -177,7 +177,7 @@ impl<R: Replica + Drop> Parts<R> {
         requires formed { IsWellFormed op.now }
         requires sum { load ≡ self.old.load + (1 + op_load op.now) }
         requires low { load ≤ load_limit }
-        ensures { IfOk result (λ told. TellsStep told self.old self.new (λ x. edited x op.now)) }
+        ensures { IfOk result (λ told. TellsStep told self.old self.new (λ x. edited x op.now) (λ x. edit_exceeds x (Some op.now))) }
     {
         let refusal = give_edit(&mut self.replica, op)?;
         self.load = load_of(refusal, self.load, load);
@@ -186,7 +186,7 @@ impl<R: Replica + Drop> Parts<R> {
 
     // Takes the next message of the order.
     fn process(&mut self, line: &[u8]) -> Result<Told, OutOfMemory>
-        ensures { IfOk result (λ told. TellsStep told self.old self.new (process_line line.now)) }
+        ensures { IfOk result (λ told. TellsStep told self.old self.new (process_line line.now) (process_line_exceeds line.now)) }
     {
         match read_message(self.alloc, line) {
             Ok(msg) => self.take_message(msg),
@@ -199,7 +199,7 @@ impl<R: Replica + Drop> Parts<R> {
     fn take_message(&mut self, msg: Message) -> Result<Told, OutOfMemory>
         requires formed { IsWellFormedMessage msg }
         requires in_range { HasNumbersInRange msg }
-        ensures { IfOk result (λ told. TellsStep told self.old self.new (λ x. take_message x msg)) }
+        ensures { IfOk result (λ told. TellsStep told self.old self.new (λ x. take_message x msg) (λ x. message_exceeds x msg)) }
     {
         let refusal = self.order_refusal(&msg)?;
         match refusal {
@@ -221,7 +221,7 @@ impl<R: Replica + Drop> Parts<R> {
     // Takes the next message.
     fn take_next(&mut self, msg: Message) -> Result<Told, OutOfMemory>
         requires { IsWellFormedMessage msg }
-        ensures { IfOk result (λ told. TellsStep told self.old self.new (λ x. take_next x msg)) }
+        ensures { IfOk result (λ told. TellsStep told self.old self.new (λ x. take_next x msg) (λ x. next_exceeds x msg.body)) }
     {
         let found = self.load_after(&msg.body)?;
         match found {
@@ -233,7 +233,8 @@ impl<R: Replica + Drop> Parts<R> {
     // The load after a message with this body, if it may be so great and there may be a name more.
     fn load_after(&self, body: &Body) -> Result<Option<u64>, OutOfMemory>
         ensures load { IfOk result (λ found. IfSome found (λ load. (load ≡ self.now.load + (1 + body_load body.now)) × (load ≤ load_limit))) }
-        ensures room { IfOk result (λ found. IfSome found (λ load. length self.now.names < 2 ^ 32 - 1)) }
+        ensures room { IfOk result (λ found. IfSome found (λ load. length self.now.names < name_limit)) }
+        ensures full { IfOk result (λ found. IfNone found ((x : NaiveEditor) → IsEditor self.now x → IsTrue (next_exceeds x body.now))) }
     {
         if self.names.len() as u64 >= NAME_LIMIT {
             return Ok(None);
@@ -244,10 +245,10 @@ impl<R: Replica + Drop> Parts<R> {
     // Takes the next message, with which the load is this.
     fn take_at(&mut self, msg: Message, load: u64) -> Result<Told, OutOfMemory>
         requires formed { IsWellFormedMessage msg }
-        requires room { length self.old.names < 2 ^ 32 - 1 }
+        requires room { length self.old.names < name_limit }
         requires sum { load ≡ self.old.load + (1 + body_load msg.body) }
         requires low { load ≤ load_limit }
-        ensures { IfOk result (λ told. TellsStep told self.old self.new (λ x. take_next x msg)) }
+        ensures { IfOk result (λ told. TellsStep told self.old self.new (λ x. take_next x msg) (λ x. next_exceeds x msg.body)) }
     {
         let joins = is_awaited(self.waits, &msg, &self.name);
         let entry = number_sender(&mut self.names, msg)?;
@@ -260,7 +261,7 @@ impl<R: Replica + Drop> Parts<R> {
         requires low { load ≤ load_limit }
         ensures { (s : EditorState) (m : Message) → entry.now ≡ numbered_entry s.names m → self.old ≡ record s { names = names_with s.names m.client_id }
             → joins ≡ is_awaited_by s m → load ≡ s.load + (1 + body_load m.body)
-            → IfOk result (λ told. TellsStep told s self.new (λ x. take_next x m)) }
+            → IfOk result (λ told. TellsStep told s self.new (λ x. take_next x m) (λ x. next_exceeds x m.body)) }
     {
         let refusal = receive(&mut self.replica, joins, entry)?;
         self.waits = waits_after(refusal, self.waits, joins);
@@ -270,7 +271,7 @@ impl<R: Replica + Drop> Parts<R> {
 
     // Waits for the join of the connection whose name these bytes are.
     fn connect(&mut self, line: &[u8]) -> Result<Told, OutOfMemory>
-        ensures { IfOk result (λ told. TellsStep told self.old self.new (connect_line line.now)) }
+        ensures { IfOk result (λ told. TellsStep told self.old self.new (connect_line line.now) never_exceeds) }
     {
         let Ok(name) = str::from_utf8(line) else {
             return Ok(Told::Refused(Refusal::Malformed(Cause::NotUtf8)));
@@ -280,7 +281,7 @@ impl<R: Replica + Drop> Parts<R> {
 
     // Waits for the join of the connection of this name.
     fn connect_as(&mut self, name: &str) -> Result<Told, OutOfMemory>
-        ensures { IfOk result (λ told. TellsStep told self.old self.new (connect_as (chars name.now))) }
+        ensures { IfOk result (λ told. TellsStep told self.old self.new (connect_as (chars name.now)) never_exceeds) }
     {
         if is_free(self.waits, self.replica.numbers().link) {
             self.wait_as(name)
@@ -292,7 +293,7 @@ impl<R: Replica + Drop> Parts<R> {
     // Waits for the join of the connection of this name, where it has none and waits for none.
     fn wait_as(&mut self, text: &str) -> Result<Told, OutOfMemory>
         requires { not self.old.waits && is_offline self.old.replica.client.link ≡ true }
-        ensures { IfOk result (λ told. TellsStep told self.old self.new (connect_as (chars text.now))) }
+        ensures { IfOk result (λ told. TellsStep told self.old self.new (connect_as (chars text.now)) never_exceeds) }
     {
         let name = Text::new(self.alloc, text)?;
         self.name = name;
@@ -302,7 +303,7 @@ impl<R: Replica + Drop> Parts<R> {
 
     // Is without a connection, or waits for none any more.
     fn drop_link(&mut self) -> Result<Told, OutOfMemory>
-        ensures { IfOk result (λ told. TellsStep told self.old self.new drop_step) }
+        ensures { IfOk result (λ told. TellsStep told self.old self.new drop_step never_exceeds) }
     {
         let refusal = drop_unless(&mut self.replica, self.waits)?;
         self.waits = false;
@@ -311,7 +312,7 @@ impl<R: Replica + Drop> Parts<R> {
 
     // Starts anew, from the summary that these bytes are.
     fn load(&mut self, line: &[u8]) -> Result<Told, OutOfMemory>
-        ensures { IfOk result (λ told. TellsStep told self.old self.new (load_line line.now)) }
+        ensures { IfOk result (λ told. TellsStep told self.old self.new (load_line line.now) (load_line_exceeds line.now)) }
     {
         match read_summary(self.alloc, line) {
             Ok(sum) => self.start_from(&sum),
@@ -324,7 +325,7 @@ impl<R: Replica + Drop> Parts<R> {
     fn start_from(&mut self, sum: &SumDoc) -> Result<Told, OutOfMemory>
         requires valid { IsValidSummary sum.now }
         requires few { length sum.now.conns < 2 ^ 32 }
-        ensures { IfOk result (λ told. TellsStep told self.old self.new (λ x. load_reading x (Ok sum.now))) }
+        ensures { IfOk result (λ told. TellsStep told self.old self.new (λ x. load_reading x (Ok sum.now)) (λ x. load_reading_exceeds (Ok sum.now))) }
     {
         let replica = R::from_summary(self.alloc, sum)?;
         match start_load(replica.numbers()) {
@@ -338,7 +339,7 @@ impl<R: Replica + Drop> Parts<R> {
         requires valid { IsValidSummary sum.now }
         requires few { length sum.now.conns < 2 ^ 32 }
         ensures { (IsEditor (record { replica = R.state replica; names = sum.now.conns; name = no_name; waits = false; load = load }) (editor_of sum.now))
-            → IfOk result (λ told. TellsStep told self.old self.new (λ x. load_reading x (Ok sum.now))) }
+            → IfOk result (λ told. TellsStep told self.old self.new (λ x. load_reading x (Ok sum.now)) (λ x. load_reading_exceeds (Ok sum.now))) }
     {
         let alloc = self.alloc;
         let names = table_of(alloc, &sum.conns)?;
@@ -455,7 +456,8 @@ fn edited_op(event: Event) -> Option<ChannelOp>
 
 // The load after a step that costs one and so much more, if it may be so great.
 fn load_with(load: u64, more: u64) -> Option<u64>
-    ensures { IfSome result (λ sum. (sum ≡ load + (1 + more)) × (sum ≤ load_limit)) }
+    ensures some { IfSome result (λ sum. (sum ≡ load + (1 + more)) × (sum ≤ load_limit)) }
+    ensures none { IfNone result (load_limit < load + (1 + more)) }
 {
     let cost = more.checked_add(1)?;
     let sum = load.checked_add(cost)?;
@@ -464,7 +466,8 @@ fn load_with(load: u64, more: u64) -> Option<u64>
 
 // The load of the start from a document with these numbers, if it may be so great.
 fn start_load(numbers: Numbers) -> Option<u64>
-    ensures { IfSome result (λ sum. (sum ≡ numbers.made * 3 + numbers.seq) × (sum ≤ load_limit)) }
+    ensures some { IfSome result (λ sum. (sum ≡ numbers.made * 3 + numbers.seq) × (sum ≤ load_limit)) }
+    ensures none { IfNone result (load_limit < numbers.made * 3 + numbers.seq) }
 {
     let most = numbers.made.checked_mul(3)?;
     let sum = most.checked_add(numbers.seq)?;

@@ -1,14 +1,16 @@
-use Rattle.std.proofs.Common.{◌∙◌, ap, rules, sym}
-use Rattle.std.proofs.lemmas.Result.{IfOk-weaker}
+use Rattle.std.proofs.Common.{Result, ◌∙◌, ap, rules, subst, sym}
+use Rattle.std.specs.Prelude.{IfOk}
+use Rattle.ft_msg.specs.declared.faults.Cause.{Cause}
+use Rattle.ft_seqr.specs.declared.events.Event.{Event}
 use Rattle.ft_seqr.specs.Walk.{refuses}
-use Rattle.ft_door.specs.Editors.{edit_event, edit_line, edit_reading, edited_op}
-use Rattle.ft_door.proofs.Editing.{refused-told, step-same}
+use Rattle.ft_door.specs.Editors.{TellsStep, edit_line, edit_reading, edit_reading_exceeds}
+use Rattle.ft_door.proofs.Editing.{refused-told}
 use Rattle.ft_door.proofs.parts.Parts.edit.Goals as goal
 
 pub returns-in-Ok : goal.returns-in-Ok
 returns-in-Ok g c =
-    IfOk-weaker c.take_event.result _ _ (λ told t. step-same told c.args.self.now c.take_event.new.self (λ x. edit_event x (edited_op c.in-Ok.event)) (edit_line c.args.line.now)
-    (λ x h. ap (edit_reading x) (sym c.in-Ok.ensures.ok)) t) c.take_event.ensures
+    subst (λ (r : Result Event Cause). IfOk c.take_event.result (λ told. TellsStep told c.args.self.now c.take_event.new.self (λ x. edit_reading x r) (λ x. edit_reading_exceeds x r)))
+    (sym c.in-Ok.ensures.ok) c.take_event.ensures
 
 pub returns-in-Err : goal.returns-in-Err
 returns-in-Err g c =

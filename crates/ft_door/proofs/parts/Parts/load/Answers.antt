@@ -1,14 +1,17 @@
-use Rattle.std.proofs.Common.{Ok, ap, rules, sym}
-use Rattle.std.proofs.lemmas.Result.{IfOk-weaker}
+use Rattle.std.proofs.Common.{Result, ap, rules, subst, sym}
+use Rattle.std.specs.Prelude.{IfOk}
+use Rattle.ft_sumdoc.specs.declared.summary.SumDoc.{SumDoc}
+use Rattle.ft_sumdoc.specs.declared.summary.SumFault.{SumFault}
 use Rattle.ft_seqr.specs.declared.refusals.Refusal.TheVariants.{Summary}
-use Rattle.ft_door.specs.Editors.{load_line, load_reading}
-use Rattle.ft_door.proofs.Editing.{refused-told, step-same}
+use Rattle.ft_door.specs.Editors.{TellsStep, load_line, load_reading, load_reading_exceeds}
+use Rattle.ft_door.proofs.Editing.{refused-told}
 use Rattle.ft_door.proofs.parts.Parts.load.Goals as goal
 
 pub returns-in-Ok : goal.returns-in-Ok
 returns-in-Ok g c =
-    IfOk-weaker c.start_from.result _ _ (λ told t. step-same told c.args.self.now c.start_from.new.self (λ x. load_reading x (Ok c.in-Ok.sum)) (load_line c.args.line.now)
-    (λ x h. ap (load_reading x) (sym c.in-Ok.ensures.reads.ok)) t) c.start_from.ensures
+    subst (λ (r : Result SumDoc SumFault). IfOk c.start_from.result (λ told. TellsStep told c.args.self.now c.start_from.new.self (λ x. load_reading x r)
+    (λ x. load_reading_exceeds r)))
+    (sym c.in-Ok.ensures.reads.ok) c.start_from.ensures
 
 pub returns-in-Err : goal.returns-in-Err
 returns-in-Err g c =

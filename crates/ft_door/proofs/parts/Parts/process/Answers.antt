@@ -1,14 +1,17 @@
-use Rattle.std.proofs.Common.{◌∙◌, ap, rules, sym}
-use Rattle.std.proofs.lemmas.Result.{IfOk-weaker}
+use Rattle.std.proofs.Common.{Result, ◌∙◌, ap, rules, subst, sym}
+use Rattle.std.specs.Prelude.{IfOk}
+use Rattle.ft_msg.specs.declared.faults.Cause.{Cause}
+use Rattle.ft_msg.specs.declared.messages.Message.{Message}
 use Rattle.ft_seqr.specs.Walk.{refuses}
-use Rattle.ft_door.specs.Editors.{message_reading, process_line, take_message}
-use Rattle.ft_door.proofs.Editing.{refused-told, step-same}
+use Rattle.ft_door.specs.Editors.{TellsStep, message_reading, message_reading_exceeds, process_line}
+use Rattle.ft_door.proofs.Editing.{refused-told}
 use Rattle.ft_door.proofs.parts.Parts.process.Goals as goal
 
 pub returns-in-Ok : goal.returns-in-Ok
 returns-in-Ok g c =
-    IfOk-weaker c.take_message.result _ _ (λ told t. step-same told c.args.self.now c.take_message.new.self (λ x. take_message x c.in-Ok.msg) (process_line c.args.line.now)
-    (λ x h. ap (message_reading x) (sym c.in-Ok.ensures.reads.ok)) t) c.take_message.ensures
+    subst (λ (r : Result Message Cause). IfOk c.take_message.result (λ told. TellsStep told c.args.self.now c.take_message.new.self (λ x. message_reading x r)
+    (λ x. message_reading_exceeds x r)))
+    (sym c.in-Ok.ensures.reads.ok) c.take_message.ensures
 
 pub returns-in-Err : goal.returns-in-Err
 returns-in-Err g c =

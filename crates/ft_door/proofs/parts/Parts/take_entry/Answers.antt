@@ -1,5 +1,5 @@
-use Rattle.std.proofs.Common.{◌∙◌, ap, refl}
-use Rattle.ft_door.specs.Editors.{load_of, take_next, told_of, waits_after}
+use Rattle.std.proofs.Common.{◌∙◌, Bool, ap, refl}
+use Rattle.ft_door.specs.Editors.{NaiveEditor, load_of, next_exceeds, take_next, told_of, waits_after}
 use Rattle.ft_door.proofs.Editing.{entry-taken, state_of, told-as}
 use Rattle.ft_door.proofs.parts.Parts.take_entry.Goals as goal
 
@@ -10,8 +10,9 @@ returns g c = λ s m entry_is old_is is sum.
     let r = g.R.Replica.state c.receive.new.replica in
     let refusal = c.in_ok-refusal.refusal in
     let joins = c.args.joins in
+    let exceeds : NaiveEditor → Bool = λ x. next_exceeds x m.body in
     told-as c.told_of.result (told_of refusal) s s (state_of r i.names i.name c.waits_after-self-inside.result c.load_of-self-inside.result)
-    (state_of r i.names i.name (waits_after refusal i.waits joins) (load_of refusal i.load c.args.load)) (λ x. take_next x m) c.told_of.ensures refl
+    (state_of r i.names i.name (waits_after refusal i.waits joins) (load_of refusal i.load c.args.load)) (λ x. take_next x m) exceeds c.told_of.ensures refl
     (ap (λ waits. state_of r i.names i.name waits c.load_of-self-inside.result) c.waits_after-self-inside.ensures
     ∙ ap (state_of r i.names i.name (waits_after refusal i.waits joins)) c.load_of-self-inside.ensures)
-    (entry-taken s old r m c.args.entry.now joins c.args.load refusal c.requires.formed c.requires.low entry_is (c.self.view_is ∙ old_is) is sum c.in_ok-refusal.ensures)
+    (entry-taken s old r m c.args.entry.now joins c.args.load exceeds refusal c.requires.formed c.requires.low entry_is (c.self.view_is ∙ old_is) is sum c.in_ok-refusal.ensures)
