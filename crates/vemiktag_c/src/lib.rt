@@ -5,7 +5,7 @@
 
 ghost use Rattle.std.specs.Prelude.{[], IfOk};
 ghost use Rattle.ft_door.specs.Clients.{CallsClient, IsNew, SendsDraft, ShowsClient};
-ghost use Rattle.ft_door.specs.Editors.{call_step};
+ghost use Rattle.ft_door.specs.Editors.{call_exceeds, call_step};
 ghost use Rattle.ft_door.specs.Reports.{Tells};
 ghost use Rattle.ft_door.specs.Runs.{Stands};
 ghost use Rattle.vemiktag_c.specs.Handles.{Calls, Closes, Frees, Hears, Opens, OpensClient, ReadsOn, ReadsOnClient, WaitsOn, held_run};
@@ -161,11 +161,11 @@ pub extern "C" fn vemiktag_client_new(alloc: Global, client: &mut Handle) -> u32
 /// The client starts anew, from the summary that these bytes are. What it had is gone.
 ///
 /// Returns 0 where it did; 1 where the summary was refused, and then why waits to be read; 5 where there was no memory, and then the
-/// client takes nothing more; 6 where the summary tells of more than 2^52 messages and elements; 7 where it takes nothing, or is
-/// closed. In all but 0 and 5 it is as it was.
+/// client takes nothing more; 6 where the number of its messages, and thrice that of the elements in its longest list, are
+/// more than 2^52; 7 where it takes nothing, or is closed. In all but 0 and 5 the client is as it was.
 #[unsafe(no_mangle)]
 pub extern "C" fn vemiktag_client_load(alloc: Global, client: &mut Handle, summary: &[u8]) -> u32
-    ensures { Calls (λ a b s. CallsClient (call_step Call.Load summary.now) a.client b.client s) (held_run client.old) (held_run client.new) result }
+    ensures { Calls (λ a b s. CallsClient (call_step Call.Load summary.now) (call_exceeds Call.Load summary.now) a.client b.client s) (held_run client.old) (held_run client.new) result }
 {
     called(alloc, client, Call::Load, summary)
 }
@@ -176,7 +176,7 @@ pub extern "C" fn vemiktag_client_load(alloc: Global, client: &mut Handle, summa
 /// more; 7 where it takes nothing, or is closed.
 #[unsafe(no_mangle)]
 pub extern "C" fn vemiktag_client_connect(alloc: Global, client: &mut Handle, name: &[u8]) -> u32
-    ensures { Calls (λ a b s. CallsClient (call_step Call.Connect name.now) a.client b.client s) (held_run client.old) (held_run client.new) result }
+    ensures { Calls (λ a b s. CallsClient (call_step Call.Connect name.now) (call_exceeds Call.Connect name.now) a.client b.client s) (held_run client.old) (held_run client.new) result }
 {
     called(alloc, client, Call::Connect, name)
 }
@@ -186,7 +186,7 @@ pub extern "C" fn vemiktag_client_connect(alloc: Global, client: &mut Handle, na
 /// Returns 0; 1 where it has none, and waits for none; 7 where it takes nothing, or is closed.
 #[unsafe(no_mangle)]
 pub extern "C" fn vemiktag_client_drop(alloc: Global, client: &mut Handle) -> u32
-    ensures { Calls (λ a b s. CallsClient (call_step Call.Drop []) a.client b.client s) (held_run client.old) (held_run client.new) result }
+    ensures { Calls (λ a b s. CallsClient (call_step Call.Drop []) (call_exceeds Call.Drop []) a.client b.client s) (held_run client.old) (held_run client.new) result }
 {
     called(alloc, client, Call::Drop, &[])
 }
@@ -197,17 +197,17 @@ pub extern "C" fn vemiktag_client_drop(alloc: Global, client: &mut Handle) -> u3
 /// client takes nothing more; 6 where its steps would cost more than 2^52; 7 where it takes nothing, or is closed.
 #[unsafe(no_mangle)]
 pub extern "C" fn vemiktag_client_edit(alloc: Global, client: &mut Handle, edit: &[u8]) -> u32
-    ensures { Calls (λ a b s. CallsClient (call_step Call.Edit edit.now) a.client b.client s) (held_run client.old) (held_run client.new) result }
+    ensures { Calls (λ a b s. CallsClient (call_step Call.Edit edit.now) (call_exceeds Call.Edit edit.now) a.client b.client s) (held_run client.old) (held_run client.new) result }
 {
     called(alloc, client, Call::Edit, edit)
 }
 
 /// The client takes the next message of the order, which is the text of one.
 ///
-/// Returns as `vemiktag_client_edit` does.
+/// Returns as `vemiktag_client_edit` does, and 6 also where it has seen 2^32 - 1 connections and this is the next message.
 #[unsafe(no_mangle)]
 pub extern "C" fn vemiktag_client_process(alloc: Global, client: &mut Handle, message: &[u8]) -> u32
-    ensures { Calls (λ a b s. CallsClient (call_step Call.Process message.now) a.client b.client s) (held_run client.old) (held_run client.new) result }
+    ensures { Calls (λ a b s. CallsClient (call_step Call.Process message.now) (call_exceeds Call.Process message.now) a.client b.client s) (held_run client.old) (held_run client.new) result }
 {
     called(alloc, client, Call::Process, message)
 }
@@ -296,7 +296,7 @@ pub extern "C" fn vemiktag_client_free(alloc: Global, client: &mut Handle) -> u3
 
 // Does this with the client.
 fn called(alloc: Global, client: &mut Handle, call: Call, bytes: &[u8]) -> u32
-    ensures { Calls (λ a b s. CallsClient (call_step call bytes.now) a.client b.client s) (held_run client.old) (held_run client.new) result }
+    ensures { Calls (λ a b s. CallsClient (call_step call bytes.now) (call_exceeds call bytes.now) a.client b.client s) (held_run client.old) (held_run client.new) result }
 {
     let Some(mut held) = client.take(alloc) else {
         return CLOSED;
