@@ -37,7 +37,8 @@ use Rattle.ft_matrix.specs.declared.stages.GridStage.{GridStage}
 use Rattle.ft_matrix.specs.Conditions.{IsAboveAll}
 use Rattle.ft_matrix.specs.GridStates.{grid_state, shown_stage}
 use Rattle.ft_matrix.specs.HoldsGrid.{HoldsGrid}
-use Rattle.ft_matrix.specs.SavedUnits.{insertion_mark, saved_runs, unit_run, with_run}
+use Rattle.ft_named.specs.SavedStamps.{insertion_mark}
+use Rattle.ft_matrix.specs.SavedUnits.{saved_runs, unit_run, with_run}
 use Rattle.ft_matrix.specs.Seen.{shown_at, shown_cells}
 use Rattle.ft_matrix.specs.Shown.{with_units}
 use Rattle.ft_matrix.specs.Sound.{IsSound, writes_to}

@@ -1,11 +1,8 @@
 -- Runs of units made leaf by leaf: the last one so far may still go on.
 use Rattle.std.proofs.Common.{◌≡◌, ℕ, suc, ◌+◌, ◌≤◌, Bool, true, false, cond, List, [], ◌∷◌, ◌++◌, Option, Some, None, refl, sym, ◌∙◌, ap, subst, length, option_map, IfOk, Result, Ok, Err, arith, append_assoc}
-use Rattle.std.specs.Bool.{Decides}
-use Rattle.std.proofs.lemmas.Bool.Decides.{nat_tests}
 use Rattle.ft_arena.specs.Ids.{after, first}
 use Rattle.ft_base.specs.declared.elements.Element.{Element as ElementStamps}
 use Rattle.ft_base.specs.declared.memory.OutOfMemory.{OutOfMemory}
-use Rattle.ft_base.proofs.Booleans.{both}
 use Rattle.ft_block.specs.Leaves.{IsLeafIn, IsPlaceIn, ids, times_leaf, value_at}
 use Rattle.ft_tree_blocks.specs.Walks.{from_place}
 use Rattle.ft_tree_blocks.proofs.Walks.{after_in_place, first_in_place, from_first}
@@ -13,42 +10,17 @@ use Rattle.ft_tree_leaves.specs.declared.leaves.TreeLeaf.{TreeLeaf}
 use Rattle.ft_tree_leaves.specs.Elements.{TreeElement, elements_with}
 use Rattle.ft_tree_leaves.specs.LeafLists.{elements}
 use Rattle.ft_named.proofs.LeafWalks.{stands-next}
-use Rattle.ft_op.specs.Same.{same_list}
-use Rattle.ft_op.proofs.SameOperations.{same_list-Decides}
+use Rattle.ft_named.proofs.SameStamps.{same_mark-Decides, same_marks-Decides, stamps_are_same}
 use Rattle.ft_perm.specs.Handles.{HandleRun, handles_of}
 use Rattle.ft_perm.proofs.SeenRuns.{Leaves}
 use Rattle.ft_props.specs.Compaction.{has_collectable_removal}
 use Rattle.ft_props.specs.Overlay.{OverlayState}
 use Rattle.ft_sumdoc.specs.declared.summary.Mark.{Mark}
 use Rattle.ft_sumdoc.specs.declared.summary.RunRec.{RunRec}
-use Rattle.ft_sumdoc.specs.Stamps.{same_mark}
 use Rattle.ft_sumdoc.specs.WellFormed.{same_stamps}
 use Rattle.ft_matrix.specs.SavedUnits.{AddsLeaf, continued, saved_runs, unit_run, with_run}
 
 -- ---- equal stamps
-
-same_mark-Decides : (a b : Mark) → Decides (same_mark a b) (a ≡ b)
-same_mark-Decides a b = (forth, back)
-  where
-    forth : same_mark a b ≡ true → a ≡ b
-    forth h =
-        let seq : a.seq ≡ b.seq = grind (arith, nat_tests) in
-        let conn : a.conn ≡ b.conn = grind (arith, nat_tests) in
-        ap (λ (i : ℕ). record { seq = i; conn = a.conn }) seq ∙ ap (λ (i : ℕ). record { seq = b.seq; conn = i }) conn
-
-    back : a ≡ b → same_mark a b ≡ true
-    back e =
-        let seq = ap (λ (m : Mark). m.seq) e in
-        let conn = ap (λ (m : Mark). m.conn) e in
-        grind (arith, nat_tests)
-
-pub same_marks-Decides : (a b : List Mark) → Decides (same_list same_mark a b) (a ≡ b)
-same_marks-Decides a b = same_list-Decides same_mark same_mark-Decides a b
-
-stamps_are_same : (ins other : Mark) (dels others : List Mark) → same_stamps ins dels other others ≡ true → (ins ≡ other) × (dels ≡ others)
-stamps_are_same ins other dels others h =
-    let parts = both (same_mark ins other) (same_list same_mark dels others) h in
-    ((same_mark-Decides ins other).0 parts.0, (same_marks-Decides dels others).0 parts.1)
 
 itself : (ins : Mark) (dels : List Mark) → same_stamps ins dels ins dels ≡ true
 itself ins dels = rw ((same_mark-Decides ins ins).1 refl, (same_marks-Decides dels dels).1 refl) refl

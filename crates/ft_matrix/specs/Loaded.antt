@@ -3,7 +3,8 @@ use Rattle.std.specs.Prelude.{◌≡◌, ℕ, ◌++◌, cond, is_some, List, [],
 use Rattle.ft_base.specs.declared.elements.Element.{Element as ElementStamps}
 use Rattle.ft_block.specs.declared.leaves.LenView.TheVariants.{Stage}
 use Rattle.ft_tree_leaves.specs.Elements.{elements_with}
-use Rattle.ft_msg.specs.Summary.{run_items, stamp_of}
+use Rattle.ft_msg.specs.Summary.{run_items}
+use Rattle.ft_named.specs.SavedStamps.{marked_stamps}
 use Rattle.ft_perm.specs.Handles.{HandleRun, handles_of}
 use Rattle.ft_perm.specs.Vectors.{VectorState, seen_handles}
 use Rattle.ft_props.specs.Element.{nameless}
@@ -17,7 +18,7 @@ use Rattle.ft_matrix.specs.Units.{shown_units, units_of}
 
 -- the stamps of the units of a run
 abbrev pub run_stamps : RunRec → ElementStamps
-run_stamps run = record { ins = stamp_of run.ins; dels = map stamp_of run.dels }
+run_stamps run = marked_stamps run.ins run.dels
 
 -- the units of a run are put at the end
 pub record LoadsRun (run : RunRec) (old new : VectorState) : Type 0 where

@@ -1,20 +1,14 @@
 -- The units of a vector as the runs of a summary. No public clause cites this module.
 use Rattle.std.specs.Prelude.{◌≡◌, ◌≤◌, ℕ, ◌+◌, cond, List, [], ◌∷◌, length, map}
-use Rattle.ft_base.specs.declared.stamps.Stamp.{Stamp}
 use Rattle.ft_base.specs.declared.elements.Element.{Element as ElementStamps}
 use Rattle.ft_tree_leaves.specs.declared.leaves.TreeLeaf.{TreeLeaf}
 use Rattle.ft_tree_leaves.specs.Elements.{TreeElement}
 use Rattle.ft_msg.specs.SummaryOf.{mark_of}
+use Rattle.ft_named.specs.SavedStamps.{insertion_mark}
 use Rattle.ft_perm.specs.Handles.{HandleRun, handles_of}
-use Rattle.ft_props.specs.Compaction.{has_collectable_removal, is_insertion_at_or_below}
-use Rattle.ft_sumdoc.specs.declared.summary.Mark.{Mark}
+use Rattle.ft_props.specs.Compaction.{has_collectable_removal}
 use Rattle.ft_sumdoc.specs.declared.summary.RunRec.{RunRec}
-use Rattle.ft_sumdoc.specs.Stamps.{universal}
 use Rattle.ft_sumdoc.specs.WellFormed.{same_stamps}
-
--- an insertion as a summary at this minimum has it
-abbrev pub insertion_mark : ℕ → Stamp → Mark
-insertion_mark min ins = cond (is_insertion_at_or_below min ins) universal (mark_of ins)
 
 -- a run of so many units with these stamps
 abbrev pub unit_run : ℕ → ElementStamps → ℕ → RunRec

@@ -1,92 +1,22 @@
 //! The units of a vector as the runs of a summary: one walk over its leaves.
 
-ghost use Rattle.std.specs.Prelude.{◌≡◌, IfOk, IsTrue, List, OnOk, Some, map};
+ghost use Rattle.std.specs.Prelude.{◌≡◌, IfOk, IsTrue, List, OnOk, Some};
 ghost use Rattle.ft_block.specs.Leaves.{IsLeafIn, value_at};
 ghost use Rattle.ft_tree_leaves.specs.declared.leaves.TreeLeaf.{TreeLeaf};
-ghost use Rattle.ft_msg.specs.SummaryOf.{mark_of};
 ghost use Rattle.ft_perm.specs.Handles.{HandleRun};
 ghost use Rattle.ft_perm.specs.Vectors.{vector_elements};
-ghost use Rattle.ft_props.specs.Compaction.{has_collectable_removal};
 ghost use Rattle.ft_sumdoc.specs.declared.summary.RunRec.{RunRec};
-ghost use Rattle.ft_sumdoc.specs.Stamps.{same_mark};
-ghost use Rattle.ft_sumdoc.specs.WellFormed.{same_stamps};
-ghost use Rattle.ft_matrix.specs.SavedUnits.{AddsLeaf, continued, insertion_mark, saved_runs, unit_run, with_run};
+ghost use Rattle.ft_matrix.specs.SavedUnits.{AddsLeaf, continued, saved_runs, unit_run, with_run};
 ghost use Rattle.ft_matrix.specs.Units.{units_of};
 
 use crate::messages::more;
 use ft_arena::NodeId;
-use ft_base::{Datum, Element, OutOfMemory, Stamp};
+use ft_base::{Element, OutOfMemory};
+use ft_named::marks::{insertion_of, is_collectable, marks_of, same_stamps};
 use ft_perm::{Handles, Vector};
-use ft_sumdoc::{Mark, Marks, RunRec, RunRecs};
+use ft_sumdoc::{RunRec, RunRecs};
 use ft_tree::Tree;
 use std::alloc::Global;
-
-// A sequenced stamp as a mark.
-fn mark_of(stamp: &Stamp) -> Mark
-    ensures { result ≡ mark_of stamp.now }
-{
-    match stamp {
-        Stamp::Acked { seq, conn } => Mark {
-            seq: *seq,
-            conn: *conn,
-        },
-        Stamp::Local { .. } => Mark { seq: 0, conn: 0 },
-    }
-}
-
-// The stamps as marks.
-fn marks_of(alloc: Global, stamps: &[Stamp]) -> Result<Marks, OutOfMemory>
-    ensures { IfOk result (λ marks. marks ≡ map mark_of stamps.now) }
-{
-    let mut marks = Marks::new(alloc);
-    for stamp in stamps {
-        marks.push(mark_of(stamp))?;
-    }
-    Ok(marks)
-}
-
-// The insertion as a mark, as a summary with this minimum has it: that which everybody sees, where it is at or below the
-// minimum.
-fn insertion_of(ins: &Stamp, min: u64) -> Mark
-    ensures { result ≡ insertion_mark min ins.now }
-{
-    match ins {
-        Stamp::Acked { seq, conn } => {
-            if *seq <= min {
-                return Mark { seq: 0, conn: 0 };
-            }
-            Mark {
-                seq: *seq,
-                conn: *conn,
-            }
-        }
-        Stamp::Local { .. } => Mark { seq: 0, conn: 0 },
-    }
-}
-
-// Whether the first removal is at or below the minimum.
-fn is_collectable(dels: &[Stamp], min: u64) -> bool
-    ensures { result ≡ has_collectable_removal min dels.now }
-{
-    match dels.first() {
-        Some(Stamp::Acked { seq, .. }) => *seq <= min,
-        Some(Stamp::Local { .. }) | None => false,
-    }
-}
-
-// Whether the marks are equal.
-fn same_mark(a: Mark, b: Mark) -> bool
-    ensures { result ≡ same_mark a b }
-{
-    a.seq == b.seq && a.conn == b.conn
-}
-
-// Whether the insertions are equal, and the removals too.
-fn same_stamps(ins: Mark, dels: &Marks, other_ins: Mark, other_dels: &Marks) -> bool
-    ensures { result ≡ same_stamps ins dels.now other_ins other_dels.now }
-{
-    same_mark(ins, other_ins) && dels.same(other_dels)
-}
 
 // A run of so many units with these stamps, as a summary at this minimum has it.
 fn run_of(alloc: Global, stamps: &Element, count: u64, min: u64) -> Result<RunRec, OutOfMemory>

@@ -1,17 +1,17 @@
 //! A table from a summary, and what a summary has of a table.
 
-ghost use Rattle.std.specs.Prelude.{◌≡◌, ◌≤◌, [], ℕ, IfOk, IsTrue, OnOk, map, nat_le, true};
+ghost use Rattle.std.specs.Prelude.{◌≡◌, ◌≤◌, [], ℕ, IfOk, IsTrue, OnOk, nat_le, true};
 ghost use Rattle.std.specs.List.{list_all};
 ghost use Rattle.ft_block.specs.declared.leaves.LenView.TheVariants.{Stage};
 ghost use Rattle.ft_op.specs.Document.{Document};
-ghost use Rattle.ft_msg.specs.Summary.{doc_of, stamp_of};
+ghost use Rattle.ft_msg.specs.Summary.{doc_of};
 ghost use Rattle.ft_perm.specs.Vectors.{seen_handles};
 ghost use Rattle.ft_sumdoc.specs.Valid.{IsValidSummary};
 ghost use Rattle.ft_laws_names.specs.WellNamed.{AreWellNamed};
 ghost use Rattle.ft_matrix.specs.Conditions.{IsAboveAll};
 ghost use Rattle.ft_matrix.specs.GridStates.{grid_state};
 ghost use Rattle.ft_matrix.specs.HoldsGrid.{HoldsGrid};
-ghost use Rattle.ft_matrix.specs.Loaded.{LoadsCell, LoadsCells, LoadsRun, LoadsUnits, run_stamps};
+ghost use Rattle.ft_matrix.specs.Loaded.{LoadsCell, LoadsCells, LoadsRun, LoadsUnits};
 ghost use Rattle.ft_matrix.specs.Shown.{HasNoUnits, with_units};
 ghost use Rattle.ft_matrix.specs.Sound.{IsSound, IsSoundVector};
 ghost use Rattle.ft_matrix.specs.Units.{units_of};
@@ -21,12 +21,13 @@ use crate::matrix::SharedMatrix;
 use crate::messages::more;
 use crate::saved::saved_units;
 use crate::splices::fresh_handles;
-use ft_base::{Datum, Element, OutOfMemory, Stamp, Stamps};
+use ft_base::{Datum, OutOfMemory};
 use ft_block::LenView;
 use ft_cells::Cells;
+use ft_named::marks::element_of;
 use ft_perm::Vector;
 use ft_props::Props;
-use ft_sumdoc::{CellRec, Mark, RunRec, SumDoc};
+use ft_sumdoc::{CellRec, RunRec, SumDoc};
 use std::alloc::Global;
 
 impl SharedMatrix {
@@ -144,39 +145,7 @@ fn load_run(units: &mut Vector, run: &RunRec) -> Result<(), OutOfMemory>
 {
     let content = fresh_handles(units, run.count)?;
     let alloc = units.tree.allocator();
-    let stamps = element_of(alloc, run)?;
+    let stamps = element_of(alloc, run.ins, &run.dels)?;
     let props = Props::new(alloc);
     units.tree.append(content, &props, stamps)
-}
-
-// A mark as a stamp.
-fn stamp_of(mark: Mark) -> Stamp
-    ensures { result ≡ stamp_of mark }
-{
-    Stamp::Acked {
-        seq: mark.seq,
-        conn: mark.conn,
-    }
-}
-
-// Marks as stamps.
-fn stamps_of(alloc: Global, marks: &[Mark]) -> Result<Stamps, OutOfMemory>
-    ensures { IfOk result (λ stamps. stamps ≡ map stamp_of marks.now) }
-{
-    let mut stamps = Stamps::new(alloc);
-    for mark in marks {
-        stamps.push(stamp_of(*mark))?;
-    }
-    Ok(stamps)
-}
-
-// The stamps of the units of a run.
-fn element_of(alloc: Global, run: &RunRec) -> Result<Element, OutOfMemory>
-    ensures { IfOk result (λ e. e ≡ run_stamps run.now) }
-{
-    let dels = stamps_of(alloc, run.dels.as_slice())?;
-    Ok(Element {
-        ins: stamp_of(run.ins),
-        dels,
-    })
 }
