@@ -15,6 +15,7 @@ use Rattle.ft_props.specs.Steps.{Sequence}
 use Rattle.ft_op.specs.Operation.{OnGrid, OnIntervals, OnText, SubOperation}
 use Rattle.ft_op.specs.Intervals.{NamedElements}
 use Rattle.ft_op.specs.Cells.{cell_value}
+use Rattle.ft_op.specs.declared.operations.Target.TheVariants.{Rows, Cols}
 use Rattle.ft_op.specs.Document.{Document}
 use Rattle.ft_op.specs.Stages.{Stage}
 use Rattle.ft_msg.specs.Compacted.{stage_holds_col, stage_holds_row}
@@ -35,7 +36,7 @@ use Rattle.ft_named.proofs.CompactedSteps.{none as kept_none, same as kept_same,
 use Rattle.ft_matrix.specs.declared.grid.Grid.{Grid}
 use Rattle.ft_matrix.specs.declared.stages.GridStage.{GridStage}
 use Rattle.ft_matrix.specs.Applied.{Holds}
-use Rattle.ft_matrix.specs.Compacted.{FreesCols, FreesRows, ScoursUnits, is_in_runs}
+use Rattle.ft_matrix.specs.Compacted.{FreesUnits, ScoursUnits, is_in_runs}
 use Rattle.ft_matrix.specs.Conditions.{AreFreeUnits, HasNoTombstone, HoldsKept}
 use Rattle.ft_matrix.specs.GridStates.{grid_state, shown_stage}
 use Rattle.ft_matrix.specs.HoldsGrid.{HoldsGrid}
@@ -266,7 +267,7 @@ map-all P Q f h (x ∷ xs) a = (h x a.0, map-all P Q f h xs a.1)
 
 module _ (floor : ℕ) (rr rc : List HandleRun) (old mid half new : Grid) (sound : IsSound old) (free : AreFreeUnits floor (grid_state old 0 true))
     (same : mid ≡ record old { rows = mid.rows; cols = mid.cols }) (sr : ScoursUnits floor rr old.rows mid.rows) (sc : ScoursUnits floor rc old.cols mid.cols)
-    (vr : IsSoundVector mid.rows) (vc : IsSoundVector mid.cols) (fr : FreesRows (is_in_runs rr) mid half) (fc : FreesCols (is_in_runs rc) half new) where
+    (vr : IsSoundVector mid.rows) (vc : IsSoundVector mid.cols) (fr : FreesUnits Rows (is_in_runs rr) mid half) (fc : FreesUnits Cols (is_in_runs rc) half new) where
   rows-same : new.rows ≡ half.rows
   rows-same = ap (λ (x : Grid). x.rows) fc.rest
 
@@ -428,7 +429,7 @@ pub record CompactsGrid (raised : ℕ) (old new : Grid) : Type 0 where
 
 pub compacts-grid : (floor : ℕ) (rr rc : List HandleRun) (old mid half new : Grid) → IsSound old → AreFreeUnits floor (grid_state old 0 true)
     → mid ≡ record old { rows = mid.rows; cols = mid.cols } → ScoursUnits floor rr old.rows mid.rows → ScoursUnits floor rc old.cols mid.cols
-    → IsSoundVector mid.rows → IsSoundVector mid.cols → FreesRows (is_in_runs rr) mid half → FreesCols (is_in_runs rc) half new → CompactsGrid floor old new
+    → IsSoundVector mid.rows → IsSoundVector mid.cols → FreesUnits Rows (is_in_runs rr) mid half → FreesUnits Cols (is_in_runs rc) half new → CompactsGrid floor old new
 compacts-grid floor rr rc old mid half new sound free same sr sc vr vc fr fc = record {
   sound = compacted-sound floor rr rc old mid half new sound free same sr sc vr vc fr fc;
   floor = compacted-floor floor rr rc old mid half new sound free same sr sc vr vc fr fc;

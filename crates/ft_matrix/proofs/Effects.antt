@@ -1,5 +1,5 @@
 -- A grid and a document whose part it holds take a splice of a message alike.
-use Rattle.std.proofs.Common.{◌≡◌, ℕ, zero, suc, ◌+◌, ◌≤◌, ◌<◌, true, false, cond, nat_le, List, [], ◌∷◌, None, refl, sym, ◌∙◌, ap, subst, length, replicate, arith, pos}
+use Rattle.std.proofs.Common.{◌≡◌, ℕ, zero, suc, ◌+◌, ◌≤◌, ◌<◌, Bool, true, false, cond, nat_le, List, [], ◌∷◌, None, refl, sym, ◌∙◌, ap, subst, length, replicate, arith, pos}
 use Rattle.std.proofs.lemmas.Bool.Decides.{nat_tests}
 use Rattle.ft_base.specs.declared.stamps.Stamp.TheVariants.{Acked}
 use Rattle.ft_base.specs.declared.elements.Perspective.{Perspective}
@@ -9,6 +9,7 @@ use Rattle.ft_op.specs.declared.operations.CellOp.{CellOp}
 use Rattle.ft_op.specs.declared.operations.CellOp.TheVariants.{SpliceIn, SpliceOut}
 use Rattle.ft_op.specs.declared.operations.GridOp.TheVariants as grid
 use Rattle.ft_op.specs.declared.operations.ChannelOp.TheVariants.{Grid as OfGrid}
+use Rattle.ft_op.specs.declared.operations.Target.{Target}
 use Rattle.ft_op.specs.declared.operations.Target.TheVariants.{Rows, Cols}
 use Rattle.ft_msg.specs.declared.messages.Body.TheVariants.{Op}
 use Rattle.ft_msg.specs.declared.messages.Entry.{Entry}
@@ -17,7 +18,7 @@ use Rattle.ft_props.specs.Element.{ElementId, GridUnit, ListElement, PendingId, 
 use Rattle.ft_props.specs.Steps.{Sequence, after_insertion, after_removal}
 use Rattle.ft_op.specs.Operation.{OnGrid}
 use Rattle.ft_op.specs.Cells.{cell_value}
-use Rattle.ft_op.specs.Document.{Document, grid_effect, with_skip}
+use Rattle.ft_op.specs.Document.{Document, grid_effect, rows_or_cols, with_rows_or_cols, with_skip}
 use Rattle.ft_op.specs.Stages.{Stage}
 use Rattle.ft_msg.specs.Client.{PendingEdit, stages_of}
 use Rattle.ft_tree_leaves.specs.Elements as tree
@@ -34,10 +35,12 @@ use Rattle.ft_matrix.specs.declared.grid.Grid.{Grid}
 use Rattle.ft_matrix.specs.Units.{acked_value, units_of}
 use Rattle.ft_matrix.specs.GridStates.{grid_state}
 use Rattle.ft_matrix.specs.HoldsGrid.{HoldsGrid}
+use Rattle.ft_matrix.specs.Sides.{units_at, with_more_made, with_units_at}
 use Rattle.ft_matrix.specs.Sound.{IsSound}
 use Rattle.ft_matrix.specs.Splices.{Inserts, MarksUnits, PutsUnits, Removes}
-use Rattle.ft_matrix.specs.Applied.{Holds, Passes}
+use Rattle.ft_matrix.specs.Applied.{Holds, Passes, skips}
 use Rattle.ft_matrix.proofs.HeldGrids.{HoldsUnits, RowHolds, UnitStep, alike-self, client_of, handle_value, held-units, rows-beside, self-alike, stages-move, step-moves, step-units, units-held}
+use Rattle.ft_matrix.proofs.SideLaws.{same-side, side-skipped}
 use Rattle.ft_matrix.proofs.UnitLists.{BesideUnits, HandleNamed, IsUnit, beside-units, new-units, range-seen, removed-unit, unit-pending, unit-seen_by}
 
 -- ---- names go on to fit
@@ -158,6 +161,22 @@ module _ (last : ℕ) (old : Grid) (doc : Document) (stages : List Stage) (sound
         cols = step-units last doc.cols.made old.cols doc.cols.items list.items (units_of old.cols) (units_of cols) step units.cols;
       }
 
+  -- other rows or columns, so many of them new
+  pub side-held : (target : Target) (v : VectorState) (n : ℕ) (list : Sequence)
+      → UnitStep last (rows_or_cols target doc).made (units_at target old) (rows_or_cols target doc).items list.items (units_of (units_at target old)) (units_of v)
+      → list.made ≡ (rows_or_cols target doc).made + n
+      → HoldsGrid (grid_state (with_more_made target n (with_units_at target old v)) 0 true) (with_rows_or_cols target doc list) stages
+  side-held Rows v n list step m = rows-held v (old.rows_made + n) list step (m ∙ ap (λ k. k + n) h.holds.rows_made)
+  side-held Cols v n list step m = cols-held v (old.cols_made + n) list step (m ∙ ap (λ k. k + n) h.holds.cols_made)
+
+  -- the same with no new ones
+  pub side-kept : (target : Target) (v : VectorState) (list : Sequence)
+      → UnitStep last (rows_or_cols target doc).made (units_at target old) (rows_or_cols target doc).items list.items (units_of (units_at target old)) (units_of v)
+      → list.made ≡ (rows_or_cols target doc).made
+      → HoldsGrid (grid_state (with_units_at target old v) 0 true) (with_rows_or_cols target doc list) stages
+  side-kept Rows v list step m = rows-held v old.rows_made list step (m ∙ h.holds.rows_made)
+  side-kept Cols v list step m = cols-held v old.cols_made list step (m ∙ h.holds.cols_made)
+
   -- a document that counts one more skipped
   pub skip-held : HoldsGrid (grid_state old 0 true) (with_skip doc) stages
   skip-held = record {
@@ -186,9 +205,6 @@ replicated : (n : ℕ) → length (replicate n GridUnit) ≡ n
 replicated zero = refl
 replicated (suc n) = ap suc (replicated n)
 
-plus-zero : (n : ℕ) → n ≡ n + 0
-plus-zero n = omega arith
-
 above-test : (p n : ℕ) → n < p → nat_le p n ≡ false
 above-test p n l = grind (arith, nat_tests)
 
@@ -196,72 +212,38 @@ within-test : (p n : ℕ) → p ≤ n → nat_le p n ≡ true
 within-test p n l = grind (arith, nat_tests)
 
 module _ (last s : ℕ) (at : Perspective) (old : Grid) (doc : Document) (stages : List Stage) (sound : IsSound old) (h : Holds last old doc stages) where
-  rows-count : len (seen_by at.r at.c) doc.rows.items ≡ len (seen_in (At at)) (units_of old.rows)
-  rows-count = seen-count at (rows-beside (units last old doc stages sound h))
+  count-at : (target : Target) → len (seen_by at.r at.c) (rows_or_cols target doc).items ≡ len (seen_in (At at)) (units_of (units_at target old))
+  count-at Rows = seen-count at (rows-beside (units last old doc stages sound h))
+  count-at Cols = seen-count at (units last old doc stages sound h).cols
 
-  cols-count : len (seen_by at.r at.c) doc.cols.items ≡ len (seen_in (At at)) (units_of old.cols)
-  cols-count = seen-count at (units last old doc stages sound h).cols
+  skip-side : (target : Target) (v : VectorState) → v ≡ units_at target old → HoldsGrid (grid_state (with_units_at target old v) 0 true) (with_skip doc) stages
+  skip-side target v e =
+      subst (λ g. HoldsGrid (grid_state g 0 true) (with_skip doc) stages) (sym (ap (with_units_at target old) e ∙ same-side target old)) (skip-held last old doc stages sound h)
 
-  pub insert-rows-refused : (p count : ℕ) (rows : VectorState) → Inserts (At at) tree.is_pending (Acked s at.c) p count old.rows rows false
-      → Passes last (record old { rows = rows }) doc (grid_effect doc s at.c at.r (SpliceIn Rows p count)) stages 1
-  insert-rows-refused p count rows i =
-      passes last old doc stages sound h s at.c at.r (SpliceIn Rows p count) (with_skip doc) (record old { rows = rows }) 1
-      (ap (λ b. cond b (record doc { rows = after_insertion s at.c at.r p None [] (replicate count GridUnit) doc.rows }) (with_skip doc))
-      (ap (nat_le p) rows-count ∙ above-test p _ i.0))
-      (subst (λ v. HoldsGrid (grid_state (record old { rows = v }) 0 true) (with_skip doc) stages) (sym i.1) (skip-held last old doc stages sound h)) refl
+  pub insert-refused : (target : Target) (p count : ℕ) (v : VectorState) → Inserts (At at) tree.is_pending (Acked s at.c) p count (units_at target old) v false
+      → Passes last (with_units_at target old v) doc (grid_effect doc s at.c at.r (SpliceIn target p count)) stages 1
+  insert-refused target p count v i =
+      let list = after_insertion s at.c at.r p None [] (replicate count GridUnit) (rows_or_cols target doc) in
+      passes last old doc stages sound h s at.c at.r (SpliceIn target p count) (with_skip doc) (with_units_at target old v) 1
+      (ap (λ b. cond b (with_rows_or_cols target doc list) (with_skip doc)) (ap (nat_le p) (count-at target) ∙ above-test p _ i.0)) (skip-side target v i.1) refl
 
-  pub insert-rows-taken : (p count made : ℕ) (rows : VectorState) → Inserts (At at) tree.is_pending (Acked s at.c) p count old.rows rows true → made ≡ old.rows_made + count
-      → Passes last (record old { rows = rows; rows_made = made }) doc (grid_effect doc s at.c at.r (SpliceIn Rows p count)) stages 0
-  insert-rows-taken p count made rows i m =
-      let list = after_insertion s at.c at.r p None [] (replicate count GridUnit) doc.rows in
-      passes last old doc stages sound h s at.c at.r (SpliceIn Rows p count) (record doc { rows = list }) (record old { rows = rows; rows_made = made }) 0
-      (ap (λ b. cond b (record doc { rows = list }) (with_skip doc)) (ap (nat_le p) rows-count ∙ within-test p _ i.0))
-      (rows-held last old doc stages sound h rows made list (insert-step last s at old.rows rows doc.rows p count i.1)
-      (ap (λ n. doc.rows.made + n) (replicated count) ∙ ap (λ n. n + count) h.holds.rows_made ∙ sym m)) (plus-zero doc.skipped)
+  pub insert-taken : (target : Target) (p count : ℕ) (v : VectorState) → Inserts (At at) tree.is_pending (Acked s at.c) p count (units_at target old) v true
+      → Passes last (with_more_made target count (with_units_at target old v)) doc (grid_effect doc s at.c at.r (SpliceIn target p count)) stages 0
+  insert-taken target p count v i =
+      let list = after_insertion s at.c at.r p None [] (replicate count GridUnit) (rows_or_cols target doc) in
+      passes last old doc stages sound h s at.c at.r (SpliceIn target p count) (with_rows_or_cols target doc list) (with_more_made target count (with_units_at target old v)) 0
+      (ap (λ b. cond b (with_rows_or_cols target doc list) (with_skip doc)) (ap (nat_le p) (count-at target) ∙ within-test p _ i.0))
+      (side-held last old doc stages sound h target v count list (insert-step last s at (units_at target old) v (rows_or_cols target doc) p count i.1)
+      (ap (λ n. (rows_or_cols target doc).made + n) (replicated count))) (side-skipped target doc list)
 
-  pub insert-cols-refused : (p count : ℕ) (cols : VectorState) → Inserts (At at) tree.is_pending (Acked s at.c) p count old.cols cols false
-      → Passes last (record old { cols = cols }) doc (grid_effect doc s at.c at.r (SpliceIn Cols p count)) stages 1
-  insert-cols-refused p count cols i =
-      passes last old doc stages sound h s at.c at.r (SpliceIn Cols p count) (with_skip doc) (record old { cols = cols }) 1
-      (ap (λ b. cond b (record doc { cols = after_insertion s at.c at.r p None [] (replicate count GridUnit) doc.cols }) (with_skip doc))
-      (ap (nat_le p) cols-count ∙ above-test p _ i.0))
-      (subst (λ v. HoldsGrid (grid_state (record old { cols = v }) 0 true) (with_skip doc) stages) (sym i.1) (skip-held last old doc stages sound h)) refl
-
-  pub insert-cols-taken : (p count made : ℕ) (cols : VectorState) → Inserts (At at) tree.is_pending (Acked s at.c) p count old.cols cols true → made ≡ old.cols_made + count
-      → Passes last (record old { cols = cols; cols_made = made }) doc (grid_effect doc s at.c at.r (SpliceIn Cols p count)) stages 0
-  insert-cols-taken p count made cols i m =
-      let list = after_insertion s at.c at.r p None [] (replicate count GridUnit) doc.cols in
-      passes last old doc stages sound h s at.c at.r (SpliceIn Cols p count) (record doc { cols = list }) (record old { cols = cols; cols_made = made }) 0
-      (ap (λ b. cond b (record doc { cols = list }) (with_skip doc)) (ap (nat_le p) cols-count ∙ within-test p _ i.0))
-      (cols-held last old doc stages sound h cols made list (insert-step last s at old.cols cols doc.cols p count i.1)
-      (ap (λ n. doc.cols.made + n) (replicated count) ∙ ap (λ n. n + count) h.holds.cols_made ∙ sym m)) (plus-zero doc.skipped)
-
-  pub remove-rows-refused : (p q : ℕ) (rows : VectorState) → Removes (At at) (Acked s at.c) p q old.rows rows false
-      → Passes last (record old { rows = rows }) doc (grid_effect doc s at.c at.r (SpliceOut Rows p q)) stages 1
-  remove-rows-refused p q rows i =
-      passes last old doc stages sound h s at.c at.r (SpliceOut Rows p q) (with_skip doc) (record old { rows = rows }) 1
-      (ap (λ b. cond b (record doc { rows = after_removal s at.c at.r p q doc.rows }) (with_skip doc)) (ap (nat_le q) rows-count ∙ above-test q _ i.0))
-      (subst (λ v. HoldsGrid (grid_state (record old { rows = v }) 0 true) (with_skip doc) stages) (sym i.1) (skip-held last old doc stages sound h)) refl
-
-  pub remove-rows-taken : (p q : ℕ) (rows : VectorState) → Removes (At at) (Acked s at.c) p q old.rows rows true
-      → Passes last (record old { rows = rows }) doc (grid_effect doc s at.c at.r (SpliceOut Rows p q)) stages 0
-  remove-rows-taken p q rows i =
-      let list = after_removal s at.c at.r p q doc.rows in
-      passes last old doc stages sound h s at.c at.r (SpliceOut Rows p q) (record doc { rows = list }) (record old { rows = rows }) 0
-      (ap (λ b. cond b (record doc { rows = list }) (with_skip doc)) (ap (nat_le q) rows-count ∙ within-test q _ i.0))
-      (rows-held last old doc stages sound h rows old.rows_made list (remove-step last s at old.rows rows doc.rows p q i.1) h.holds.rows_made) (plus-zero doc.skipped)
-
-  pub remove-cols-refused : (p q : ℕ) (cols : VectorState) → Removes (At at) (Acked s at.c) p q old.cols cols false
-      → Passes last (record old { cols = cols }) doc (grid_effect doc s at.c at.r (SpliceOut Cols p q)) stages 1
-  remove-cols-refused p q cols i =
-      passes last old doc stages sound h s at.c at.r (SpliceOut Cols p q) (with_skip doc) (record old { cols = cols }) 1
-      (ap (λ b. cond b (record doc { cols = after_removal s at.c at.r p q doc.cols }) (with_skip doc)) (ap (nat_le q) cols-count ∙ above-test q _ i.0))
-      (subst (λ v. HoldsGrid (grid_state (record old { cols = v }) 0 true) (with_skip doc) stages) (sym i.1) (skip-held last old doc stages sound h)) refl
-
-  pub remove-cols-taken : (p q : ℕ) (cols : VectorState) → Removes (At at) (Acked s at.c) p q old.cols cols true
-      → Passes last (record old { cols = cols }) doc (grid_effect doc s at.c at.r (SpliceOut Cols p q)) stages 0
-  remove-cols-taken p q cols i =
-      let list = after_removal s at.c at.r p q doc.cols in
-      passes last old doc stages sound h s at.c at.r (SpliceOut Cols p q) (record doc { cols = list }) (record old { cols = cols }) 0
-      (ap (λ b. cond b (record doc { cols = list }) (with_skip doc)) (ap (nat_le q) cols-count ∙ within-test q _ i.0))
-      (cols-held last old doc stages sound h cols old.cols_made list (remove-step last s at old.cols cols doc.cols p q i.1) h.holds.cols_made) (plus-zero doc.skipped)
+  pub remove-done : (target : Target) (p q : ℕ) (v : VectorState) (taken : Bool) → Removes (At at) (Acked s at.c) p q (units_at target old) v taken
+      → Passes last (with_units_at target old v) doc (grid_effect doc s at.c at.r (SpliceOut target p q)) stages (skips taken)
+  remove-done target p q v false i =
+      let list = after_removal s at.c at.r p q (rows_or_cols target doc) in
+      passes last old doc stages sound h s at.c at.r (SpliceOut target p q) (with_skip doc) (with_units_at target old v) 1
+      (ap (λ b. cond b (with_rows_or_cols target doc list) (with_skip doc)) (ap (nat_le q) (count-at target) ∙ above-test q _ i.0)) (skip-side target v i.1) refl
+  remove-done target p q v true i =
+      let list = after_removal s at.c at.r p q (rows_or_cols target doc) in
+      passes last old doc stages sound h s at.c at.r (SpliceOut target p q) (with_rows_or_cols target doc list) (with_units_at target old v) 0
+      (ap (λ b. cond b (with_rows_or_cols target doc list) (with_skip doc)) (ap (nat_le q) (count-at target) ∙ within-test q _ i.0))
+      (side-kept last old doc stages sound h target v list (remove-step last s at (units_at target old) v (rows_or_cols target doc) p q i.1) refl) (side-skipped target doc list)

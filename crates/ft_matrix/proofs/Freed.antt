@@ -6,10 +6,14 @@ use Rattle.ft_base.specs.Scan.{one_more_if}
 use Rattle.ft_tree_leaves.specs.Elements.{TreeElement}
 use Rattle.ft_perm.specs.Handles.{HandleRun, in_run}
 use Rattle.ft_perm.specs.Vectors.{IsProper, VectorState, in_use, times_held, vector_elements}
+use Rattle.ft_op.specs.declared.operations.Target.{Target}
+use Rattle.ft_op.specs.declared.operations.Target.TheVariants.{Rows, Cols}
 use Rattle.ft_cells.specs.CellTables.{cell_at, empty_cell}
 use Rattle.ft_matrix.specs.declared.grid.Grid.{Grid}
-use Rattle.ft_matrix.specs.Compacted.{AreGone, FreesCols, FreesRows, is_in_runs}
+use Rattle.ft_matrix.specs.Compacted.{AreGone, FreesUnits, is_in_runs, line_of}
+use Rattle.ft_matrix.specs.Sides.{units_at, with_units_at}
 use Rattle.ft_matrix.specs.Units.{units_of}
+use Rattle.ft_matrix.proofs.SideLaws.{at-side, same-side, side-again, side-cells, side-rest}
 use Rattle.ft_matrix.proofs.SoundVectors.{all-weaker}
 
 -- ---- the lines of a run, one after another
@@ -50,36 +54,27 @@ row-end f n row end e l m = let k = m (omega (arith, e)) in omega (arith, e)
 in-run-same : (f n row end : ℕ) (run : HandleRun) → record { first = f; count = n } ≡ run → end ≡ f + n → end ≤ row → (f ≤ end → row ≤ end) → (r : ℕ) → nat_le f r && nat_lt r row ≡ in_run r run
 in-run-same f n row end run e p l m r = ap (λ i. nat_le f r && nat_lt r i) (row-end f n row end p l m) ∙ ap (in_run r) e
 
-module _ (f n row end : ℕ) (run : HandleRun) (same : record { first = f; count = n } ≡ run) (is : end ≡ f + n) (least : end ≤ row) (most : f ≤ end → row ≤ end) (old mid : Grid)
+module _ (f n row end : ℕ) (run : HandleRun) (same-run : record { first = f; count = n } ≡ run) (is-end : end ≡ f + n) (least : end ≤ row) (most : f ≤ end → row ≤ end) (old mid : Grid)
     (rest : mid ≡ record old { cells = mid.cells }) where
-  pub freed-rows : (rows : VectorState) → ((r c : ℕ) → cell_at mid.cells r c ≡ cond (nat_le f r && nat_lt r row) empty_cell (cell_at old.cells r c))
-      → ((h : ℕ) → in_use rows h ≡ (in_use mid.rows h && not (in_run h run))) → rows.tree ≡ mid.rows.tree → rows.next ≡ mid.rows.next
-      → (All (λ (e : TreeElement ℕ). in_run e.unit run ≡ false) (units_of mid.rows) → IsProper mid.rows → IsProper rows)
-      → All (λ (e : TreeElement ℕ). in_run e.unit run ≡ false) (units_of old.rows) → IsProper old.rows → FreesRows (λ h. in_run h run) old (record mid { rows = rows })
-  freed-rows rows cells used tree next proper gone p =
-      let kept : mid.rows ≡ old.rows = ap (λ (x : Grid). x.rows) rest in
-      record {
-        cells = λ r c. cells r c ∙ ap (λ b. cond b empty_cell (cell_at old.cells r c)) (in-run-same f n row end run same is least most r);
-        used = λ h. used h ∙ ap (λ v. in_use v h && not (in_run h run)) kept;
-        tree = tree ∙ ap (λ (v : VectorState). v.tree) kept;
-        next = next ∙ ap (λ (v : VectorState). v.next) kept;
-        proper = proper (subst (λ v. All (λ (e : TreeElement ℕ). in_run e.unit run ≡ false) (units_of v)) (sym kept) gone) (subst IsProper (sym kept) p);
-        rest = ap (λ (x : Grid). record x { rows = rows }) rest;
-      }
-
-  pub freed-cols : (cols : VectorState) → ((r c : ℕ) → cell_at mid.cells r c ≡ cond (nat_le f c && nat_lt c row) empty_cell (cell_at old.cells r c))
-      → ((h : ℕ) → in_use cols h ≡ (in_use mid.cols h && not (in_run h run))) → cols.tree ≡ mid.cols.tree → cols.next ≡ mid.cols.next
-      → (All (λ (e : TreeElement ℕ). in_run e.unit run ≡ false) (units_of mid.cols) → IsProper mid.cols → IsProper cols)
-      → All (λ (e : TreeElement ℕ). in_run e.unit run ≡ false) (units_of old.cols) → IsProper old.cols → FreesCols (λ h. in_run h run) old (record mid { cols = cols })
-  freed-cols cols cells used tree next proper gone p =
-      let kept : mid.cols ≡ old.cols = ap (λ (x : Grid). x.cols) rest in
-      record {
-        cells = λ r c. cells r c ∙ ap (λ b. cond b empty_cell (cell_at old.cells r c)) (in-run-same f n row end run same is least most c);
-        used = λ h. used h ∙ ap (λ v. in_use v h && not (in_run h run)) kept;
-        tree = tree ∙ ap (λ (v : VectorState). v.tree) kept;
-        next = next ∙ ap (λ (v : VectorState). v.next) kept;
-        proper = proper (subst (λ v. All (λ (e : TreeElement ℕ). in_run e.unit run ≡ false) (units_of v)) (sym kept) gone) (subst IsProper (sym kept) p);
-        rest = ap (λ (x : Grid). record x { cols = cols }) rest;
+  pub freed-units : (target : Target) (v : VectorState) → ((r c : ℕ) → cell_at mid.cells r c ≡ cond (nat_le f (line_of target r c) && nat_lt (line_of target r c) row) empty_cell (cell_at old.cells r c))
+      → ((h : ℕ) → in_use v h ≡ (in_use (units_at target mid) h && not (in_run h run))) → v.tree ≡ (units_at target mid).tree → v.next ≡ (units_at target mid).next
+      → (All (λ (e : TreeElement ℕ). in_run e.unit run ≡ false) (units_of (units_at target mid)) → IsProper (units_at target mid) → IsProper v)
+      → All (λ (e : TreeElement ℕ). in_run e.unit run ≡ false) (units_of (units_at target old)) → IsProper (units_at target old)
+      → FreesUnits target (λ h. in_run h run) old (with_units_at target mid v)
+  freed-units target v cells used tree next proper gone p =
+      freed-side (at-side target mid v) (side-cells target mid v) (ap (λ (x : Grid). units_at target x) rest ∙ side-rest target old mid.cells) (side-again target old mid v rest)
+    where
+      freed-side : units_at target (with_units_at target mid v) ≡ v → (with_units_at target mid v).cells ≡ mid.cells → units_at target mid ≡ units_at target old
+          → with_units_at target mid v ≡ record (with_units_at target old v) { cells = mid.cells } → FreesUnits target (λ h. in_run h run) old (with_units_at target mid v)
+      freed-side is same kept again = record {
+        cells = λ r c. ap (λ t. cell_at t r c) same ∙ cells r c
+            ∙ ap (λ b. cond b empty_cell (cell_at old.cells r c)) (in-run-same f n row end run same-run is-end least most (line_of target r c));
+        used = λ h. ap (λ w. in_use w h) is ∙ used h ∙ ap (λ w. in_use w h && not (in_run h run)) kept;
+        tree = ap (λ (w : VectorState). w.tree) is ∙ tree ∙ ap (λ (w : VectorState). w.tree) kept;
+        next = ap (λ (w : VectorState). w.next) is ∙ next ∙ ap (λ (w : VectorState). w.next) kept;
+        proper = subst IsProper (sym is) (proper (subst (λ w. All (λ (e : TreeElement ℕ). in_run e.unit run ≡ false) (units_of w)) (sym kept) gone) (subst IsProper (sym kept) p));
+        rest = again ∙ ap (λ t. record (with_units_at target old v) { cells = t }) (sym same)
+            ∙ ap (λ w. record (with_units_at target old w) { cells = (with_units_at target mid v).cells }) (sym is);
       }
 
 -- ---- one run after another
@@ -184,40 +179,27 @@ not-twice true true b = refl
 not-twice true false b = refl
 not-twice false a b = refl
 
-pub rows-twice : (a b : ℕ → Bool) (old mid new : Grid) → FreesRows a old mid → FreesRows b mid new → FreesRows (λ h. a h || b h) old new
-rows-twice a b old mid new f g = record {
-  cells = λ r c. g.cells r c ∙ ap (cond (b r) empty_cell) (f.cells r c) ∙ cond-twice (a r) (b r) empty_cell (cell_at old.cells r c);
-  used = λ h. g.used h ∙ ap (λ u. u && not (b h)) (f.used h) ∙ not-twice (in_use old.rows h) (a h) (b h);
+-- what the changed grid is, after both
+rest-twice : (target : Target) (old mid new : Grid) → mid ≡ record (with_units_at target old (units_at target mid)) { cells = mid.cells }
+    → new ≡ record (with_units_at target mid (units_at target new)) { cells = new.cells } → new ≡ record (with_units_at target old (units_at target new)) { cells = new.cells }
+rest-twice Rows old mid new f g = g ∙ ap (λ (x : Grid). record x { rows = new.rows; cells = new.cells }) f
+rest-twice Cols old mid new f g = g ∙ ap (λ (x : Grid). record x { cols = new.cols; cells = new.cells }) f
+
+pub units-twice : (target : Target) (a b : ℕ → Bool) (old mid new : Grid) → FreesUnits target a old mid → FreesUnits target b mid new → FreesUnits target (λ h. a h || b h) old new
+units-twice target a b old mid new f g = record {
+  cells = λ r c. g.cells r c ∙ ap (cond (b (line_of target r c)) empty_cell) (f.cells r c)
+      ∙ cond-twice (a (line_of target r c)) (b (line_of target r c)) empty_cell (cell_at old.cells r c);
+  used = λ h. g.used h ∙ ap (λ u. u && not (b h)) (f.used h) ∙ not-twice (in_use (units_at target old) h) (a h) (b h);
   tree = g.tree ∙ f.tree;
   next = g.next ∙ f.next;
   proper = g.proper;
-  rest = g.rest ∙ ap (λ (x : Grid). record x { rows = new.rows; cells = new.cells }) f.rest;
+  rest = rest-twice target old mid new f.rest g.rest;
 }
 
-pub cols-twice : (a b : ℕ → Bool) (old mid new : Grid) → FreesCols a old mid → FreesCols b mid new → FreesCols (λ h. a h || b h) old new
-cols-twice a b old mid new f g = record {
-  cells = λ r c. g.cells r c ∙ ap (cond (b c) empty_cell) (f.cells r c) ∙ cond-twice (a c) (b c) empty_cell (cell_at old.cells r c);
-  used = λ h. g.used h ∙ ap (λ u. u && not (b h)) (f.used h) ∙ not-twice (in_use old.cols h) (a h) (b h);
-  tree = g.tree ∙ f.tree;
-  next = g.next ∙ f.next;
-  proper = g.proper;
-  rest = g.rest ∙ ap (λ (x : Grid). record x { cols = new.cols; cells = new.cells }) f.rest;
-}
-
-pub same-rows : (a b : ℕ → Bool) (old new : Grid) → ((h : ℕ) → a h ≡ b h) → FreesRows a old new → FreesRows b old new
-same-rows a b old new e f = record {
-  cells = λ r c. f.cells r c ∙ ap (λ t. cond t empty_cell (cell_at old.cells r c)) (e r);
-  used = λ h. f.used h ∙ ap (λ t. in_use old.rows h && not t) (e h);
-  tree = f.tree;
-  next = f.next;
-  proper = f.proper;
-  rest = f.rest;
-}
-
-pub same-cols : (a b : ℕ → Bool) (old new : Grid) → ((h : ℕ) → a h ≡ b h) → FreesCols a old new → FreesCols b old new
-same-cols a b old new e f = record {
-  cells = λ r c. f.cells r c ∙ ap (λ t. cond t empty_cell (cell_at old.cells r c)) (e c);
-  used = λ h. f.used h ∙ ap (λ t. in_use old.cols h && not t) (e h);
+pub same-units : (target : Target) (a b : ℕ → Bool) (old new : Grid) → ((h : ℕ) → a h ≡ b h) → FreesUnits target a old new → FreesUnits target b old new
+same-units target a b old new e f = record {
+  cells = λ r c. f.cells r c ∙ ap (λ t. cond t empty_cell (cell_at old.cells r c)) (e (line_of target r c));
+  used = λ h. f.used h ∙ ap (λ t. in_use (units_at target old) h && not t) (e h);
   tree = f.tree;
   next = f.next;
   proper = f.proper;
@@ -228,11 +210,15 @@ and-true : (b : Bool) → b ≡ b && true
 and-true true = refl
 and-true false = refl
 
-pub no-rows : (g : Grid) → IsProper g.rows → FreesRows (λ h. false) g g
-no-rows g p = record { cells = λ r c. refl; used = λ h. and-true (in_use g.rows h); tree = refl; next = refl; proper = p; rest = refl }
-
-pub no-cols : (g : Grid) → IsProper g.cols → FreesCols (λ h. false) g g
-no-cols g p = record { cells = λ r c. refl; used = λ h. and-true (in_use g.cols h); tree = refl; next = refl; proper = p; rest = refl }
+pub no-units : (target : Target) (g : Grid) → IsProper (units_at target g) → FreesUnits target (λ h. false) g g
+no-units target g p = record {
+  cells = λ r c. refl;
+  used = λ h. and-true (in_use (units_at target g) h);
+  tree = refl;
+  next = refl;
+  proper = p;
+  rest = ap (λ (x : Grid). record x { cells = g.cells }) (sym (same-side target g));
+}
 
 -- one run more
 pub partly-more : (done : ℕ → Bool) (xs : List HandleRun) (run : HandleRun) (all : List HandleRun) → IsPartly done (xs ++ (run ∷ [])) all → IsPartly (λ h. done h || in_run h run) xs all

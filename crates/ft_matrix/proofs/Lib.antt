@@ -14,6 +14,7 @@ mod EmptyGrids
 mod OwnSteps
 mod OwnEdits
 mod OwnSound
+mod SideLaws
 mod OwnWrites
 mod OwnGroups
 mod Refusals

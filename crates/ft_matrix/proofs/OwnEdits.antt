@@ -8,6 +8,7 @@ use Rattle.ft_base.proofs.ScanLaws.{retain_map-append}
 use Rattle.ft_block.specs.Leaves.{last_stage}
 use Rattle.ft_op.specs.declared.operations.CellOp.{CellOp}
 use Rattle.ft_op.specs.declared.operations.CellOp.TheVariants.{SpliceIn, SpliceOut, Set}
+use Rattle.ft_op.specs.declared.operations.Target.{Target}
 use Rattle.ft_op.specs.declared.operations.Target.TheVariants.{Rows, Cols}
 use Rattle.ft_msg.specs.declared.faults.EditFault.{EditFault}
 use Rattle.ft_msg.specs.declared.faults.EditFault.TheVariants.{OutOfRange}
@@ -34,12 +35,14 @@ use Rattle.ft_matrix.specs.Units.{shown_unit, units_of}
 use Rattle.ft_matrix.specs.GridStates.{grid_state, shown_stage}
 use Rattle.ft_matrix.specs.HoldsGrid.{HoldsGrid}
 use Rattle.ft_matrix.specs.Conditions.{IsAboveAll}
+use Rattle.ft_matrix.specs.Sides.{units_at, with_units_at}
 use Rattle.ft_matrix.specs.Sound.{IsSound}
 use Rattle.ft_matrix.specs.Splices.{Inserts, Removes}
 use Rattle.ft_matrix.specs.Applied.{Holds}
 use Rattle.ft_matrix.specs.OwnEdits.{EditsOne, TakesStage, stage_of}
-use Rattle.ft_matrix.proofs.Effects.{cols-held, first-stages, rows-held, units}
+use Rattle.ft_matrix.proofs.Effects.{first-stages, side-kept, units}
 use Rattle.ft_matrix.proofs.HeldGrids.{alike-self, client_of, rows-beside, self-alike}
+use Rattle.ft_matrix.proofs.SideLaws.{same-side, side-stages}
 use Rattle.ft_matrix.proofs.OwnSteps.{AreBelow, below-of, own-count, own-insert-step, own-remove-step}
 
 -- ---- an own operation at the stage above the last
@@ -185,74 +188,60 @@ module _ (last k : ℕ) (e : k ≡ last + 1) (few : last ≤ 1844674407370955161
 
   -- ---- splices
 
-  pub own-insert-rows-taken : (p count : ℕ) (rows : VectorState) (like : Grid) → Inserts last_stage no_run (Local k) p count old.rows rows true
-      → like.stages.items ≡ old.stages.items ++ (splice_stage k (SpliceIn Rows p count) ∷ [])
-      → TakesStage last k (record old { rows = rows; stages = like.stages }) doc stages (SpliceIn Rows p count)
-  own-insert-rows-taken p count rows like i q =
-      let puts = subst (λ n. Inserts last_stage no_run (Local n) p count old.rows rows true) here i in
-      let list : Sequence = record doc.rows { items = put (seen last) no_run p (new_elements 0 (Local (suc last)) [] None [] (replicate count GridUnit)) doc.rows.items } in
-      takes (SpliceIn Rows p count) (record doc { rows = list }) no_elements (record old { rows = rows; stages = like.stages })
-      (ap (λ b. cond b (Ok (record doc { rows = list }, no_elements)) (Err (OutOfRange (len (seen last) doc.rows.items)))) (ap (nat_le p) rows-count ∙ within-test p _ puts.0))
-      (pushed (record old { rows = rows }) (record doc { rows = list }) stages like k (SpliceIn Rows p count) no_elements (splice_stage k (SpliceIn Rows p count))
-      (rows-held last old doc stages sound h rows old.rows_made list (own-insert-step last few old.rows rows doc.rows rows-below p count puts.1) h.holds.rows_made) q refl)
+  below-at : (target : Target) → AreBelow (suc last) (units_of (units_at target old))
+  below-at Rows = rows-below
+  below-at Cols = cols-below
 
-  pub own-insert-cols-taken : (p count : ℕ) (cols : VectorState) (like : Grid) → Inserts last_stage no_run (Local k) p count old.cols cols true
-      → like.stages.items ≡ old.stages.items ++ (splice_stage k (SpliceIn Cols p count) ∷ [])
-      → TakesStage last k (record old { cols = cols; stages = like.stages }) doc stages (SpliceIn Cols p count)
-  own-insert-cols-taken p count cols like i q =
-      let puts = subst (λ n. Inserts last_stage no_run (Local n) p count old.cols cols true) here i in
-      let list : Sequence = record doc.cols { items = put (seen last) no_run p (new_elements 0 (Local (suc last)) [] None [] (replicate count GridUnit)) doc.cols.items } in
-      takes (SpliceIn Cols p count) (record doc { cols = list }) no_elements (record old { cols = cols; stages = like.stages })
-      (ap (λ b. cond b (Ok (record doc { cols = list }, no_elements)) (Err (OutOfRange (len (seen last) doc.cols.items)))) (ap (nat_le p) cols-count ∙ within-test p _ puts.0))
-      (pushed (record old { cols = cols }) (record doc { cols = list }) stages like k (SpliceIn Cols p count) no_elements (splice_stage k (SpliceIn Cols p count))
-      (cols-held last old doc stages sound h cols old.cols_made list (own-insert-step last few old.cols cols doc.cols cols-below p count puts.1) h.holds.cols_made) q refl)
+  count-at : (target : Target) → len (seen last) (rows_or_cols target doc).items ≡ len (seen_in last_stage) (units_of (units_at target old))
+  count-at Rows = rows-count
+  count-at Cols = cols-count
 
-  pub own-remove-rows-taken : (p q : ℕ) (rows : VectorState) (like : Grid) → Removes last_stage (Local k) p q old.rows rows true
-      → like.stages.items ≡ old.stages.items ++ (splice_stage k (SpliceOut Rows p q) ∷ [])
-      → TakesStage last k (record old { rows = rows; stages = like.stages }) doc stages (SpliceOut Rows p q)
-  own-remove-rows-taken p q rows like i w =
-      let marks = subst (λ n. Removes last_stage (Local n) p q old.rows rows true) here i in
-      let list : Sequence = record doc.rows { items = change_range_from 0 (seen last) p q (with_pending_removal (suc last)) doc.rows.items } in
-      takes (SpliceOut Rows p q) (record doc { rows = list }) no_elements (record old { rows = rows; stages = like.stages })
-      (ap (λ b. cond b (Ok (record doc { rows = list }, no_elements)) (Err (OutOfRange (len (seen last) doc.rows.items)))) (ap (nat_le q) rows-count ∙ within-test q _ marks.0))
-      (pushed (record old { rows = rows }) (record doc { rows = list }) stages like k (SpliceOut Rows p q) no_elements (splice_stage k (SpliceOut Rows p q))
-      (rows-held last old doc stages sound h rows old.rows_made list (own-remove-step last few old.rows rows doc.rows rows-below p q marks.1) h.holds.rows_made) w refl)
+  spliced : (target : Target) (v : VectorState) (like : Grid) (list : Sequence) (op : CellOp)
+      → HoldsGrid (grid_state (with_units_at target old v) 0 true) (with_rows_or_cols target doc list) stages
+      → like.stages.items ≡ old.stages.items ++ (splice_stage k op ∷ [])
+      → indexed_stage (with_rows_or_cols target doc list) (stage_of k op no_elements) ≡ shown_stage (with_units_at target old v).rows (with_units_at target old v).cols (splice_stage k op)
+      → HoldsGrid (grid_state (record (with_units_at target old v) { stages = like.stages }) 0 true) (with_rows_or_cols target doc list) (stages ++ (stage_of k op no_elements ∷ []))
+  spliced target v like list op held q e =
+      pushed (with_units_at target old v) (with_rows_or_cols target doc list) stages like k op no_elements (splice_stage k op) held
+      (q ∙ ap (λ us. us ++ (splice_stage k op ∷ [])) (sym (side-stages target old v))) e
 
-  pub own-remove-cols-taken : (p q : ℕ) (cols : VectorState) (like : Grid) → Removes last_stage (Local k) p q old.cols cols true
-      → like.stages.items ≡ old.stages.items ++ (splice_stage k (SpliceOut Cols p q) ∷ [])
-      → TakesStage last k (record old { cols = cols; stages = like.stages }) doc stages (SpliceOut Cols p q)
-  own-remove-cols-taken p q cols like i w =
-      let marks = subst (λ n. Removes last_stage (Local n) p q old.cols cols true) here i in
-      let list : Sequence = record doc.cols { items = change_range_from 0 (seen last) p q (with_pending_removal (suc last)) doc.cols.items } in
-      takes (SpliceOut Cols p q) (record doc { cols = list }) no_elements (record old { cols = cols; stages = like.stages })
-      (ap (λ b. cond b (Ok (record doc { cols = list }, no_elements)) (Err (OutOfRange (len (seen last) doc.cols.items)))) (ap (nat_le q) cols-count ∙ within-test q _ marks.0))
-      (pushed (record old { cols = cols }) (record doc { cols = list }) stages like k (SpliceOut Cols p q) no_elements (splice_stage k (SpliceOut Cols p q))
-      (cols-held last old doc stages sound h cols old.cols_made list (own-remove-step last few old.cols cols doc.cols cols-below p q marks.1) h.holds.cols_made) w refl)
+  pub own-insert-taken : (target : Target) (p count : ℕ) (v : VectorState) (like : Grid) → Inserts last_stage no_run (Local k) p count (units_at target old) v true
+      → like.stages.items ≡ old.stages.items ++ (splice_stage k (SpliceIn target p count) ∷ [])
+      → TakesStage last k (record (with_units_at target old v) { stages = like.stages }) doc stages (SpliceIn target p count)
+  own-insert-taken target p count v like i q =
+      let puts = subst (λ n. Inserts last_stage no_run (Local n) p count (units_at target old) v true) here i in
+      let was = rows_or_cols target doc in
+      let list : Sequence = record was { items = put (seen last) no_run p (new_elements 0 (Local (suc last)) [] None [] (replicate count GridUnit)) was.items } in
+      takes (SpliceIn target p count) (with_rows_or_cols target doc list) no_elements (record (with_units_at target old v) { stages = like.stages })
+      (ap (λ b. cond b (Ok (with_rows_or_cols target doc list, no_elements)) (Err (OutOfRange (len (seen last) was.items)))) (ap (nat_le p) (count-at target) ∙ within-test p _ puts.0))
+      (spliced target v like list (SpliceIn target p count)
+      (side-kept last old doc stages sound h target v list (own-insert-step last few (units_at target old) v was (below-at target) p count puts.1) refl) q refl)
 
-  pub own-insert-rows-refused : (p count m : ℕ) (rows : VectorState) → Inserts last_stage no_run (Local k) p count old.rows rows false → m ≡ len (seen_in last_stage) (units_of rows)
-      → EditsOne last k doc stages (SpliceIn Rows p count) old (record old { rows = rows }) (Some m)
-  own-insert-rows-refused p count m rows i n =
-      refuses (SpliceIn Rows p count) _ m (record old { rows = rows })
-      (refused-range p (len (seen last) doc.rows.items) _ (subst (λ n. n < p) (sym rows-count) i.0))
-      (rows-count ∙ sym (n ∙ ap (λ v. len (seen_in last_stage) (units_of v)) i.1)) (ap (λ v. record old { rows = v }) i.1)
+  pub own-remove-taken : (target : Target) (p q : ℕ) (v : VectorState) (like : Grid) → Removes last_stage (Local k) p q (units_at target old) v true
+      → like.stages.items ≡ old.stages.items ++ (splice_stage k (SpliceOut target p q) ∷ [])
+      → TakesStage last k (record (with_units_at target old v) { stages = like.stages }) doc stages (SpliceOut target p q)
+  own-remove-taken target p q v like i w =
+      let marks = subst (λ n. Removes last_stage (Local n) p q (units_at target old) v true) here i in
+      let was = rows_or_cols target doc in
+      let list : Sequence = record was { items = change_range_from 0 (seen last) p q (with_pending_removal (suc last)) was.items } in
+      takes (SpliceOut target p q) (with_rows_or_cols target doc list) no_elements (record (with_units_at target old v) { stages = like.stages })
+      (ap (λ b. cond b (Ok (with_rows_or_cols target doc list, no_elements)) (Err (OutOfRange (len (seen last) was.items)))) (ap (nat_le q) (count-at target) ∙ within-test q _ marks.0))
+      (spliced target v like list (SpliceOut target p q)
+      (side-kept last old doc stages sound h target v list (own-remove-step last few (units_at target old) v was (below-at target) p q marks.1) refl) w refl)
 
-  pub own-insert-cols-refused : (p count m : ℕ) (cols : VectorState) → Inserts last_stage no_run (Local k) p count old.cols cols false → m ≡ len (seen_in last_stage) (units_of cols)
-      → EditsOne last k doc stages (SpliceIn Cols p count) old (record old { cols = cols }) (Some m)
-  own-insert-cols-refused p count m cols i n =
-      refuses (SpliceIn Cols p count) _ m (record old { cols = cols })
-      (refused-range p (len (seen last) doc.cols.items) _ (subst (λ n. n < p) (sym cols-count) i.0))
-      (cols-count ∙ sym (n ∙ ap (λ v. len (seen_in last_stage) (units_of v)) i.1)) (ap (λ v. record old { cols = v }) i.1)
+  -- where the length that is seen then is below the place
+  refused : (target : Target) (op : CellOp) (d : Document) (p m : ℕ) (v w : VectorState)
+      → own_grid doc (suc last) last op ≡ if_in_range p (len (seen last) (rows_or_cols target doc).items) d
+      → len (seen_in last_stage) (units_of (units_at target old)) < p → v ≡ units_at target old → w ≡ v → m ≡ len (seen_in last_stage) (units_of w)
+      → EditsOne last k doc stages op old (with_units_at target old v) (Some m)
+  refused target op d p m v w o l e f n =
+      refuses op _ m (with_units_at target old v) (o ∙ refused-range p (len (seen last) (rows_or_cols target doc).items) d (subst (λ i. i < p) (sym (count-at target)) l))
+      (count-at target ∙ sym (n ∙ ap (λ u. len (seen_in last_stage) (units_of u)) (f ∙ e))) (ap (with_units_at target old) e ∙ same-side target old)
 
-  pub own-remove-rows-refused : (p q m : ℕ) (rows : VectorState) → Removes last_stage (Local k) p q old.rows rows false → m ≡ len (seen_in last_stage) (units_of rows)
-      → EditsOne last k doc stages (SpliceOut Rows p q) old (record old { rows = rows }) (Some m)
-  own-remove-rows-refused p q m rows i n =
-      refuses (SpliceOut Rows p q) _ m (record old { rows = rows })
-      (refused-range q (len (seen last) doc.rows.items) _ (subst (λ n. n < q) (sym rows-count) i.0))
-      (rows-count ∙ sym (n ∙ ap (λ v. len (seen_in last_stage) (units_of v)) i.1)) (ap (λ v. record old { rows = v }) i.1)
+  pub own-insert-refused : (target : Target) (p count m : ℕ) (v w : VectorState) → Inserts last_stage no_run (Local k) p count (units_at target old) v false → w ≡ v
+      → m ≡ len (seen_in last_stage) (units_of w) → EditsOne last k doc stages (SpliceIn target p count) old (with_units_at target old v) (Some m)
+  own-insert-refused target p count m v w i f n = refused target (SpliceIn target p count) _ p m v w refl i.0 i.1 f n
 
-  pub own-remove-cols-refused : (p q m : ℕ) (cols : VectorState) → Removes last_stage (Local k) p q old.cols cols false → m ≡ len (seen_in last_stage) (units_of cols)
-      → EditsOne last k doc stages (SpliceOut Cols p q) old (record old { cols = cols }) (Some m)
-  own-remove-cols-refused p q m cols i n =
-      refuses (SpliceOut Cols p q) _ m (record old { cols = cols })
-      (refused-range q (len (seen last) doc.cols.items) _ (subst (λ n. n < q) (sym cols-count) i.0))
-      (cols-count ∙ sym (n ∙ ap (λ v. len (seen_in last_stage) (units_of v)) i.1)) (ap (λ v. record old { cols = v }) i.1)
+  pub own-remove-refused : (target : Target) (p q m : ℕ) (v w : VectorState) → Removes last_stage (Local k) p q (units_at target old) v false → w ≡ v
+      → m ≡ len (seen_in last_stage) (units_of w) → EditsOne last k doc stages (SpliceOut target p q) old (with_units_at target old v) (Some m)
+  own-remove-refused target p q m v w i f n = refused target (SpliceOut target p q) _ q m v w refl i.0 i.1 f n

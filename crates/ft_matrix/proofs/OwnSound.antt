@@ -1,5 +1,5 @@
 -- A grid stays sound where a pending stage is added.
-use Rattle.std.proofs.Common.{◌≡◌, ℕ, zero, suc, ◌+◌, ◌<◌, All, Bool, true, false, ◌&&◌, ◌||◌, List, [], ◌∷◌, ◌++◌, None, refl, sym, ◌∙◌, ap, subst, map, arith, append-nil, append_assoc}
+use Rattle.std.proofs.Common.{◌≡◌, ℕ, zero, suc, ◌+◌, ◌<◌, All, true, false, ◌&&◌, List, [], ◌∷◌, ◌++◌, None, refl, sym, ◌∙◌, ap, subst, map, arith, append-nil, append_assoc}
 use Rattle.std.specs.List.{AllByRecursion, list_all}
 use Rattle.std.proofs.lemmas.Bool.Decides.{nat_tests}
 use Rattle.std.proofs.lemmas.List.Elements.{All-from_recursion, recursion_from_All}
@@ -10,10 +10,12 @@ use Rattle.ft_base.specs.Visibility.{is_acked}
 use Rattle.ft_base.proofs.Booleans.{both}
 use Rattle.ft_block.specs.Leaves.{last_stage}
 use Rattle.ft_op.specs.declared.operations.CellOp.{CellOp}
+use Rattle.ft_op.specs.declared.operations.Target.{Target}
+use Rattle.ft_op.specs.declared.operations.Target.TheVariants.{Rows, Cols}
 use Rattle.ft_props.specs.Element.{NamelessElement}
 use Rattle.ft_msg.specs.Indexed.{IndexedStage}
 use Rattle.ft_tree_leaves.specs.Elements.{TreeElement, new_elements, removed_stamps, seen_in, with_stamps}
-use Rattle.ft_perm.specs.Handles.{handles_of, numbers_from, in_run}
+use Rattle.ft_perm.specs.Handles.{handles_of, numbers_from}
 use Rattle.ft_perm.specs.Vectors.{VectorState, in_use}
 use Rattle.ft_laws_names.specs.GridFacts.{is_stamp_below, is_unit_below}
 use Rattle.ft_matrix.specs.declared.grid.Grid.{Grid}
@@ -21,9 +23,11 @@ use Rattle.ft_matrix.specs.declared.stages.GridStage.{GridStage}
 use Rattle.ft_matrix.specs.Units.{shown_unit, units_of}
 use Rattle.ft_matrix.specs.GridStates.{grid_state, shown_stage}
 use Rattle.ft_matrix.specs.Conditions.{IsAboveAll}
+use Rattle.ft_matrix.specs.Sides.{units_at, with_units_at}
 use Rattle.ft_matrix.specs.Sound.{IsSound, IsSoundVector, StagesRise, write_of, writes_to}
 use Rattle.ft_matrix.specs.Splices.{Inserts, Removes}
 use Rattle.ft_matrix.proofs.OwnSteps.{AreBelow, below-of}
+use Rattle.ft_matrix.proofs.SideLaws.{side-sound, side-stages}
 use Rattle.ft_matrix.proofs.SoundVectors.{all-put, all-range, all-weaker}
 
 -- ---- stages above
@@ -45,13 +49,6 @@ flat-behind row col (t ∷ us) u = ap (λ ws. write_of row col t ++ ws) (flat-be
 pub splice-writes : (row col : ℕ) (us vs : List GridStage) (u : GridStage) → vs ≡ us ++ (u ∷ []) → write_of row col u ≡ [] → writes_to row col vs ≡ writes_to row col us
 splice-writes row col us vs u e n = ap (writes_to row col) e ∙ flat-behind row col us u ∙ ap (λ ws. writes_to row col us ++ ws) n ∙ append-nil (writes_to row col us)
 
-used-before : (old new : VectorState) (h : ℕ) (b : Bool) → in_use new h ≡ (in_use old h || b) → in_use new h ≡ false → in_use old h ≡ false
-used-before old new h b e n = step (in_use old h) b (sym e ∙ n)
-  where
-    step : (a c : Bool) → (a || c) ≡ false → a ≡ false
-    step true c g = (cc)
-    step false c g = refl
-
 module _ (old like : Grid) (k : ℕ) (op : CellOp) (sound : IsSound old) (above : IsAboveAll k (grid_state old 0 true))
     (queue : like.stages.items ≡ old.stages.items ++ (record { stage = k; op = op; row = None; col = None } ∷ []))
     (none : (row col : ℕ) → write_of row col (record { stage = k; op = op; row = None; col = None }) ≡ []) (some : 0 < k) where
@@ -62,35 +59,20 @@ module _ (old like : Grid) (k : ℕ) (op : CellOp) (sound : IsSound old) (above 
   rises : StagesRise 0 like.stages.items
   rises = subst (StagesRise 0) (sym queue) (rise-behind 0 k old.stages.items (record { stage = k; op = op; row = None; col = None }) some refl before sound.rise)
 
-  pub rows-stage-sound : (rows : VectorState) → IsSoundVector rows → ((h : ℕ) → in_use rows h ≡ false → in_use old.rows h ≡ false) → rows.tree.floor ≡ old.rows.tree.floor
-      → IsSound (record old { rows = rows; stages = like.stages })
-  rows-stage-sound rows s u f = record {
-    rows = s;
-    cols = sound.cols;
-    floors = sound.floors ∙ sym f;
-    held = record { rows = λ r c n. sound.held.rows r c (u r n); cols = λ r c n. sound.held.cols r c n };
-    writes = λ r c. sound.writes r c
+  pushed-sound : (g : Grid) → g.stages.items ≡ old.stages.items → IsSound g → IsSound (record g { stages = like.stages })
+  pushed-sound g e s = record {
+    rows = s.rows;
+    cols = s.cols;
+    floors = s.floors;
+    held = s.held;
+    writes = λ r c. s.writes r c ∙ ap (writes_to r c) e
         ∙ sym (splice-writes r c old.stages.items like.stages.items (record { stage = k; op = op; row = None; col = None }) queue (none r c));
     rise = rises;
   }
 
-  pub cols-stage-sound : (cols : VectorState) → IsSoundVector cols → ((h : ℕ) → in_use cols h ≡ false → in_use old.cols h ≡ false) → cols.tree.floor ≡ old.cols.tree.floor
-      → IsSound (record old { cols = cols; stages = like.stages })
-  cols-stage-sound cols s u f = record {
-    rows = sound.rows;
-    cols = s;
-    floors = f ∙ sound.floors;
-    held = record { rows = λ r c n. sound.held.rows r c n; cols = λ r c n. sound.held.cols r c (u c n) };
-    writes = λ r c. sound.writes r c
-        ∙ sym (splice-writes r c old.stages.items like.stages.items (record { stage = k; op = op; row = None; col = None }) queue (none r c));
-    rise = rises;
-  }
-
-pub puts-used : (p count k : ℕ) (old new : VectorState) → Inserts last_stage no_run (Local k) p count old new true → (h : ℕ) → in_use new h ≡ false → in_use old h ≡ false
-puts-used p count k old new i h n = used-before old new h (in_run h i.1.run) (i.1.used h) n
-
-pub marks-used : (p q k : ℕ) (old new : VectorState) → Removes last_stage (Local k) p q old new true → (h : ℕ) → in_use new h ≡ false → in_use old h ≡ false
-marks-used p q k old new i h n = sym (i.1.used h) ∙ n
+  pub stage-sound : (target : Target) (v : VectorState) → IsSoundVector v → ((h : ℕ) → in_use v h ≡ false → in_use (units_at target old) h ≡ false)
+      → v.tree.floor ≡ (units_at target old).tree.floor → IsSound (record (with_units_at target old v) { stages = like.stages })
+  stage-sound target v s u f = pushed-sound (with_units_at target old v) (side-stages target old v) (side-sound target old v sound s u f)
 
 -- ---- all is below the next stage
 
@@ -173,3 +155,12 @@ next-above old new k u above e queue rows cols = record {
       (stage-later k old.stages.items (stages-above old.rows old.cols k old.stages.items
       (recursion_from_All (λ (t : IndexedStage). t.stage < k) (map (shown_stage old.rows old.cols) old.stages.items) above.stages)) u e)));
 }
+
+-- with units of a splice at stage k
+pub splice-above : (target : Target) (old : Grid) (v : VectorState) (like : Grid) (k : ℕ) (u : GridStage) → IsAboveAll k (grid_state old 0 true) → u.stage ≡ k
+    → like.stages.items ≡ old.stages.items ++ (u ∷ []) → (AreBelow k (units_of (units_at target old)) → AreBelow (k + 1) (units_of v))
+    → IsAboveAll (k + 1) (grid_state (record (with_units_at target old v) { stages = like.stages }) 0 true)
+splice-above Rows old v like k u above e queue f =
+    next-above old (record old { rows = v; stages = like.stages }) k u above e queue (f (units-below k old.rows above.rows)) (later-units k old.cols (units-below k old.cols above.cols))
+splice-above Cols old v like k u above e queue f =
+    next-above old (record old { cols = v; stages = like.stages }) k u above e queue (later-units k old.rows (units-below k old.rows above.rows)) (f (units-below k old.cols above.cols))

@@ -1,5 +1,5 @@
 -- A vector stays sound where units are put in and where they are changed.
-use Rattle.std.proofs.Common.{◌≡◌, ℕ, zero, suc, ◌+◌, ◌≤◌, ◌<◌, All, IsTrue, OnOk, Result, Ok, Err, Bool, true, false, cond, ◌&&◌, ◌||◌, nat_eq, List, [], ◌∷◌, ◌++◌, Option, Some, None, refl, sym, ◌∙◌, ap, subst, map, length, arith}
+use Rattle.std.proofs.Common.{◌≡◌, ℕ, zero, suc, ◌+◌, ◌≤◌, ◌<◌, All, IfOk, IsTrue, OnOk, Result, Ok, Err, Bool, true, false, cond, ◌&&◌, ◌||◌, nat_eq, List, [], ◌∷◌, ◌++◌, Option, Some, None, refl, sym, ◌∙◌, ap, subst, map, length, arith}
 use Rattle.std.specs.List.{AllByRecursion}
 use Rattle.std.specs.Option.{option_map}
 use Rattle.std.proofs.lemmas.Bool.Decides.{nat_tests}
@@ -369,6 +369,10 @@ lowest-units k v s = All-from_recursion (λ (e : TreeElement ℕ). IsLowestChang
     (recursion_from_All (λ (e : TreeElement ℕ). e.overlay ≡ no_properties) (units_of v) s.plain))
 
 -- what holds where a call succeeds, by what held where it did
+pub if-ok : {A E : Type 0} (P Q : A → Type 0) (r : Result A E) → IfOk r P → ((x : A) → P x → Q x) → IfOk r Q
+if-ok P Q (Ok x) p f = f x p
+if-ok P Q (Err e) p f = tt
+
 pub ok-with : {A E P : Type 0} (Q : Type 0) (r : Result A E) → OnOk r P → (P → OnOk r Q) → OnOk r Q
 ok-with Q (Ok x) p f = f p
 ok-with Q (Err e) p f = tt

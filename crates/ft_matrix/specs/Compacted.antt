@@ -3,11 +3,14 @@ use Rattle.std.specs.Prelude.{◌≡◌, ◌≤◌, ℕ, Bool, true, false, cond
 use Rattle.std.specs.List.{AllByRecursion, list_any}
 use Rattle.ft_base.specs.Scan.{len}
 use Rattle.ft_tree_leaves.specs.Elements.{TreeElement}
+use Rattle.ft_op.specs.declared.operations.Target.{Target}
+use Rattle.ft_op.specs.declared.operations.Target.TheVariants.{Rows, Cols}
 use Rattle.ft_cells.specs.CellTables.{cell_at, empty_cell}
 use Rattle.ft_perm.specs.Handles.{HandleRun, in_run}
 use Rattle.ft_perm.specs.Vectors.{IsProper, VectorState, in_use, times_held}
 use Rattle.ft_zamboni.specs.Scours.{Writes, is_collectable, staying}
 use Rattle.ft_matrix.specs.declared.grid.Grid.{Grid}
+use Rattle.ft_matrix.specs.Sides.{units_at, with_units_at}
 use Rattle.ft_matrix.specs.Units.{units_of}
 
 -- whether one of the runs has the handle
@@ -32,20 +35,21 @@ pub record AreGone (runs : List HandleRun) (v : VectorState) : Type 0 where
   pub gone : All (λ e. is_in_runs runs e.unit ≡ false) (units_of v)
   pub proper : IsProper v
 
--- rows of these handles have no cells, and the handles are free
-pub record FreesRows (gone : ℕ → Bool) (old new : Grid) : Type 0 where
-  pub cells : (r c : ℕ) → cell_at new.cells r c ≡ cond (gone r) empty_cell (cell_at old.cells r c)
-  pub used : (h : ℕ) → in_use new.rows h ≡ (in_use old.rows h && not (gone h))
-  pub tree : new.rows.tree ≡ old.rows.tree
-  pub next : new.rows.next ≡ old.rows.next
-  pub proper : IsProper new.rows
-  pub rest : new ≡ record old { rows = new.rows; cells = new.cells }
+-- the handle of the row, or that of the column
+abbrev pub line_of : Target → ℕ → ℕ → ℕ
+line_of Rows r c = r
+line_of Cols r c = c
 
--- columns of these handles have no cells, and the handles are free
-pub record FreesCols (gone : ℕ → Bool) (old new : Grid) : Type 0 where
-  pub cells : (r c : ℕ) → cell_at new.cells r c ≡ cond (gone c) empty_cell (cell_at old.cells r c)
-  pub used : (h : ℕ) → in_use new.cols h ≡ (in_use old.cols h && not (gone h))
-  pub tree : new.cols.tree ≡ old.cols.tree
-  pub next : new.cols.next ≡ old.cols.next
-  pub proper : IsProper new.cols
-  pub rest : new ≡ record old { cols = new.cols; cells = new.cells }
+-- a row or a column has no cells
+pub record ClearsLine (target : Target) (h : ℕ) (old new : Grid) : Type 0 where
+  pub cells : (r c : ℕ) → cell_at new.cells r c ≡ cond (nat_eq (line_of target r c) h) empty_cell (cell_at old.cells r c)
+  pub rest : new ≡ record old { cells = new.cells }
+
+-- rows or columns of these handles have no cells, and the handles are free
+pub record FreesUnits (target : Target) (gone : ℕ → Bool) (old new : Grid) : Type 0 where
+  pub cells : (r c : ℕ) → cell_at new.cells r c ≡ cond (gone (line_of target r c)) empty_cell (cell_at old.cells r c)
+  pub used : (h : ℕ) → in_use (units_at target new) h ≡ (in_use (units_at target old) h && not (gone h))
+  pub tree : (units_at target new).tree ≡ (units_at target old).tree
+  pub next : (units_at target new).next ≡ (units_at target old).next
+  pub proper : IsProper (units_at target new)
+  pub rest : new ≡ record (with_units_at target old (units_at target new)) { cells = new.cells }

@@ -1,5 +1,6 @@
 pub mod Units
 pub mod GridStates
+pub mod Sides
 pub mod Sound
 pub mod HoldsGrid
 pub mod Conditions

@@ -20,7 +20,7 @@ use crate::messages::more;
 use crate::splices::ack_units;
 use crate::stages::GridStage;
 use ft_base::OutOfMemory;
-use ft_op::{CellOp, Target};
+use ft_op::CellOp;
 
 impl SharedMatrix {
     /// Makes the `count` stages from `first` on sequenced one after another, under number `seq` by connection `conn`; those of them
@@ -103,12 +103,9 @@ impl Grid {
     fn count_units(&mut self, op: &CellOp) -> Result<(), OutOfMemory>
         ensures { OnOk result (CountsUnits op.now self.old self.new) }
     {
-        if let CellOp::SpliceIn { target, count, .. } = op {
-            match target {
-                Target::Rows => self.rows_made = more(self.rows_made, *count)?,
-                Target::Cols => self.cols_made = more(self.cols_made, *count)?,
-            }
+        match op {
+            CellOp::SpliceIn { target, count, .. } => self.count_made(*target, *count),
+            CellOp::SpliceOut { .. } | CellOp::Set { .. } => Ok(()),
         }
-        Ok(())
     }
 }

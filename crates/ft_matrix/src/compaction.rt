@@ -9,17 +9,19 @@ ghost use Rattle.ft_perm.specs.Vectors.{IsProper, in_use};
 ghost use Rattle.ft_zamboni.specs.Scours.{is_collectable};
 ghost use Rattle.ft_laws_names.specs.WellNamed.{AreWellNamed};
 ghost use Rattle.ft_matrix.specs.Applied.{Holds};
-ghost use Rattle.ft_matrix.specs.Compacted.{AreGone, FreesCols, FreesRows, ScoursUnits, is_in_runs};
+ghost use Rattle.ft_matrix.specs.Compacted.{AreGone, ClearsLine, FreesUnits, ScoursUnits, is_in_runs};
 ghost use Rattle.ft_matrix.specs.Units.{units_of};
 ghost use Rattle.ft_matrix.specs.Conditions.{AreFreeUnits, HasNoTombstone, HoldsKept};
 ghost use Rattle.ft_matrix.specs.GridStates.{grid_state};
 ghost use Rattle.ft_matrix.specs.HoldsGrid.{HoldsGrid};
+ghost use Rattle.ft_matrix.specs.Sides.{units_at};
 ghost use Rattle.ft_matrix.specs.Sound.{IsSound, IsSoundVector};
 
 use crate::grid::Grid;
 use crate::matrix::SharedMatrix;
 use crate::messages::more;
 use ft_base::OutOfMemory;
+use ft_op::Target;
 use ft_perm::{Handles, Vector};
 use ft_zamboni::{scour, scour_all};
 use std::alloc::Global;
@@ -128,8 +130,8 @@ impl Grid {
     {
         let rows = scour_units(&mut self.rows, alloc, floor)?;
         let cols = scour_units(&mut self.cols, alloc, floor)?;
-        self.free_rows(rows)?;
-        self.free_cols(cols)
+        self.free(Target::Rows, rows)?;
+        self.free(Target::Cols, cols)
     }
 
     // Raises the floor, and looks at `budget` further leaves of the rows and as many of the columns: those that were removed at or
@@ -147,55 +149,41 @@ impl Grid {
     {
         let rows = scour_part(&mut self.rows, alloc, floor, budget)?;
         let cols = scour_part(&mut self.cols, alloc, floor, budget)?;
-        self.free_rows(rows)?;
-        self.free_cols(cols)
+        self.free(Target::Rows, rows)?;
+        self.free(Target::Cols, cols)
     }
 
-    // Takes the cells of rows out that are gone, and frees their handles.
-    fn free_rows(&mut self, mut taken: Vec<Handles>) -> Result<(), OutOfMemory>
-        requires gone { AreGone taken.items self.old.rows }
-        ensures { OnOk result (FreesRows (is_in_runs taken.items) self.old self.new) }
+    // Takes the cells of rows or columns out that are gone, and frees their handles.
+    fn free(&mut self, target: Target, mut taken: Vec<Handles>) -> Result<(), OutOfMemory>
+        requires gone { AreGone taken.items (units_at target self.old) }
+        ensures { OnOk result (FreesUnits target (is_in_runs taken.items) self.old self.new) }
     {
         while let Some(run) = taken.pop() {
-            self.free_row_run(run)?;
+            self.free_run(target, run)?;
         }
         Ok(())
     }
 
-    // Takes the cells of a run of rows out that are gone, and frees its handles.
-    fn free_row_run(&mut self, run: Handles) -> Result<(), OutOfMemory>
-        requires used { (h : ℕ) → in_run h run ≡ true → in_use self.old.rows h ≡ true }
-        requires gone { All (λ e. in_run e.unit run ≡ false) (units_of self.old.rows) }
-        requires proper { IsProper self.old.rows }
-        ensures { OnOk result (FreesRows (λ h. in_run h run) self.old self.new) }
+    // Takes the cells of a run of rows or columns out that are gone, and frees its handles.
+    fn free_run(&mut self, target: Target, run: Handles) -> Result<(), OutOfMemory>
+        requires used { (h : ℕ) → in_run h run ≡ true → in_use (units_at target self.old) h ≡ true }
+        requires gone { All (λ e. in_run e.unit run ≡ false) (units_of (units_at target self.old)) }
+        requires proper { IsProper (units_at target self.old) }
+        ensures { OnOk result (FreesUnits target (λ h. in_run h run) self.old self.new) }
     {
-        for row in run.first..more(run.first, run.count)? {
-            self.cells.clear_row(row);
+        for handle in run.first..more(run.first, run.count)? {
+            self.clear_line(target, handle);
         }
-        self.rows.recycle(run)
+        self.units_mut(target).recycle(run)
     }
 
-    // Takes the cells of columns out that are gone, and frees their handles.
-    fn free_cols(&mut self, mut taken: Vec<Handles>) -> Result<(), OutOfMemory>
-        requires gone { AreGone taken.items self.old.cols }
-        ensures { OnOk result (FreesCols (is_in_runs taken.items) self.old self.new) }
+    // Takes the cells of a row or of a column out.
+    fn clear_line(&mut self, target: Target, handle: u64)
+        ensures { ClearsLine target handle self.old self.new }
     {
-        while let Some(run) = taken.pop() {
-            self.free_col_run(run)?;
+        match target {
+            Target::Rows => self.cells.clear_row(handle),
+            Target::Cols => self.cells.clear_col(handle),
         }
-        Ok(())
-    }
-
-    // Takes the cells of a run of columns out that are gone, and frees its handles.
-    fn free_col_run(&mut self, run: Handles) -> Result<(), OutOfMemory>
-        requires used { (h : ℕ) → in_run h run ≡ true → in_use self.old.cols h ≡ true }
-        requires gone { All (λ e. in_run e.unit run ≡ false) (units_of self.old.cols) }
-        requires proper { IsProper self.old.cols }
-        ensures { OnOk result (FreesCols (λ h. in_run h run) self.old self.new) }
-    {
-        for col in run.first..more(run.first, run.count)? {
-            self.cells.clear_col(col);
-        }
-        self.cols.recycle(run)
     }
 }

@@ -1,15 +1,20 @@
 //! The parts of a shared table.
 
-ghost use Rattle.std.specs.Prelude.{◌≡◌, [], ℕ, true};
+ghost use Rattle.std.specs.Prelude.{◌≡◌, [], ℕ, OnOk, true};
+ghost use Rattle.std.specs.Borrow.{sem};
 ghost use Rattle.ft_cells.specs.CellTables.{cell_at, empty_cell};
 ghost use Rattle.ft_op.specs.Document.{empty};
 ghost use Rattle.ft_matrix.specs.Sound.{IsSound};
 ghost use Rattle.ft_matrix.specs.GridStates.{grid_state};
 ghost use Rattle.ft_matrix.specs.HoldsGrid.{HoldsGrid};
+ghost use Rattle.ft_matrix.specs.Sides.{lends_units, units_at, with_more_made};
 ghost use Rattle.ft_matrix.specs.Units.{units_of};
 
+use crate::messages::more;
 use crate::stages::GridStage;
+use ft_base::OutOfMemory;
 use ft_cells::Cells;
+use ft_op::Target;
 use ft_perm::Vector;
 use std::alloc::Global;
 use std::collections::VecDeque;
@@ -44,5 +49,38 @@ impl Grid {
             rows_made: 0,
             cols_made: 0,
         }
+    }
+    /// The rows, or the columns.
+    pub fn units(&self, target: Target) -> &Vector
+        ensures { result.now ≡ units_at target self.now }
+    {
+        match target {
+            Target::Rows => &self.rows,
+            Target::Cols => &self.cols,
+        }
+    }
+
+    /// The rows, or the columns, to be changed.
+    pub fn units_mut(&mut self, target: Target) -> &mut Vector
+        ensures* writes_back { sem 𝓛 (lends_units target self.entry result) }
+        ensures value { result.now ≡ units_at target self.old }
+    {
+        match target {
+            Target::Rows => &mut self.rows,
+            Target::Cols => &mut self.cols,
+        }
+    }
+
+    /// Counts rows or columns that were sequenced.
+    ///
+    /// Returns `OutOfMemory` where their count would pass 2^64 - 1.
+    pub fn count_made(&mut self, target: Target, count: u64) -> Result<(), OutOfMemory>
+        ensures { OnOk result (self.new ≡ with_more_made target count self.old) }
+    {
+        match target {
+            Target::Rows => self.rows_made = more(self.rows_made, count)?,
+            Target::Cols => self.cols_made = more(self.cols_made, count)?,
+        }
+        Ok(())
     }
 }

@@ -19,7 +19,7 @@ use crate::splices::{insert_units, remove_units};
 use ft_base::{Datum, OutOfMemory, Perspective, Steps};
 use ft_block::LenView;
 use ft_json::ValText;
-use ft_op::{CellOp, GridOp, Target};
+use ft_op::{CellOp, GridOp};
 use std::sync::ledger::Ledger;
 
 impl SharedMatrix {
@@ -124,128 +124,18 @@ impl Grid {
             → IfOk result (λ taken. Passes last self.new doc (grid_effect doc seq at.c at.r op.now) stages (skips taken)) }
     {
         match op {
-            CellOp::SpliceIn {
-                target: Target::Rows,
-                pos,
-                count,
-            } => self.insert_rows(*pos, *count, seq, at, steps),
-            CellOp::SpliceIn {
-                target: Target::Cols,
-                pos,
-                count,
-            } => self.insert_cols(*pos, *count, seq, at, steps),
-            CellOp::SpliceOut {
-                target: Target::Rows,
-                pos1,
-                pos2,
-            } => self.remove_rows(*pos1, *pos2, seq, at, steps),
-            CellOp::SpliceOut {
-                target: Target::Cols,
-                pos1,
-                pos2,
-            } => self.remove_cols(*pos1, *pos2, seq, at, steps),
+            CellOp::SpliceIn { target, pos, count } => {
+                if !insert_units(self.units_mut(*target), *pos, *count, seq, at, steps)? {
+                    return Ok(false);
+                }
+                self.count_made(*target, *count)?;
+                Ok(true)
+            }
+            CellOp::SpliceOut { target, pos1, pos2 } => {
+                remove_units(self.units_mut(*target), *pos1, *pos2, seq, at, steps)
+            }
             CellOp::Set { row, col, value } => self.set(*row, *col, value, at),
         }
-    }
-
-    // Puts rows in, as a splice of a message does.
-    //
-    // Returns `OutOfMemory` where there is no room for them, and then the grid may be used no more.
-    fn insert_rows<G: Ledger>(
-        &mut self,
-        p: u64,
-        count: u64,
-        seq: u64,
-        at: Perspective,
-        steps: &mut Steps<G>,
-    ) -> Result<bool, OutOfMemory>
-        requires sound { IsSound self.old }
-        requires floor { self.old.rows.tree.floor ≤ at.r }
-        ensures sound { OnOk result (IsSound self.new) }
-        ensures floor { OnOk result (self.new.rows.tree.floor ≡ self.old.rows.tree.floor) }
-        ensures applied { (last : ℕ) (doc : Document) (stages : List Stage) → Holds last self.old doc stages
-            → IfOk result (λ taken. Passes last self.new doc (grid_effect doc seq at.c at.r (CellOp.SpliceIn Target.Rows p count)) stages (skips taken)) }
-    {
-        if !insert_units(&mut self.rows, p, count, seq, at, steps)? {
-            return Ok(false);
-        }
-        self.rows_made = more(self.rows_made, count)?;
-        Ok(true)
-    }
-
-    // Puts columns in, as a splice of a message does.
-    //
-    // Returns `OutOfMemory` where there is no room for them, and then the grid may be used no more.
-    fn insert_cols<G: Ledger>(
-        &mut self,
-        p: u64,
-        count: u64,
-        seq: u64,
-        at: Perspective,
-        steps: &mut Steps<G>,
-    ) -> Result<bool, OutOfMemory>
-        requires sound { IsSound self.old }
-        requires floor { self.old.rows.tree.floor ≤ at.r }
-        ensures sound { OnOk result (IsSound self.new) }
-        ensures floor { OnOk result (self.new.rows.tree.floor ≡ self.old.rows.tree.floor) }
-        ensures applied { (last : ℕ) (doc : Document) (stages : List Stage) → Holds last self.old doc stages
-            → IfOk result (λ taken. Passes last self.new doc (grid_effect doc seq at.c at.r (CellOp.SpliceIn Target.Cols p count)) stages (skips taken)) }
-    {
-        if !insert_units(&mut self.cols, p, count, seq, at, steps)? {
-            return Ok(false);
-        }
-        self.cols_made = more(self.cols_made, count)?;
-        Ok(true)
-    }
-
-    // Removes rows, as a splice of a message does.
-    //
-    // Returns `OutOfMemory` where there is no room for it, and then the grid may be used no more.
-    fn remove_rows<G: Ledger>(
-        &mut self,
-        p: u64,
-        q: u64,
-        seq: u64,
-        at: Perspective,
-        steps: &mut Steps<G>,
-    ) -> Result<bool, OutOfMemory>
-        requires sound { IsSound self.old }
-        requires order { p ≤ q }
-        requires floor { self.old.rows.tree.floor ≤ at.r }
-        ensures sound { OnOk result (IsSound self.new) }
-        ensures floor { OnOk result (self.new.rows.tree.floor ≡ self.old.rows.tree.floor) }
-        ensures applied { (last : ℕ) (doc : Document) (stages : List Stage) → Holds last self.old doc stages
-            → IfOk result (λ taken. Passes last self.new doc (grid_effect doc seq at.c at.r (CellOp.SpliceOut Target.Rows p q)) stages (skips taken)) }
-    {
-        if !remove_units(&mut self.rows, p, q, seq, at, steps)? {
-            return Ok(false);
-        }
-        Ok(true)
-    }
-
-    // Removes columns, as a splice of a message does.
-    //
-    // Returns `OutOfMemory` where there is no room for it, and then the grid may be used no more.
-    fn remove_cols<G: Ledger>(
-        &mut self,
-        p: u64,
-        q: u64,
-        seq: u64,
-        at: Perspective,
-        steps: &mut Steps<G>,
-    ) -> Result<bool, OutOfMemory>
-        requires sound { IsSound self.old }
-        requires order { p ≤ q }
-        requires floor { self.old.rows.tree.floor ≤ at.r }
-        ensures sound { OnOk result (IsSound self.new) }
-        ensures floor { OnOk result (self.new.rows.tree.floor ≡ self.old.rows.tree.floor) }
-        ensures applied { (last : ℕ) (doc : Document) (stages : List Stage) → Holds last self.old doc stages
-            → IfOk result (λ taken. Passes last self.new doc (grid_effect doc seq at.c at.r (CellOp.SpliceOut Target.Cols p q)) stages (skips taken)) }
-    {
-        if !remove_units(&mut self.cols, p, q, seq, at, steps)? {
-            return Ok(false);
-        }
-        Ok(true)
     }
 
     // Writes a value to the cell of the row and the column that the perspective sees there.

@@ -19,6 +19,7 @@ ghost use Rattle.ft_matrix.specs.HoldsGrid.{HoldsGrid};
 ghost use Rattle.ft_matrix.specs.Conditions.{AnswersEdit, IsAboveAll, KeepsRest};
 ghost use Rattle.ft_matrix.specs.Applied.{Holds};
 ghost use Rattle.ft_matrix.specs.OwnEdits.{EditsAll, EditsOne, TakesStages, lengths_after, refusal};
+ghost use Rattle.ft_matrix.specs.Sides.{units_at};
 ghost use Rattle.ft_matrix.specs.Units.{shown_units, units_of};
 
 use crate::grid::Grid;
@@ -209,38 +210,25 @@ impl Grid {
             → steps.new ≤ steps.old + 9 * (depth_of target (grid_state self.old 0 true) + 1) }
     {
         match op {
-            CellOp::SpliceIn {
-                target: Target::Rows,
-                pos,
-                count,
-            } => self.insert_own_rows(*pos, *count, stage, steps),
-            CellOp::SpliceIn {
-                target: Target::Cols,
-                pos,
-                count,
-            } => self.insert_own_cols(*pos, *count, stage, steps),
-            CellOp::SpliceOut {
-                target: Target::Rows,
-                pos1,
-                pos2,
-            } => self.remove_own_rows(*pos1, *pos2, stage, steps),
-            CellOp::SpliceOut {
-                target: Target::Cols,
-                pos1,
-                pos2,
-            } => self.remove_own_cols(*pos1, *pos2, stage, steps),
+            CellOp::SpliceIn { target, pos, count } => {
+                self.insert_own(*target, *pos, *count, stage, steps)
+            }
+            CellOp::SpliceOut { target, pos1, pos2 } => {
+                self.remove_own(*target, *pos1, *pos2, stage, steps)
+            }
             CellOp::Set { row, col, value } => self.set_own(*row, *col, value, stage),
         }
     }
 }
 
 impl Grid {
-    // Puts rows in as a pending stage.
+    // Puts rows or columns in as a pending stage.
     //
     // Returns `OutOfMemory` where there is no room for it, and then the grid may be used no more.
-    fn insert_own_rows<G: Ledger>(
+    fn insert_own<G: Ledger>(
         &mut self,
-        p: u64,
+        target: Target,
+        pos: u64,
         count: u64,
         stage: u64,
         steps: &mut Steps<G>,
@@ -252,127 +240,48 @@ impl Grid {
         ensures floor { OnOk result (self.new.rows.tree.floor ≡ self.old.rows.tree.floor) }
         ensures above { IfOk result (λ refused. refused ≡ None → IsAboveAll (stage + 1) (grid_state self.new 0 true)) }
         ensures edited { (last : ℕ) (doc : Document) (stages : List Stage) → stage ≡ last + 1 → Holds last self.old doc stages
-            → IfOk result (λ refused. EditsOne last stage doc stages (CellOp.SpliceIn Target.Rows p count) self.old self.new refused) }
-        ensures reads { steps.new ≤ steps.old + 9 * (self.old.rows.tree.depth + 1) }
+            → IfOk result (λ refused. EditsOne last stage doc stages (CellOp.SpliceIn target pos count) self.old self.new refused) }
+        ensures reads { steps.new ≤ steps.old + 9 * ((units_at target self.old).tree.depth + 1) }
     {
-        if !insert_own_units(&mut self.rows, p, count, stage, steps)? {
-            return Ok(Some(seen_count(&self.rows, LOCAL)));
+        if !insert_own_units(self.units_mut(target), pos, count, stage, steps)? {
+            return Ok(Some(seen_count(self.units(target), LOCAL)));
         }
         self.stages.push_back(GridStage {
             stage,
-            op: CellOp::SpliceIn {
-                target: Target::Rows,
-                pos: p,
-                count,
-            },
+            op: CellOp::SpliceIn { target, pos, count },
             row: None,
             col: None,
         })?;
         Ok(None)
     }
 
-    // Puts columns in as a pending stage.
+    // Marks rows or columns as removed by a pending stage.
     //
     // Returns `OutOfMemory` where there is no room for it, and then the grid may be used no more.
-    fn insert_own_cols<G: Ledger>(
+    fn remove_own<G: Ledger>(
         &mut self,
-        p: u64,
-        count: u64,
+        target: Target,
+        pos1: u64,
+        pos2: u64,
         stage: u64,
         steps: &mut Steps<G>,
     ) -> Result<Option<u64>, OutOfMemory>
         requires sound { IsSound self.old }
+        requires order { pos1 ≤ pos2 }
         requires some { 1 ≤ stage }
         requires above { IsAboveAll stage (grid_state self.old 0 true) }
         ensures sound { OnOk result (IsSound self.new) }
         ensures floor { OnOk result (self.new.rows.tree.floor ≡ self.old.rows.tree.floor) }
         ensures above { IfOk result (λ refused. refused ≡ None → IsAboveAll (stage + 1) (grid_state self.new 0 true)) }
         ensures edited { (last : ℕ) (doc : Document) (stages : List Stage) → stage ≡ last + 1 → Holds last self.old doc stages
-            → IfOk result (λ refused. EditsOne last stage doc stages (CellOp.SpliceIn Target.Cols p count) self.old self.new refused) }
-        ensures reads { steps.new ≤ steps.old + 9 * (self.old.cols.tree.depth + 1) }
+            → IfOk result (λ refused. EditsOne last stage doc stages (CellOp.SpliceOut target pos1 pos2) self.old self.new refused) }
     {
-        if !insert_own_units(&mut self.cols, p, count, stage, steps)? {
-            return Ok(Some(seen_count(&self.cols, LOCAL)));
+        if !remove_own_units(self.units_mut(target), pos1, pos2, stage, steps)? {
+            return Ok(Some(seen_count(self.units(target), LOCAL)));
         }
         self.stages.push_back(GridStage {
             stage,
-            op: CellOp::SpliceIn {
-                target: Target::Cols,
-                pos: p,
-                count,
-            },
-            row: None,
-            col: None,
-        })?;
-        Ok(None)
-    }
-
-    // Marks rows as removed by a pending stage.
-    //
-    // Returns `OutOfMemory` where there is no room for it, and then the grid may be used no more.
-    fn remove_own_rows<G: Ledger>(
-        &mut self,
-        p: u64,
-        q: u64,
-        stage: u64,
-        steps: &mut Steps<G>,
-    ) -> Result<Option<u64>, OutOfMemory>
-        requires sound { IsSound self.old }
-        requires order { p ≤ q }
-        requires some { 1 ≤ stage }
-        requires above { IsAboveAll stage (grid_state self.old 0 true) }
-        ensures sound { OnOk result (IsSound self.new) }
-        ensures floor { OnOk result (self.new.rows.tree.floor ≡ self.old.rows.tree.floor) }
-        ensures above { IfOk result (λ refused. refused ≡ None → IsAboveAll (stage + 1) (grid_state self.new 0 true)) }
-        ensures edited { (last : ℕ) (doc : Document) (stages : List Stage) → stage ≡ last + 1 → Holds last self.old doc stages
-            → IfOk result (λ refused. EditsOne last stage doc stages (CellOp.SpliceOut Target.Rows p q) self.old self.new refused) }
-    {
-        if !remove_own_units(&mut self.rows, p, q, stage, steps)? {
-            return Ok(Some(seen_count(&self.rows, LOCAL)));
-        }
-        self.stages.push_back(GridStage {
-            stage,
-            op: CellOp::SpliceOut {
-                target: Target::Rows,
-                pos1: p,
-                pos2: q,
-            },
-            row: None,
-            col: None,
-        })?;
-        Ok(None)
-    }
-
-    // Marks columns as removed by a pending stage.
-    //
-    // Returns `OutOfMemory` where there is no room for it, and then the grid may be used no more.
-    fn remove_own_cols<G: Ledger>(
-        &mut self,
-        p: u64,
-        q: u64,
-        stage: u64,
-        steps: &mut Steps<G>,
-    ) -> Result<Option<u64>, OutOfMemory>
-        requires sound { IsSound self.old }
-        requires order { p ≤ q }
-        requires some { 1 ≤ stage }
-        requires above { IsAboveAll stage (grid_state self.old 0 true) }
-        ensures sound { OnOk result (IsSound self.new) }
-        ensures floor { OnOk result (self.new.rows.tree.floor ≡ self.old.rows.tree.floor) }
-        ensures above { IfOk result (λ refused. refused ≡ None → IsAboveAll (stage + 1) (grid_state self.new 0 true)) }
-        ensures edited { (last : ℕ) (doc : Document) (stages : List Stage) → stage ≡ last + 1 → Holds last self.old doc stages
-            → IfOk result (λ refused. EditsOne last stage doc stages (CellOp.SpliceOut Target.Cols p q) self.old self.new refused) }
-    {
-        if !remove_own_units(&mut self.cols, p, q, stage, steps)? {
-            return Ok(Some(seen_count(&self.cols, LOCAL)));
-        }
-        self.stages.push_back(GridStage {
-            stage,
-            op: CellOp::SpliceOut {
-                target: Target::Cols,
-                pos1: p,
-                pos2: q,
-            },
+            op: CellOp::SpliceOut { target, pos1, pos2 },
             row: None,
             col: None,
         })?;

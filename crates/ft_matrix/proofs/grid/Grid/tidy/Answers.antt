@@ -6,26 +6,26 @@ use Rattle.ft_matrix.proofs.ScouredUnits.{are-gone}
 use Rattle.ft_matrix.proofs.SoundVectors.{ok-with, on-ok}
 use Rattle.ft_matrix.proofs.grid.Grid.tidy.Goals as goal
 
-pub free_rows-requires : goal.free_rows-requires
-free_rows-requires c = record {
+pub free-requires : goal.free-requires
+free-requires c = record {
   gone = are-gone c.args.floor c.in_ok-rows.rows.items c.args.self.now.rows c.scour_part.new.units c.in_ok-rows.ensures.scours c.requires.sound.rows.proper;
 }
 
-pub free_cols-requires : goal.free_cols-requires
-free_cols-requires c = record {
-  gone = subst (AreGone c.in_ok-cols.cols.items) (sym (ap (λ (x : Grid). x.cols) c.in_ok-free_rows.ensures.rest))
+pub free-requires-2 : goal.free-requires-2
+free-requires-2 c = record {
+  gone = subst (AreGone c.in_ok-cols.cols.items) (sym (ap (λ (x : Grid). x.cols) c.in_ok-free.ensures.rest))
       (are-gone c.args.floor c.in_ok-cols.cols.items c.args.self.now.cols c.scour_part-2.new.units c.in_ok-cols.ensures.scours c.requires.sound.cols.proper);
 }
 
 pub returns-clause-sound : goal.returns-clause-sound
-returns-clause-sound c = ok-with _ c.free_cols.result c.free_cols.ensures (λ f. on-ok c.free_cols.result (compacts-grid c.args.floor c.in_ok-rows.rows.items c.in_ok-cols.cols.items c.args.self.now (record c.args.self.now { rows = c.scour_part.new.units; cols = c.scour_part-2.new.units }) c.free_rows.new.self c.free_cols.new.self
-    c.requires.sound c.requires.free refl c.in_ok-rows.ensures.scours c.in_ok-cols.ensures.scours c.in_ok-rows.ensures.sound c.in_ok-cols.ensures.sound c.in_ok-free_rows.ensures f).sound)
+returns-clause-sound c = ok-with _ c.free-2.result c.free-2.ensures (λ f. on-ok c.free-2.result (compacts-grid c.args.floor c.in_ok-rows.rows.items c.in_ok-cols.cols.items c.args.self.now (record c.args.self.now { rows = c.scour_part.new.units; cols = c.scour_part-2.new.units }) c.free.new.self c.free-2.new.self
+    c.requires.sound c.requires.free refl c.in_ok-rows.ensures.scours c.in_ok-cols.ensures.scours c.in_ok-rows.ensures.sound c.in_ok-cols.ensures.sound c.in_ok-free.ensures f).sound)
 
 pub returns-clause-floor : goal.returns-clause-floor
-returns-clause-floor c = ok-with _ c.free_cols.result c.free_cols.ensures (λ f. on-ok c.free_cols.result (compacts-grid c.args.floor c.in_ok-rows.rows.items c.in_ok-cols.cols.items c.args.self.now (record c.args.self.now { rows = c.scour_part.new.units; cols = c.scour_part-2.new.units }) c.free_rows.new.self c.free_cols.new.self
-    c.requires.sound c.requires.free refl c.in_ok-rows.ensures.scours c.in_ok-cols.ensures.scours c.in_ok-rows.ensures.sound c.in_ok-cols.ensures.sound c.in_ok-free_rows.ensures f).floor)
+returns-clause-floor c = ok-with _ c.free-2.result c.free-2.ensures (λ f. on-ok c.free-2.result (compacts-grid c.args.floor c.in_ok-rows.rows.items c.in_ok-cols.cols.items c.args.self.now (record c.args.self.now { rows = c.scour_part.new.units; cols = c.scour_part-2.new.units }) c.free.new.self c.free-2.new.self
+    c.requires.sound c.requires.free refl c.in_ok-rows.ensures.scours c.in_ok-cols.ensures.scours c.in_ok-rows.ensures.sound c.in_ok-cols.ensures.sound c.in_ok-free.ensures f).floor)
 
 pub returns-clause-kept : goal.returns-clause-kept
-returns-clause-kept c = λ last doc stages h. ok-with _ c.free_cols.result c.free_cols.ensures (λ f. on-ok c.free_cols.result
-    ((compacts-grid c.args.floor c.in_ok-rows.rows.items c.in_ok-cols.cols.items c.args.self.now (record c.args.self.now { rows = c.scour_part.new.units; cols = c.scour_part-2.new.units }) c.free_rows.new.self c.free_cols.new.self
-    c.requires.sound c.requires.free refl c.in_ok-rows.ensures.scours c.in_ok-cols.ensures.scours c.in_ok-rows.ensures.sound c.in_ok-cols.ensures.sound c.in_ok-free_rows.ensures f).kept last doc stages h))
+returns-clause-kept c = λ last doc stages h. ok-with _ c.free-2.result c.free-2.ensures (λ f. on-ok c.free-2.result
+    ((compacts-grid c.args.floor c.in_ok-rows.rows.items c.in_ok-cols.cols.items c.args.self.now (record c.args.self.now { rows = c.scour_part.new.units; cols = c.scour_part-2.new.units }) c.free.new.self c.free-2.new.self
+    c.requires.sound c.requires.free refl c.in_ok-rows.ensures.scours c.in_ok-cols.ensures.scours c.in_ok-rows.ensures.sound c.in_ok-cols.ensures.sound c.in_ok-free.ensures f).kept last doc stages h))

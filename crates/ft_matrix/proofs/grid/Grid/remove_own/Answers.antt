@@ -1,0 +1,43 @@
+use Rattle.std.proofs.Common.{◌∙◌, arith, refl}
+use Rattle.ft_base.specs.declared.stamps.Stamp.TheVariants.{Local}
+use Rattle.ft_block.specs.Leaves.{last_stage}
+use Rattle.ft_op.specs.declared.operations.CellOp.TheVariants.{SpliceOut}
+use Rattle.ft_perm.specs.Vectors.{VectorState}
+use Rattle.ft_matrix.specs.Sides.{units_at}
+use Rattle.ft_matrix.specs.Splices.{Removes}
+use Rattle.ft_matrix.proofs.OwnEdits.{own-remove-refused, own-remove-taken, splice_stage}
+use Rattle.ft_matrix.proofs.OwnSound.{range-below, splice-above, stage-sound}
+use Rattle.ft_matrix.proofs.SideLaws.{at-side, behind-side, over, marks-used}
+use Rattle.ft_matrix.proofs.grid.Grid.remove_own.Goals as goal
+
+pub returns-then-not-branch-clause-edited : goal.returns-then-not-branch-clause-edited
+returns-then-not-branch-clause-edited g c = λ last doc stages e h.
+    let i = over (λ (u : VectorState). Removes last_stage (Local c.args.stage) c.args.pos1 c.args.pos2 u c.remove_own_units.new.units) c.units_mut.ensures.value c.if-not-branch.true c.in_ok-remove_own_units.ensures.removes in
+    own-remove-refused last c.args.stage e (omega (arith, c.ranges.stage.fits)) c.args.self.now doc stages c.requires.sound h c.requires.above c.args.target c.args.pos1 c.args.pos2
+    c.seen_count.result c.remove_own_units.new.units c.units.result.now i (c.units.ensures ∙ at-side c.args.target c.args.self.now c.remove_own_units.new.units) c.seen_count.ensures
+
+pub returns-clause-sound : goal.returns-clause-sound
+returns-clause-sound g c =
+    let i = over (λ (u : VectorState). Removes last_stage (Local c.args.stage) c.args.pos1 c.args.pos2 u c.remove_own_units.new.units) c.units_mut.ensures.value c.if-not-branch.false c.in_ok-remove_own_units.ensures.removes in
+    let v = c.remove_own_units.new.units in
+    let op = SpliceOut c.args.target c.args.pos1 c.args.pos2 in
+    stage-sound c.args.self.now (record c.args.self.now { stages = c.push_back.new.self }) c.args.stage op c.requires.sound c.requires.above
+    (behind-side c.args.target c.args.self.now v c.push_back.new.self.items (splice_stage c.args.stage op) c.in_ok-push_back.ensures.items) (λ row col. refl) c.requires.some
+    c.args.target v c.in_ok-remove_own_units.ensures.sound (marks-used last_stage (Local c.args.stage) c.args.pos1 c.args.pos2 (units_at c.args.target c.args.self.now) v i) i.1.floor
+
+pub returns-clause-above : goal.returns-clause-above
+returns-clause-above g c = λ none.
+    let i = over (λ (u : VectorState). Removes last_stage (Local c.args.stage) c.args.pos1 c.args.pos2 u c.remove_own_units.new.units) c.units_mut.ensures.value c.if-not-branch.false c.in_ok-remove_own_units.ensures.removes in
+    let v = c.remove_own_units.new.units in
+    let u = splice_stage c.args.stage (SpliceOut c.args.target c.args.pos1 c.args.pos2) in
+    splice-above c.args.target c.args.self.now v (record c.args.self.now { stages = c.push_back.new.self }) c.args.stage u c.requires.above refl
+    (behind-side c.args.target c.args.self.now v c.push_back.new.self.items u c.in_ok-push_back.ensures.items)
+    (range-below c.args.pos1 c.args.pos2 c.args.stage (units_at c.args.target c.args.self.now) v i)
+
+pub returns-clause-edited : goal.returns-clause-edited
+returns-clause-edited g c = λ last doc stages e h.
+    let i = over (λ (u : VectorState). Removes last_stage (Local c.args.stage) c.args.pos1 c.args.pos2 u c.remove_own_units.new.units) c.units_mut.ensures.value c.if-not-branch.false c.in_ok-remove_own_units.ensures.removes in
+    let v = c.remove_own_units.new.units in
+    let u = splice_stage c.args.stage (SpliceOut c.args.target c.args.pos1 c.args.pos2) in
+    own-remove-taken last c.args.stage e (omega (arith, c.ranges.stage.fits)) c.args.self.now doc stages c.requires.sound h c.requires.above c.args.target c.args.pos1 c.args.pos2
+    v (record c.args.self.now { stages = c.push_back.new.self }) i (behind-side c.args.target c.args.self.now v c.push_back.new.self.items u c.in_ok-push_back.ensures.items)
