@@ -36,7 +36,7 @@ use Rattle.ft_named.proofs.CompactedSteps.{none as kept_none, same as kept_same,
 use Rattle.ft_matrix.specs.declared.grid.Grid.{Grid}
 use Rattle.ft_matrix.specs.declared.stages.GridStage.{GridStage}
 use Rattle.ft_matrix.specs.Applied.{Holds}
-use Rattle.ft_matrix.specs.Compacted.{FreesUnits, ScoursUnits, is_in_runs}
+use Rattle.ft_matrix.specs.Compacted.{CompactsGrid, FreesUnits, ScoursUnits, is_in_runs}
 use Rattle.ft_matrix.specs.Conditions.{AreFreeUnits, HasNoTombstone, HoldsKept}
 use Rattle.ft_matrix.specs.GridStates.{grid_state, shown_stage}
 use Rattle.ft_matrix.specs.HoldsGrid.{HoldsGrid}
@@ -420,12 +420,6 @@ module _ (floor : ℕ) (rr rc : List HandleRun) (old mid half new : Grid) (sound
 
     pub compacted-kept : HoldsKept floor (grid_state new 0 true) doc stages
     compacted-kept = record { kept = kept_document; keeps = record { rows = kr.keeps; cols = kc.keeps; rest = refl }; holds = kept-held }
-
--- what all of it makes of the grid
-pub record CompactsGrid (raised : ℕ) (old new : Grid) : Type 0 where
-  pub sound : IsSound new
-  pub floor : new.rows.tree.floor ≡ raised
-  pub kept : (last : ℕ) (doc : Document) (stages : List Stage) → Holds last old doc stages → HoldsKept raised (grid_state new 0 true) doc stages
 
 pub compacts-grid : (floor : ℕ) (rr rc : List HandleRun) (old mid half new : Grid) → IsSound old → AreFreeUnits floor (grid_state old 0 true)
     → mid ≡ record old { rows = mid.rows; cols = mid.cols } → ScoursUnits floor rr old.rows mid.rows → ScoursUnits floor rc old.cols mid.cols

@@ -23,7 +23,7 @@ use Rattle.ft_matrix.specs.Applied.{Holds}
 use Rattle.ft_matrix.specs.Conditions.{AreItsStages, NumbersRise}
 use Rattle.ft_matrix.specs.GridStates.{grid_state, shown_stage}
 use Rattle.ft_matrix.specs.HoldsGrid.{HoldsGrid}
-use Rattle.ft_matrix.specs.Rebuilt.{RebuildsUnits}
+use Rattle.ft_matrix.specs.Rebuilt.{RebuildsGrid, RebuildsUnits}
 use Rattle.ft_matrix.specs.Sound.{IsSound, IsSoundVector, IsStaged, StagesRise, writes_to}
 use Rattle.ft_matrix.specs.Units.{units_of}
 use Rattle.ft_matrix.proofs.Effects.{units}
@@ -120,3 +120,11 @@ module _ (old new : Grid) (sound : IsSound old) (same : new ≡ record old { row
           stages old.stages.items h.named.stages h.holds.stages
           ∙ ap (λ (x : Grid). map (shown_stage new.rows new.cols) x.stages.items) (sym same);
     }
+
+pub rebuilds-grid : (old new : Grid) → IsSound old → new ≡ record old { rows = new.rows; cols = new.cols } → IsSoundVector new.rows → IsSoundVector new.cols
+    → RebuildsUnits old.rows new.rows → RebuildsUnits old.cols new.cols → RebuildsGrid old new
+rebuilds-grid old new sound same vr vc rr rc = record {
+  sound = rebuilt-sound old new sound same vr vc rr rc;
+  floor = rr.floor;
+  rebuilt = λ last doc stages numbers h its. rebuilt-held old new sound same vr vc rr rc last doc stages numbers h its;
+}

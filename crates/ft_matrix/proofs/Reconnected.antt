@@ -1,11 +1,13 @@
 -- What a reconnection makes of a grid that holds the part of a document: what is sent of an edit, and the stages that go on.
-use Rattle.std.proofs.Common.{◌≡◌, ℕ, ◌≤◌, true, List, [], ◌∷◌, ◌++◌, refl, sym, ◌∙◌, ap, subst, map, flat_map, IfOk, Result, Ok, Err}
+use Rattle.std.proofs.Common.{◌≡◌, ℕ, ◌≤◌, true, List, [], ◌∷◌, ◌++◌, Option, option_map, refl, sym, ◌∙◌, ap, subst, map, flat_map, IfOk, Result, Ok, Err}
 use Rattle.std.specs.List.{list_all}
 use Rattle.ft_op.specs.declared.operations.CellOp.{CellOp}
+use Rattle.ft_op.specs.declared.operations.ChannelOp.TheVariants.{Grid as OfGrid}
+use Rattle.ft_op.specs.declared.operations.GridOp.{GridOp}
 use Rattle.ft_op.specs.Document.{Document}
 use Rattle.ft_op.specs.Intervals.{NamedElements}
 use Rattle.ft_op.specs.Operation.{OnGrid}
-use Rattle.ft_op.specs.Pieces.{grid_pieces, pieces}
+use Rattle.ft_op.specs.Pieces.{grid_pieces, op_of, pieces}
 use Rattle.ft_op.specs.Stages.{Stage}
 use Rattle.ft_msg.specs.Indexed.{IndexedStage, indexed_stage}
 use Rattle.ft_msg.specs.Reconnection.{carried_stage}
@@ -20,11 +22,11 @@ use Rattle.ft_matrix.specs.declared.stages.GridStage.{GridStage}
 use Rattle.ft_matrix.specs.Applied.{Holds}
 use Rattle.ft_matrix.specs.GridStates.{grid_state, shown_stage}
 use Rattle.ft_matrix.specs.HoldsGrid.{HoldsGrid}
-use Rattle.ft_matrix.specs.Resubmitted.{Resubmits, stage_pieces}
+use Rattle.ft_matrix.specs.Resubmitted.{Resubmits, SendsAgain, stage_pieces}
 use Rattle.ft_matrix.specs.Sound.{IsSound}
 use Rattle.ft_matrix.specs.Units.{units_of}
 use Rattle.ft_matrix.proofs.CompactedGrids.{grid_content}
-use Rattle.ft_matrix.proofs.ResubmittedGrids.{edit-after, edit-sent, resubmitted-held, stages-sent}
+use Rattle.ft_matrix.proofs.ResubmittedGrids.{edit-after, edit-sent, resubmitted-held, resubmitted-sound, stages-sent}
 use Rattle.ft_matrix.proofs.SentPieces.{sent-pieces}
 use Rattle.ft_matrix.proofs.UnitLists.{units-beside}
 
@@ -57,6 +59,15 @@ module _ (first count last : ℕ) (old new : Grid) (ops : List CellOp) (sound : 
       ap (map (λ p. OnGrid p)) r.sent
       ∙ stages-sent first count doc old.rows old.cols (same-sent last old sound doc (before ++ (mine ++ rest)) h) (before ++ (mine ++ rest)) old.stages.items h.named.stages h.holds.stages
       ∙ edit-sent first count last doc before mine rest some h.named.rise numbers all
+
+pub sends-again : (first count : ℕ) (old new : Grid) (ops : List CellOp) (op : Option GridOp) → IsSound old → 1 ≤ count → Resubmits first count old new ops
+    → option_map OfGrid op ≡ op_of (map (λ p. OnGrid p) ops) → SendsAgain first count old new op
+sends-again first count old new ops op sound some r e = record {
+  sound = resubmitted-sound first count old new ops sound r;
+  floor = ap (λ (x : Grid). x.rows.tree.floor) r.rest;
+  answer = λ last doc before mine rest h numbers all. e ∙ ap op_of (reconnected-sent first count last old new ops sound r some doc before mine rest h numbers all);
+  holds = λ last doc before mine rest h numbers. reconnected-held first count last old new ops sound r some doc before mine rest h numbers;
+}
 
 -- an edit of no stages changes nothing
 pub none-given : (first : ℕ) (doc : Document) (before mine rest : List Stage) → map (λ (t : Stage). t.stage) mine ≡ numbers_from first 0

@@ -1,5 +1,5 @@
 -- What the acknowledgement of a pending stage makes of a grid. No public clause cites this module.
-use Rattle.std.specs.Prelude.{◌≡◌, ℕ, ◌+◌, cond, nat_eq, List, [], ◌∷◌, ◌++◌, Option, Some, None, map}
+use Rattle.std.specs.Prelude.{◌≡◌, ℕ, ◌+◌, true, cond, nat_eq, List, [], ◌∷◌, ◌++◌, Option, Some, None, map}
 use Rattle.std.specs.List.{AllByRecursion}
 use Rattle.ft_op.specs.declared.operations.CellOp.{CellOp}
 use Rattle.ft_op.specs.declared.operations.CellOp.TheVariants.{SpliceIn}
@@ -9,10 +9,14 @@ use Rattle.ft_op.specs.Document.{Document}
 use Rattle.ft_op.specs.Stages.{Stage}
 use Rattle.ft_msg.specs.Acknowledgement.{ack_stages, renamed_stage}
 use Rattle.ft_cells.specs.CellTables.{acked_write, cell_at}
-use Rattle.ft_laws_names.specs.GridFacts.{IsCounted}
+use Rattle.ft_perm.specs.Handles.{numbers_from}
+use Rattle.ft_laws_names.specs.GridFacts.{AreCounted, IsCounted}
 use Rattle.ft_matrix.specs.declared.grid.Grid.{Grid}
 use Rattle.ft_matrix.specs.declared.stages.GridStage.{GridStage}
 use Rattle.ft_matrix.specs.Applied.{Holds}
+use Rattle.ft_matrix.specs.GridStates.{grid_state}
+use Rattle.ft_matrix.specs.HoldsGrid.{HoldsGrid}
+use Rattle.ft_matrix.specs.Sound.{IsSound}
 use Rattle.ft_matrix.specs.Splices.{AcksUnits}
 
 -- the stages without the first, if that has this number
@@ -68,3 +72,10 @@ pub record AcksSome (last s c : ℕ) (g : Grid) (doc : Document) (acked left res
   pub now : Holds last g between (map (renamed_stage rename) (left ++ rest))
   pub same : ack_stages s c rename left between ≡ ack_stages s c (λ i. i) acked doc
   pub counted : AllByRecursion (λ t. IsCounted between t.stage t.sub_operation) left
+
+-- all stages of an edit are
+pub record AcksStages (first count s c : ℕ) (old new : Grid) : Type 0 where
+  pub sound : IsSound new
+  pub floor : new.rows.tree.floor ≡ old.rows.tree.floor
+  pub acked : (last : ℕ) (doc : Document) (acked rest : List Stage) → Holds last old doc (acked ++ rest) → map (λ t. t.stage) acked ≡ numbers_from first count → AreCounted doc acked
+      → HoldsGrid (grid_state new 0 true) (ack_stages s c (λ i. i) acked doc).0 (map (renamed_stage (ack_stages s c (λ i. i) acked doc).1) rest)

@@ -5,12 +5,18 @@ use Rattle.ft_base.specs.Scan.{len}
 use Rattle.ft_tree_leaves.specs.Elements.{TreeElement}
 use Rattle.ft_op.specs.declared.operations.Target.{Target}
 use Rattle.ft_op.specs.declared.operations.Target.TheVariants.{Rows, Cols}
+use Rattle.ft_op.specs.Document.{Document}
+use Rattle.ft_op.specs.Stages.{Stage}
 use Rattle.ft_cells.specs.CellTables.{cell_at, empty_cell}
 use Rattle.ft_perm.specs.Handles.{HandleRun, in_run}
 use Rattle.ft_perm.specs.Vectors.{IsProper, VectorState, in_use, times_held}
 use Rattle.ft_zamboni.specs.Scours.{Writes, is_collectable, staying}
 use Rattle.ft_matrix.specs.declared.grid.Grid.{Grid}
+use Rattle.ft_matrix.specs.Applied.{Holds}
+use Rattle.ft_matrix.specs.Conditions.{HoldsKept}
+use Rattle.ft_matrix.specs.GridStates.{grid_state}
 use Rattle.ft_matrix.specs.Sides.{units_at, with_units_at}
+use Rattle.ft_matrix.specs.Sound.{IsSound}
 use Rattle.ft_matrix.specs.Units.{units_of}
 
 -- whether one of the runs has the handle
@@ -53,3 +59,9 @@ pub record FreesUnits (target : Target) (gone : ℕ → Bool) (old new : Grid) :
   pub next : (units_at target new).next ≡ (units_at target old).next
   pub proper : IsProper (units_at target new)
   pub rest : new ≡ record (with_units_at target old (units_at target new)) { cells = new.cells }
+
+-- the floor is raised, and of the rows and columns that were removed at or below it some are taken out
+pub record CompactsGrid (raised : ℕ) (old new : Grid) : Type 0 where
+  pub sound : IsSound new
+  pub floor : new.rows.tree.floor ≡ raised
+  pub kept : (last : ℕ) (doc : Document) (stages : List Stage) → Holds last old doc stages → HoldsKept raised (grid_state new 0 true) doc stages

@@ -1,9 +1,9 @@
 -- What a summary makes of a grid. No public clause cites this module.
-use Rattle.std.specs.Prelude.{◌≡◌, ℕ, ◌++◌, cond, is_some, List, [], ◌∷◌, None, Option, Some, length, map, slice_get}
+use Rattle.std.specs.Prelude.{◌≡◌, ℕ, ◌++◌, cond, is_some, true, List, [], ◌∷◌, None, Option, Some, length, map, slice_get}
 use Rattle.ft_base.specs.declared.elements.Element.{Element as ElementStamps}
 use Rattle.ft_block.specs.declared.leaves.LenView.TheVariants.{Stage}
 use Rattle.ft_tree_leaves.specs.Elements.{elements_with}
-use Rattle.ft_msg.specs.Summary.{run_items}
+use Rattle.ft_msg.specs.Summary.{doc_of, run_items}
 use Rattle.ft_named.specs.SavedStamps.{marked_stamps}
 use Rattle.ft_perm.specs.Handles.{HandleRun, handles_of}
 use Rattle.ft_perm.specs.Vectors.{VectorState, seen_handles}
@@ -12,8 +12,11 @@ use Rattle.ft_props.specs.Properties.{ValueBytes}
 use Rattle.ft_cells.specs.CellTables.{CellList, CellState, CellTable, cell_at, changed_cell, shown_value, with_acked}
 use Rattle.ft_sumdoc.specs.declared.summary.CellRec.{CellRec}
 use Rattle.ft_sumdoc.specs.declared.summary.RunRec.{RunRec}
+use Rattle.ft_sumdoc.specs.declared.summary.SumDoc.{SumDoc}
 use Rattle.ft_matrix.specs.declared.grid.Grid.{Grid}
-use Rattle.ft_matrix.specs.Sound.{no_properties}
+use Rattle.ft_matrix.specs.GridStates.{grid_state}
+use Rattle.ft_matrix.specs.HoldsGrid.{HoldsGrid}
+use Rattle.ft_matrix.specs.Sound.{IsSound, no_properties}
 use Rattle.ft_matrix.specs.Units.{shown_units, units_of}
 
 -- the stamps of the units of a run
@@ -55,3 +58,9 @@ loaded_cells rows cols (cell ∷ cells) table = loaded_cells rows cols cells (lo
 pub record LoadsCells (cells : List CellRec) (old new : Grid) : Type 0 where
   pub table : (r c : ℕ) → cell_at new.cells r c ≡ loaded_cells (seen_handles (Stage 0) old.rows.tree) (seen_handles (Stage 0) old.cols.tree) cells (cell_at old.cells) r c
   pub rest : new ≡ record old { cells = new.cells }
+
+-- the grid is that of a summary, with nothing pending
+pub record LoadsGrid (sum : SumDoc) (g : Grid) : Type 0 where
+  pub sound : IsSound g
+  pub holds : HoldsGrid (grid_state g 0 true) (doc_of sum) []
+  pub floor : g.rows.tree.floor ≡ 0

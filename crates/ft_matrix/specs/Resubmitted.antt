@@ -1,12 +1,19 @@
 -- What is sent again of a pending stage of the grid, told by the units of rows and columns. No public clause cites this module.
 use Rattle.std.specs.Prelude.{◌≡◌, ℕ, ◌+◌, ◌-◌, ◌++◌, Bool, true, false, cond, remove, ◌&&◌, nat_eq, nat_le, nat_lt, List, [], ◌∷◌, Option, Some, None, flat_map, map, option_and_then, slice_get}
-use Rattle.std.specs.List.{list_any}
+use Rattle.std.specs.List.{list_all, list_any}
+use Rattle.std.specs.Option.{option_map}
 use Rattle.ft_base.specs.Scan.{rank}
 use Rattle.ft_block.specs.declared.leaves.LenView.TheVariants.{Stage}
 use Rattle.ft_op.specs.declared.operations.CellOp.{CellOp}
 use Rattle.ft_op.specs.declared.operations.CellOp.TheVariants.{SpliceIn, SpliceOut, Set}
+use Rattle.ft_op.specs.declared.operations.ChannelOp.TheVariants.{Grid as OfGrid}
+use Rattle.ft_op.specs.declared.operations.GridOp.{GridOp}
 use Rattle.ft_op.specs.declared.operations.Target.{Target}
 use Rattle.ft_op.specs.declared.operations.Target.TheVariants.{Rows, Cols}
+use Rattle.ft_op.specs.Document.{Document}
+use Rattle.ft_op.specs.Pieces.{op_of, pieces}
+use Rattle.ft_op.specs.Stages.{Stage as Named}
+use Rattle.ft_msg.specs.Reconnection.{carried_stage}
 use Rattle.ft_props.specs.Properties.{ValueBytes}
 use Rattle.ft_props.specs.Steps.{lowered_runs}
 use Rattle.ft_tree_leaves.specs.Elements.{TreeElement, seen_in}
@@ -14,10 +21,15 @@ use Rattle.ft_rebase.specs.Pieces.{is_inserted_by, marked_runs}
 use Rattle.ft_rebase.specs.declared.marks.PendingMark.TheVariants.{Removal}
 use Rattle.ft_rebase.specs.declared.pieces.Piece.{Piece}
 use Rattle.ft_rebase.specs.declared.pieces.Piece.TheVariants.{Insert, Remove}
+use Rattle.ft_perm.specs.Handles.{numbers_from}
+use Rattle.ft_laws_agreement.specs.Sequencing.{is_grid_stage}
 use Rattle.ft_cells.specs.CellTables.{cell_at, without_write}
 use Rattle.ft_matrix.specs.declared.grid.Grid.{Grid}
 use Rattle.ft_matrix.specs.declared.stages.GridStage.{GridStage}
-use Rattle.ft_matrix.specs.Sound.{writes_to}
+use Rattle.ft_matrix.specs.Applied.{Holds}
+use Rattle.ft_matrix.specs.GridStates.{grid_state}
+use Rattle.ft_matrix.specs.HoldsGrid.{HoldsGrid}
+use Rattle.ft_matrix.specs.Sound.{IsSound, writes_to}
 use Rattle.ft_matrix.specs.Units.{has_handle, units_of}
 
 -- how many units seen at the stage before stand left of the first one of stage k, or are seen at all where it has none
@@ -120,3 +132,12 @@ pub record Resubmits (first count : ℕ) (old new : Grid) (ops : List CellOp) : 
   pub sent : ops ≡ due_pieces first count (units_of old.rows) (units_of old.cols) old.stages.items
   pub cells : (r c : ℕ) → cell_at new.cells r c ≡ record (cell_at old.cells r c) { pending = writes_to r c new.stages.items }
   pub rest : new ≡ record old { stages = new.stages; cells = new.cells }
+
+-- an edit is sent again as this operation, where any of it is left, and those of its stages of which nothing is left are gone
+pub record SendsAgain (first count : ℕ) (old new : Grid) (op : Option GridOp) : Type 0 where
+  pub sound : IsSound new
+  pub floor : new.rows.tree.floor ≡ old.rows.tree.floor
+  pub answer : (last : ℕ) (doc : Document) (before mine rest : List Named) → Holds last old doc (before ++ (mine ++ rest))
+      → map (λ t. t.stage) mine ≡ numbers_from first count → list_all is_grid_stage mine ≡ true → option_map OfGrid op ≡ op_of (flat_map (pieces doc) mine)
+  pub holds : (last : ℕ) (doc : Document) (before mine rest : List Named) → Holds last old doc (before ++ (mine ++ rest))
+      → map (λ t. t.stage) mine ≡ numbers_from first count → HoldsGrid (grid_state new 0 true) doc (before ++ (flat_map (carried_stage doc) mine ++ rest))

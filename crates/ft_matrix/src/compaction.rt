@@ -1,82 +1,24 @@
 //! Compaction: rows and columns that were removed at or below the floor are taken out, with their cells, and their handles are
 //! free again.
 
-ghost use Rattle.std.specs.Prelude.{◌≡◌, ◌≤◌, ℕ, All, List, IfOk, IsTrue, OnErr, OnOk, false, true};
-ghost use Rattle.ft_op.specs.Document.{Document};
-ghost use Rattle.ft_op.specs.Stages.{Stage};
+ghost use Rattle.std.specs.Prelude.{◌≡◌, ◌≤◌, ℕ, All, IfOk, OnOk, false, true};
 ghost use Rattle.ft_perm.specs.Handles.{in_run};
 ghost use Rattle.ft_perm.specs.Vectors.{IsProper, in_use};
 ghost use Rattle.ft_zamboni.specs.Scours.{is_collectable};
-ghost use Rattle.ft_laws_names.specs.WellNamed.{AreWellNamed};
-ghost use Rattle.ft_matrix.specs.Applied.{Holds};
-ghost use Rattle.ft_matrix.specs.Compacted.{AreGone, ClearsLine, FreesUnits, ScoursUnits, is_in_runs};
+ghost use Rattle.ft_matrix.specs.Compacted.{AreGone, ClearsLine, CompactsGrid, FreesUnits, ScoursUnits, is_in_runs};
 ghost use Rattle.ft_matrix.specs.Units.{units_of};
-ghost use Rattle.ft_matrix.specs.Conditions.{AreFreeUnits, HasNoTombstone, HoldsKept};
+ghost use Rattle.ft_matrix.specs.Conditions.{AreFreeUnits, HasNoTombstone};
 ghost use Rattle.ft_matrix.specs.GridStates.{grid_state};
-ghost use Rattle.ft_matrix.specs.HoldsGrid.{HoldsGrid};
 ghost use Rattle.ft_matrix.specs.Sides.{units_at};
 ghost use Rattle.ft_matrix.specs.Sound.{IsSound, IsSoundVector};
 
 use crate::grid::Grid;
-use crate::matrix::SharedMatrix;
 use crate::messages::more;
 use ft_base::OutOfMemory;
 use ft_op::Target;
 use ft_perm::{Handles, Vector};
 use ft_zamboni::{scour, scour_all};
 use std::alloc::Global;
-
-impl SharedMatrix {
-    /// Raises the floor, and takes out all rows and columns that were removed at or below it.
-    ///
-    /// Returns `OutOfMemory` where there is no room for what is kept, and then the table may be used no more.
-    pub fn compact(&mut self, floor: u64) -> Result<(), OutOfMemory>
-        requires usable { IsTrue self.old.usable }
-        requires settled { self.old.given ≡ 0 }
-        requires rising { self.old.floor ≤ floor }
-        requires free { AreFreeUnits floor self.old }
-        ensures kept { (last : ℕ) (doc : Document) (stages : List Stage) → AreWellNamed last doc stages → HoldsGrid self.old doc stages
-            → OnOk result (HoldsKept floor self.new doc stages) }
-        ensures none { OnOk result (HasNoTombstone floor self.new) }
-        ensures floor { OnOk result (self.new.floor ≡ floor) }
-        ensures given { self.new.given ≡ self.old.given }
-        ensures usable { OnOk result (self.new.usable ≡ self.old.usable) }
-        ensures err { OnErr result (self.new.usable ≡ false) }
-    {
-        match self.grid.compact(self.alloc, floor) {
-            Ok(()) => Ok(()),
-            Err(e) => {
-                self.usable = false;
-                Err(e)
-            }
-        }
-    }
-
-    /// Raises the floor, and looks at `budget` further leaves of the rows and as many of the columns: those that were removed at
-    /// or below the floor are taken out.
-    ///
-    /// Returns `OutOfMemory` where there is no room for what is kept, and then the table may be used no more.
-    pub fn tidy(&mut self, floor: u64, budget: u64) -> Result<(), OutOfMemory>
-        requires usable { IsTrue self.old.usable }
-        requires settled { self.old.given ≡ 0 }
-        requires rising { self.old.floor ≤ floor }
-        requires free { AreFreeUnits floor self.old }
-        ensures kept { (last : ℕ) (doc : Document) (stages : List Stage) → AreWellNamed last doc stages → HoldsGrid self.old doc stages
-            → OnOk result (HoldsKept floor self.new doc stages) }
-        ensures floor { OnOk result (self.new.floor ≡ floor) }
-        ensures given { self.new.given ≡ self.old.given }
-        ensures usable { OnOk result (self.new.usable ≡ self.old.usable) }
-        ensures err { OnErr result (self.new.usable ≡ false) }
-    {
-        match self.grid.tidy(self.alloc, floor, budget) {
-            Ok(()) => Ok(()),
-            Err(e) => {
-                self.usable = false;
-                Err(e)
-            }
-        }
-    }
-}
 
 // Raises the floor of a vector, and takes the units out that were removed at or below it. Returns the runs of their handles, which
 // are in use yet.
@@ -115,17 +57,14 @@ fn scour_part(
 }
 
 impl Grid {
-    // Raises the floor, and takes out all that was removed at or below it, with its cells: the handles are free again.
-    //
-    // Returns `OutOfMemory` where there is no room for what is kept, and then the grid may be used no more.
-    fn compact(&mut self, alloc: Global, floor: u64) -> Result<(), OutOfMemory>
+    /// Raises the floor, and takes out all that was removed at or below it, with its cells: the handles are free again.
+    ///
+    /// Returns `OutOfMemory` where there is no room for what is kept, and then the grid may be used no more.
+    pub fn compact(&mut self, alloc: Global, floor: u64) -> Result<(), OutOfMemory>
         requires sound { IsSound self.old }
         requires rising { self.old.rows.tree.floor ≤ floor }
         requires free { AreFreeUnits floor (grid_state self.old 0 true) }
-        ensures sound { OnOk result (IsSound self.new) }
-        ensures floor { OnOk result (self.new.rows.tree.floor ≡ floor) }
-        ensures kept { (last : ℕ) (doc : Document) (stages : List Stage) → Holds last self.old doc stages
-            → OnOk result (HoldsKept floor (grid_state self.new 0 true) doc stages) }
+        ensures compacts { OnOk result (CompactsGrid floor self.old self.new) }
         ensures none { OnOk result (HasNoTombstone floor (grid_state self.new 0 true)) }
     {
         let rows = scour_units(&mut self.rows, alloc, floor)?;
@@ -134,18 +73,15 @@ impl Grid {
         self.free(Target::Cols, cols)
     }
 
-    // Raises the floor, and looks at `budget` further leaves of the rows and as many of the columns: those that were removed at or
-    // below it are taken out, with their cells, and their handles are free again.
-    //
-    // Returns `OutOfMemory` where there is no room for what is kept, and then the grid may be used no more.
-    fn tidy(&mut self, alloc: Global, floor: u64, budget: u64) -> Result<(), OutOfMemory>
+    /// Raises the floor, and looks at `budget` further leaves of the rows and as many of the columns: those that were removed at or
+    /// below it are taken out, with their cells, and their handles are free again.
+    ///
+    /// Returns `OutOfMemory` where there is no room for what is kept, and then the grid may be used no more.
+    pub fn tidy(&mut self, alloc: Global, floor: u64, budget: u64) -> Result<(), OutOfMemory>
         requires sound { IsSound self.old }
         requires rising { self.old.rows.tree.floor ≤ floor }
         requires free { AreFreeUnits floor (grid_state self.old 0 true) }
-        ensures sound { OnOk result (IsSound self.new) }
-        ensures floor { OnOk result (self.new.rows.tree.floor ≡ floor) }
-        ensures kept { (last : ℕ) (doc : Document) (stages : List Stage) → Holds last self.old doc stages
-            → OnOk result (HoldsKept floor (grid_state self.new 0 true) doc stages) }
+        ensures { OnOk result (CompactsGrid floor self.old self.new) }
     {
         let rows = scour_part(&mut self.rows, alloc, floor, budget)?;
         let cols = scour_part(&mut self.cols, alloc, floor, budget)?;

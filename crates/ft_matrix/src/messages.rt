@@ -1,57 +1,22 @@
 //! What operations of messages make of a grid.
 
-ghost use Rattle.std.specs.Prelude.{◌≡◌, ℕ, ◌+◌, ◌≤◌, List, IfOk, IsTrue, OnErr, OnOk, false, map};
+ghost use Rattle.std.specs.Prelude.{◌≡◌, ℕ, ◌+◌, ◌≤◌, List, IfOk, OnOk, false, map};
 ghost use Rattle.std.specs.List.{AllByRecursion};
 ghost use Rattle.ft_op.specs.Document.{Document, effects, grid_effect};
 ghost use Rattle.ft_op.specs.Operation.{OnGrid, sub_operations};
 ghost use Rattle.ft_op.specs.Stages.{Stage};
 ghost use Rattle.ft_op.specs.WellFormed.{IsWellFormedCell, IsWellFormedGrid};
 ghost use Rattle.ft_op.specs.declared.operations.ChannelOp.{ChannelOp};
-ghost use Rattle.ft_laws_names.specs.WellNamed.{AreWellNamed};
-ghost use Rattle.ft_matrix.specs.Conditions.{KeepsRest, TakesOp};
-ghost use Rattle.ft_matrix.specs.HoldsGrid.{HoldsGrid};
 ghost use Rattle.ft_matrix.specs.Sound.{IsSound};
 ghost use Rattle.ft_matrix.specs.Applied.{Holds, Passes, skips};
 
 use crate::grid::Grid;
-use crate::matrix::SharedMatrix;
 use crate::splices::{insert_units, remove_units};
 use ft_base::{Datum, OutOfMemory, Perspective, Steps};
 use ft_block::LenView;
 use ft_json::ValText;
 use ft_op::{CellOp, GridOp};
 use std::sync::ledger::Ledger;
-
-impl SharedMatrix {
-    /// Applies an operation of a message under number `seq`, by the perspective of its sender: past the client's own pending rows
-    /// and columns. Returns how many of its sub-operations were out of range, which changed nothing.
-    ///
-    /// Returns `OutOfMemory` where there is no room for it, and then the table may be used no more.
-    pub fn apply<G: Ledger>(
-        &mut self,
-        op: &GridOp,
-        seq: u64,
-        at: Perspective,
-        steps: &mut Steps<G>,
-    ) -> Result<u64, OutOfMemory>
-        requires usable { IsTrue self.old.usable }
-        requires settled { self.old.given ≡ 0 }
-        requires formed { IsWellFormedGrid op.now }
-        requires floor { self.old.floor ≤ at.r }
-        ensures applied { (last : ℕ) (doc : Document) (stages : List Stage) → AreWellNamed last doc stages → HoldsGrid self.old doc stages
-            → IfOk result (λ count. TakesOp last self.new (effects doc seq at.c at.r (sub_operations (ChannelOp.Grid op.now))) doc stages count) }
-        ensures rest { OnOk result (KeepsRest self.old self.new) }
-        ensures err { OnErr result (self.new.usable ≡ false) }
-    {
-        match self.grid.apply_op(op, seq, at, steps) {
-            Ok(skipped) => Ok(skipped),
-            Err(e) => {
-                self.usable = false;
-                Err(e)
-            }
-        }
-    }
-}
 
 impl Grid {
     /// Applies an operation under number `seq`, and returns how many of its sub-operations were out of range, which changed nothing.

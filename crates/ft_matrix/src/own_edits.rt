@@ -11,90 +11,36 @@ ghost use Rattle.ft_op.specs.Document.{Document};
 ghost use Rattle.ft_op.specs.Operation.{OnGrid, sub_operations};
 ghost use Rattle.ft_op.specs.Stages.{Stage};
 ghost use Rattle.ft_op.specs.WellFormed.{IsWellFormedCell, IsWellFormedGrid};
-ghost use Rattle.ft_msg.specs.Client.{local_sub_operations};
-ghost use Rattle.ft_laws_names.specs.WellNamed.{AreWellNamed};
 ghost use Rattle.ft_matrix.specs.Sound.{IsSound};
 ghost use Rattle.ft_matrix.specs.GridStates.{depth_of, grid_state};
-ghost use Rattle.ft_matrix.specs.HoldsGrid.{HoldsGrid};
-ghost use Rattle.ft_matrix.specs.Conditions.{AnswersEdit, IsAboveAll, KeepsRest};
+ghost use Rattle.ft_matrix.specs.Conditions.{IsAboveAll};
 ghost use Rattle.ft_matrix.specs.Applied.{Holds};
 ghost use Rattle.ft_matrix.specs.OwnEdits.{EditsAll, EditsOne, TakesStages, lengths_after, refusal};
 ghost use Rattle.ft_matrix.specs.Sides.{units_at};
 ghost use Rattle.ft_matrix.specs.Units.{shown_units, units_of};
 
 use crate::grid::Grid;
-use crate::matrix::SharedMatrix;
 use crate::messages::more;
 use crate::seen::LOCAL;
 use crate::splices::{insert_own_units, remove_own_units, seen_count};
 use crate::stages::GridStage;
 use ft_arena::NodeId;
 use ft_base::{Datum, OutOfMemory, Steps};
-use ft_block::LenView;
 use ft_json::ValText;
-use ft_msg::EditFault;
 use ft_op::{CellOp, GridOp, Target};
 use ft_perm::Vector;
 use std::sync::ledger::Ledger;
 
-impl SharedMatrix {
-    /// Takes an operation of the client's own as pending stages from `first` on, which is above all that is pending, and returns
-    /// how many these are.
-    ///
-    /// Returns `OutOfRange` with the length of the list concerned where one of its sub-operations is out of range in the view that
-    /// those before it make, and then nothing changed; and `OutOfMemory` where there is no room, and then the table may be used
-    /// no more.
-    pub fn edit<G: Ledger>(
-        &mut self,
-        op: &GridOp,
-        first: u64,
-        steps: &mut Steps<G>,
-    ) -> Result<u64, EditFault>
-        requires usable { IsTrue self.old.usable }
-        requires settled { self.old.given ≡ 0 }
-        requires formed { IsWellFormedGrid op.now }
-        requires some { 1 ≤ first }
-        requires above { IsAboveAll first self.old }
-        ensures answers { (last : ℕ) (doc : Document) (stages : List Stage) → first ≡ last + 1 → AreWellNamed last doc stages → HoldsGrid self.old doc stages
-            → AnswersEdit stages (local_sub_operations doc stages first (sub_operations (ChannelOp.Grid op.now))) self.old self.new result }
-        ensures reads { (target : Target) (p count : ℕ) → op.now ≡ GridOp.One (CellOp.SpliceIn target p count)
-            → steps.new ≤ steps.old + 9 * (depth_of target self.old + 1) }
-        ensures rest { OnOk result (KeepsRest self.old self.new) }
-        ensures rows_depth { 4 ^ self.old.rows_depth ≤ length self.old.rows + 1 }
-        ensures cols_depth { 4 ^ self.old.cols_depth ≤ length self.old.cols + 1 }
-    {
-        // How deep a search goes is read off its contract.
-        let _leaves = self.first_leaves();
-        match self.grid.edit_op(op, first, steps) {
-            Ok(None) => Ok(sub_operation_count(op)),
-            Ok(Some(length)) => Err(EditFault::OutOfRange { length }),
-            Err(_) => {
-                self.usable = false;
-                Err(EditFault::OutOfMemory)
-            }
-        }
-    }
-
-    // The first leaves of the rows and of the columns; the contract tells how deep a search for a unit goes at most.
-    fn first_leaves(&self) -> (Option<NodeId>, Option<NodeId>)
-        requires { IsTrue self.now.usable }
-        ensures rows { 4 ^ self.now.rows_depth ≤ length self.now.rows + 1 }
-        ensures cols { 4 ^ self.now.cols_depth ≤ length self.now.cols + 1 }
-    {
-        (first_leaf(&self.grid.rows), first_leaf(&self.grid.cols))
-    }
-}
-
-// The first leaf of a vector; the contract tells how deep a search for a unit goes at most.
-fn first_leaf(units: &Vector) -> Option<NodeId>
+/// The first leaf of a vector; the contract tells how deep a search for a unit goes at most.
+pub fn first_leaf(units: &Vector) -> Option<NodeId>
     requires { IsTrue units.now.tree.usable }
     ensures { 4 ^ units.now.tree.depth ≤ length (shown_units units.now) + 1 }
 {
     units.tree.first_leaf()
 }
 
-// How many sub-operations the operation has.
-fn sub_operation_count(op: &GridOp) -> u64
+/// How many sub-operations the operation has.
+pub fn sub_operation_count(op: &GridOp) -> u64
     ensures { result ≡ length (sub_operations (ChannelOp.Grid op.now)) }
 {
     match op {
@@ -104,11 +50,11 @@ fn sub_operation_count(op: &GridOp) -> u64
 }
 
 impl Grid {
-    // Takes an operation as pending stages from `first` on. Returns the length of the list concerned where a sub-operation is
-    // out of range, and then nothing changed.
-    //
-    // Returns `OutOfMemory` where there is no room for it, and then the grid may be used no more.
-    fn edit_op<G: Ledger>(
+    /// Takes an operation as pending stages from `first` on. Returns the length of the list concerned where a sub-operation is
+    /// out of range, and then nothing changed.
+    ///
+    /// Returns `OutOfMemory` where there is no room for it, and then the grid may be used no more.
+    pub fn edit_op<G: Ledger>(
         &mut self,
         op: &GridOp,
         first: u64,

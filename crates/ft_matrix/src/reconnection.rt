@@ -1,30 +1,19 @@
 //! What a table does when its client comes back under a new connection.
 
-ghost use Rattle.std.specs.Prelude.{◌≡◌, ◌+◌, ◌-◌, ◌<◌, ◌≤◌, ◌++◌, ℕ, List, IfOk, IsTrue, OnErr, OnOk, Some, false, true, flat_map, map, nat_lt, option_map, slice_get};
-ghost use Rattle.std.specs.List.{list_all, prefix_len};
+ghost use Rattle.std.specs.Prelude.{◌≡◌, ◌+◌, ◌-◌, ◌<◌, ◌≤◌, ◌++◌, IfOk, OnOk, Some, false, map, nat_lt, option_map, slice_get};
+ghost use Rattle.std.specs.List.{prefix_len};
 ghost use Rattle.ft_op.specs.declared.operations.ChannelOp.{ChannelOp};
-ghost use Rattle.ft_op.specs.Document.{Document};
 ghost use Rattle.ft_op.specs.Operation.{OnGrid};
-ghost use Rattle.ft_op.specs.Pieces.{op_of, pieces};
-ghost use Rattle.ft_op.specs.Stages.{Stage};
-ghost use Rattle.ft_msg.specs.Reconnection.{carried_stage, rebuilt_document};
-ghost use Rattle.ft_perm.specs.Handles.{numbers_from};
+ghost use Rattle.ft_op.specs.Pieces.{op_of};
 ghost use Rattle.ft_rebase.specs.StageLists.{StandSideBySide};
-ghost use Rattle.ft_laws_names.specs.WellNamed.{AreWellNamed};
-ghost use Rattle.ft_laws_agreement.specs.Sequencing.{is_grid_stage};
-ghost use Rattle.ft_matrix.specs.Conditions.{AreItsStages};
-ghost use Rattle.ft_matrix.specs.HoldsGrid.{HoldsGrid};
-ghost use Rattle.ft_matrix.specs.Applied.{Holds};
-ghost use Rattle.ft_matrix.specs.GridStates.{grid_state};
 ghost use Rattle.ft_rebase.specs.Pieces.{pieces as unit_pieces};
-ghost use Rattle.ft_matrix.specs.Rebuilt.{RebuildsUnits};
-ghost use Rattle.ft_matrix.specs.Resubmitted.{DropsStage, Resubmits, ResubmitsOne, first_insertion, inserted_at, insertion_of, is_due, is_due_at, place_before, put_position, removal_op, removals_of, stage_pieces, write_at};
+ghost use Rattle.ft_matrix.specs.Rebuilt.{RebuildsGrid, RebuildsUnits};
+ghost use Rattle.ft_matrix.specs.Resubmitted.{DropsStage, Resubmits, ResubmitsOne, SendsAgain, first_insertion, inserted_at, insertion_of, is_due, is_due_at, place_before, put_position, removal_op, removals_of, stage_pieces, write_at};
 ghost use Rattle.ft_matrix.specs.declared.stages.GridStage.{GridStage};
 ghost use Rattle.ft_matrix.specs.Sound.{IsSound, IsSoundVector, StagesRise};
 ghost use Rattle.ft_matrix.specs.Units.{units_of};
 
 use crate::grid::Grid;
-use crate::matrix::SharedMatrix;
 use crate::splices::seen_count;
 use crate::stages::GridStage;
 use ft_base::{Datum, OutOfMemory};
@@ -35,73 +24,6 @@ use ft_perm::Vector;
 use ft_rebase::{Piece, normalise, regenerate};
 use std::alloc::Global;
 use std::collections::VecDeque;
-
-impl SharedMatrix {
-    /// The operation as which an edit is sent again whose stages are the `count` ones from `first` on: None exactly where nothing
-    /// of it is left. Those of its stages of which nothing is left are gone then. The edits are given in order, and `normalise`
-    /// follows once for all.
-    ///
-    /// Returns `OutOfMemory` where there is no room for it, and then the table may be used no more.
-    pub fn reconnect(&mut self, first: u64, count: u64) -> Result<Option<GridOp>, OutOfMemory>
-        requires usable { IsTrue self.old.usable }
-        requires next { self.old.given < first }
-        ensures answer { (last : ℕ) (doc : Document) (before mine rest : List Stage) → AreWellNamed last doc (before ++ (mine ++ rest))
-            → HoldsGrid self.old doc (before ++ (mine ++ rest)) → map (λ t. t.stage) mine ≡ numbers_from first count → list_all is_grid_stage mine ≡ true
-            → IfOk result (λ op. option_map ChannelOp.Grid op ≡ op_of (flat_map (pieces doc) mine)) }
-        ensures holds { (last : ℕ) (doc : Document) (before mine rest : List Stage) → AreWellNamed last doc (before ++ (mine ++ rest))
-            → HoldsGrid self.old doc (before ++ (mine ++ rest)) → map (λ t. t.stage) mine ≡ numbers_from first count
-            → OnOk result (HoldsGrid self.new doc (before ++ (flat_map (carried_stage doc) mine ++ rest))) }
-        ensures given { OnOk result (1 ≤ count → self.new.given ≡ first + (count - 1)) }
-        ensures floor { OnOk result (self.new.floor ≡ self.old.floor) }
-        ensures usable { OnOk result (self.new.usable ≡ self.old.usable) }
-        ensures err { OnErr result (self.new.usable ≡ false) }
-    {
-        if count == 0 {
-            return Ok(None);
-        }
-        let Some(last) = first.checked_add(count - 1) else {
-            self.usable = false;
-            return Err(OutOfMemory);
-        };
-        match self.grid.reconnect(self.alloc, first, count) {
-            Ok(op) => {
-                self.given = last;
-                Ok(op)
-            }
-            Err(e) => {
-                self.usable = false;
-                Err(e)
-            }
-        }
-    }
-
-    /// Brings the rows and the columns in order after all pending edits were given to `reconnect`: as if the pending ones had been
-    /// put in afresh. The rows of each stage stand side by side in its view, and so do the columns.
-    ///
-    /// Returns `OutOfMemory` where there is no room for it, and then the table may be used no more.
-    pub fn normalise(&mut self) -> Result<(), OutOfMemory>
-        requires usable { IsTrue self.old.usable }
-        requires rows { StandSideBySide (λ e. e.stamps) self.old.rows }
-        requires cols { StandSideBySide (λ e. e.stamps) self.old.cols }
-        ensures rebuilt { (last : ℕ) (doc : Document) (stages : List Stage) (numbers : List ℕ) → AreWellNamed last doc stages → HoldsGrid self.old doc stages
-            → AreItsStages last numbers doc → OnOk result (HoldsGrid self.new (rebuilt_document numbers doc) stages) }
-        ensures given { OnOk result (self.new.given ≡ 0) }
-        ensures floor { OnOk result (self.new.floor ≡ self.old.floor) }
-        ensures usable { OnOk result (self.new.usable ≡ self.old.usable) }
-        ensures err { OnErr result (self.new.usable ≡ false) }
-    {
-        match self.grid.normalise() {
-            Ok(()) => {
-                self.given = 0;
-                Ok(())
-            }
-            Err(e) => {
-                self.usable = false;
-                Err(e)
-            }
-        }
-    }
-}
 
 // The operation that pieces make: one alone, several as a group, none for none.
 fn op_of(alloc: Global, mut pieces: Vec<CellOp>) -> Result<Option<GridOp>, OutOfMemory>
@@ -140,25 +62,22 @@ fn rebuild_units(units: &mut Vector) -> Result<(), OutOfMemory>
 }
 
 impl Grid {
-    // Puts the pending rows and columns in afresh. Those of each stage stand side by side in its view.
-    //
-    // Returns `OutOfMemory` where there is no room for it, and then the grid may be used no more.
-    fn normalise(&mut self) -> Result<(), OutOfMemory>
+    /// Puts the pending rows and columns in afresh. Those of each stage stand side by side in its view.
+    ///
+    /// Returns `OutOfMemory` where there is no room for it, and then the grid may be used no more.
+    pub fn normalise(&mut self) -> Result<(), OutOfMemory>
         requires sound { IsSound self.old }
         requires rows { StandSideBySide (λ e. e.stamps) (units_of self.old.rows) }
         requires cols { StandSideBySide (λ e. e.stamps) (units_of self.old.cols) }
-        ensures sound { OnOk result (IsSound self.new) }
-        ensures floor { OnOk result (self.new.rows.tree.floor ≡ self.old.rows.tree.floor) }
-        ensures rebuilt { (last : ℕ) (doc : Document) (stages : List Stage) (numbers : List ℕ) → Holds last self.old doc stages
-            → AreItsStages last numbers doc → OnOk result (HoldsGrid (grid_state self.new 0 true) (rebuilt_document numbers doc) stages) }
+        ensures { OnOk result (RebuildsGrid self.old self.new) }
     {
         rebuild_units(&mut self.rows)?;
         rebuild_units(&mut self.cols)
     }
 
-    // The operation as which an edit is sent again whose stages are the `count` ones from `first` on, None where nothing of it is
-    // left. Those of its stages of which nothing is left are gone then.
-    fn reconnect(
+    /// The operation as which an edit is sent again whose stages are the `count` ones from `first` on, None where nothing of it is
+    /// left. Those of its stages of which nothing is left are gone then.
+    pub fn reconnect(
         &mut self,
         alloc: Global,
         first: u64,
@@ -166,14 +85,7 @@ impl Grid {
     ) -> Result<Option<GridOp>, OutOfMemory>
         requires sound { IsSound self.old }
         requires some { 1 ≤ count }
-        ensures sound { OnOk result (IsSound self.new) }
-        ensures floor { OnOk result (self.new.rows.tree.floor ≡ self.old.rows.tree.floor) }
-        ensures answer { (last : ℕ) (doc : Document) (before mine rest : List Stage) → Holds last self.old doc (before ++ (mine ++ rest))
-            → map (λ t. t.stage) mine ≡ numbers_from first count → list_all is_grid_stage mine ≡ true
-            → IfOk result (λ op. option_map ChannelOp.Grid op ≡ op_of (flat_map (pieces doc) mine)) }
-        ensures holds { (last : ℕ) (doc : Document) (before mine rest : List Stage) → Holds last self.old doc (before ++ (mine ++ rest))
-            → map (λ t. t.stage) mine ≡ numbers_from first count
-            → OnOk result (HoldsGrid (grid_state self.new 0 true) doc (before ++ (flat_map (carried_stage doc) mine ++ rest))) }
+        ensures { IfOk result (λ op. SendsAgain first count self.old self.new op) }
     {
         let pieces = self.resubmit(alloc, first, count)?;
         op_of(alloc, pieces)

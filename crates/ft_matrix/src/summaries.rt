@@ -1,25 +1,16 @@
 //! A table from a summary, and what a summary has of a table.
 
-ghost use Rattle.std.specs.Prelude.{◌≡◌, ◌≤◌, [], ℕ, IfOk, IsTrue, OnOk, nat_le, true};
+ghost use Rattle.std.specs.Prelude.{◌≡◌, ◌≤◌, [], IfOk, IsTrue, OnOk, nat_le, true};
 ghost use Rattle.std.specs.List.{list_all};
 ghost use Rattle.ft_block.specs.declared.leaves.LenView.TheVariants.{Stage};
-ghost use Rattle.ft_op.specs.Document.{Document};
-ghost use Rattle.ft_msg.specs.Summary.{doc_of};
 ghost use Rattle.ft_perm.specs.Vectors.{seen_handles};
 ghost use Rattle.ft_sumdoc.specs.Valid.{IsValidSummary};
-ghost use Rattle.ft_laws_names.specs.WellNamed.{AreWellNamed};
-ghost use Rattle.ft_matrix.specs.Conditions.{IsAboveAll};
-ghost use Rattle.ft_matrix.specs.GridStates.{grid_state};
-ghost use Rattle.ft_matrix.specs.HoldsGrid.{HoldsGrid};
-ghost use Rattle.ft_matrix.specs.Loaded.{LoadsCell, LoadsCells, LoadsRun, LoadsUnits};
-ghost use Rattle.ft_matrix.specs.Shown.{HasNoUnits, with_units};
-ghost use Rattle.ft_matrix.specs.Sound.{IsSound, IsSoundVector};
+ghost use Rattle.ft_matrix.specs.Loaded.{LoadsCell, LoadsCells, LoadsGrid, LoadsRun, LoadsUnits};
+ghost use Rattle.ft_matrix.specs.Sound.{IsSoundVector};
 ghost use Rattle.ft_matrix.specs.Units.{units_of};
 
 use crate::grid::Grid;
-use crate::matrix::SharedMatrix;
 use crate::messages::more;
-use crate::saved::saved_units;
 use crate::splices::fresh_handles;
 use ft_base::{Datum, OutOfMemory};
 use ft_block::LenView;
@@ -30,53 +21,11 @@ use ft_props::Props;
 use ft_sumdoc::{CellRec, RunRec, SumDoc};
 use std::alloc::Global;
 
-impl SharedMatrix {
-    /// The table of a summary, with nothing pending.
-    pub fn load(alloc: Global, doc: &SumDoc) -> Result<SharedMatrix, OutOfMemory>
-        requires { IsValidSummary doc.now }
-        ensures holds { IfOk result (λ made. HoldsGrid made (doc_of doc.now) []) }
-        ensures given { IfOk result (λ made. made.given ≡ 0) }
-        ensures floor { IfOk result (λ made. made.floor ≡ 0) }
-        ensures usable { IfOk result (λ made. made.usable ≡ true) }
-    {
-        let grid = Grid::load(alloc, doc)?;
-        Ok(SharedMatrix {
-            grid,
-            alloc,
-            given: 0,
-            usable: true,
-        })
-    }
-
-    /// Fills what a summary at the minimum `doc.min` has of the table: its rows, its columns and its cells.
-    ///
-    /// Returns `OutOfMemory` where there is no room for them, and then a part may be filled.
-    pub fn save(&self, doc: &mut SumDoc) -> Result<(), OutOfMemory>
-        requires usable { IsTrue self.now.usable }
-        requires settled { self.now.given ≡ 0 }
-        requires idle { self.now.stages ≡ [] }
-        requires floor { self.now.floor ≤ doc.old.min }
-        requires empty { HasNoUnits doc.old }
-        ensures { (last : ℕ) (of : Document) → AreWellNamed last of [] → HoldsGrid self.now of [] → IsAboveAll 0 self.now → of.minimum ≡ doc.old.min
-            → OnOk result (doc.new ≡ with_units of doc.old) }
-    {
-        let rows = saved_units(&self.grid.rows, doc.min)?;
-        let cols = saved_units(&self.grid.cols, doc.min)?;
-        let cells = self.grid.shown_cells(self.alloc)?;
-        doc.rows = rows;
-        doc.cols = cols;
-        doc.cells = cells;
-        Ok(())
-    }
-}
-
 impl Grid {
-    // The grid of a summary, with nothing pending.
-    fn load(alloc: Global, doc: &SumDoc) -> Result<Grid, OutOfMemory>
+    /// The grid of a summary, with nothing pending.
+    pub fn load(alloc: Global, doc: &SumDoc) -> Result<Grid, OutOfMemory>
         requires { IsValidSummary doc.now }
-        ensures sound { IfOk result IsSound }
-        ensures holds { IfOk result (λ grid. HoldsGrid (grid_state grid 0 true) (doc_of doc.now) []) }
-        ensures floor { IfOk result (λ grid. grid.rows.tree.floor ≡ 0) }
+        ensures { IfOk result (LoadsGrid doc.now) }
     {
         let mut grid = Grid::new(alloc);
         grid.rows_made = load_units(&mut grid.rows, doc.rows.as_slice())?;

@@ -1,45 +1,18 @@
 //! What is shown of a table.
 
-ghost use Rattle.std.specs.Prelude.{◌≡◌, ◌+◌, ◌<◌, ◌^◌, ℕ, List, IfOk, IsTrue, OnOk, map};
+ghost use Rattle.std.specs.Prelude.{◌≡◌, ◌<◌, ℕ, List, IfOk, OnOk, map};
 ghost use Rattle.std.specs.BTreeMap as tree;
-ghost use Rattle.ft_op.specs.Document.{Document};
-ghost use Rattle.ft_op.specs.Stages.{Stage};
-ghost use Rattle.ft_laws_names.specs.WellNamed.{AreWellNamed};
-ghost use Rattle.ft_matrix.specs.Conditions.{IsAboveAll};
-ghost use Rattle.ft_matrix.specs.HoldsGrid.{HoldsGrid};
 ghost use Rattle.ft_matrix.specs.Seen.{ArePlaced, HoldsRuns, PlacesCell, cell_of, place_cmp, shown_at, shown_cells};
-ghost use Rattle.ft_matrix.specs.Shown.{with_grid};
 ghost use Rattle.ft_matrix.specs.Sound.{IsSound};
 
 use crate::grid::Grid;
-use crate::matrix::SharedMatrix;
-use crate::seen::{LOCAL, SeenRuns, seen_runs};
-use crate::splices::seen_count;
+use crate::seen::{SeenRuns, seen_runs};
 use ft_base::{Datum, OutOfMemory};
 use ft_cells::{CellKey, Cells};
 use ft_json::ValText;
-use ft_msg::View;
 use ft_sumdoc::{CellRec, CellRecs};
 use std::alloc::Global;
 use std::collections::BTreeMap;
-
-impl SharedMatrix {
-    /// Fills what a view shows of the table: how many rows and columns are seen, and their cells that have a value. It goes to
-    /// the seen leaves and to the cells, never to each crossing of a row and a column.
-    ///
-    /// Returns `OutOfMemory` where there is no room for the cells, and then a part may be filled.
-    pub fn view(&self, out: &mut View) -> Result<(), OutOfMemory>
-        requires usable { IsTrue self.now.usable }
-        requires settled { self.now.given ≡ 0 }
-        ensures { (last : ℕ) (doc : Document) (stages : List Stage) → last < 2 ^ 64 → AreWellNamed last doc stages → HoldsGrid self.now doc stages
-            → IsAboveAll (last + 1) self.now → OnOk result (out.new ≡ with_grid last doc stages out.old) }
-    {
-        out.rows = seen_count(&self.grid.rows, LOCAL);
-        out.cols = seen_count(&self.grid.cols, LOCAL);
-        out.cells = self.grid.shown_cells(self.alloc)?;
-        Ok(())
-    }
-}
 
 impl Grid {
     /// The cells that are shown, by rising row and column.

@@ -31,6 +31,10 @@ loop-i-preserved g =
           number g.loop-i-test.true i.sound lowest g.in_ok-ack_stage.ensures.acks n (i.acked last doc acked rest h n c);
     }
 
-pub returns-clause-acked : goal.returns-clause-acked
-returns-clause-acked g = λ last doc acked rest h n c. all-acked last g.args.seq g.args.conn doc acked rest g.args.first g.args.count g.loop-i.i g.loop-i.self g.loop-i-test.false n
-    (g.loop-i.invariant.acked last doc acked rest h n c)
+pub returns : goal.returns
+returns g = record {
+  sound = g.loop-i.invariant.sound;
+  floor = g.loop-i.invariant.floor;
+  acked = λ last doc acked rest h n c. all-acked last g.args.seq g.args.conn doc acked rest g.args.first g.args.count g.loop-i.i g.loop-i.self g.loop-i-test.false n
+      (g.loop-i.invariant.acked last doc acked rest h n c);
+}

@@ -17,15 +17,6 @@ free-requires-2 c = record {
       (are-gone c.args.floor c.in_ok-cols.cols.items c.args.self.now.cols c.scour_part-2.new.units c.in_ok-cols.ensures.scours c.requires.sound.cols.proper);
 }
 
-pub returns-clause-sound : goal.returns-clause-sound
-returns-clause-sound c = ok-with _ c.free-2.result c.free-2.ensures (λ f. on-ok c.free-2.result (compacts-grid c.args.floor c.in_ok-rows.rows.items c.in_ok-cols.cols.items c.args.self.now (record c.args.self.now { rows = c.scour_part.new.units; cols = c.scour_part-2.new.units }) c.free.new.self c.free-2.new.self
-    c.requires.sound c.requires.free refl c.in_ok-rows.ensures.scours c.in_ok-cols.ensures.scours c.in_ok-rows.ensures.sound c.in_ok-cols.ensures.sound c.in_ok-free.ensures f).sound)
-
-pub returns-clause-floor : goal.returns-clause-floor
-returns-clause-floor c = ok-with _ c.free-2.result c.free-2.ensures (λ f. on-ok c.free-2.result (compacts-grid c.args.floor c.in_ok-rows.rows.items c.in_ok-cols.cols.items c.args.self.now (record c.args.self.now { rows = c.scour_part.new.units; cols = c.scour_part-2.new.units }) c.free.new.self c.free-2.new.self
-    c.requires.sound c.requires.free refl c.in_ok-rows.ensures.scours c.in_ok-cols.ensures.scours c.in_ok-rows.ensures.sound c.in_ok-cols.ensures.sound c.in_ok-free.ensures f).floor)
-
-pub returns-clause-kept : goal.returns-clause-kept
-returns-clause-kept c = λ last doc stages h. ok-with _ c.free-2.result c.free-2.ensures (λ f. on-ok c.free-2.result
-    ((compacts-grid c.args.floor c.in_ok-rows.rows.items c.in_ok-cols.cols.items c.args.self.now (record c.args.self.now { rows = c.scour_part.new.units; cols = c.scour_part-2.new.units }) c.free.new.self c.free-2.new.self
-    c.requires.sound c.requires.free refl c.in_ok-rows.ensures.scours c.in_ok-cols.ensures.scours c.in_ok-rows.ensures.sound c.in_ok-cols.ensures.sound c.in_ok-free.ensures f).kept last doc stages h))
+pub returns : goal.returns
+returns c = ok-with _ c.free-2.result c.free-2.ensures (λ f. on-ok c.free-2.result (compacts-grid c.args.floor c.in_ok-rows.rows.items c.in_ok-cols.cols.items c.args.self.now (record c.args.self.now { rows = c.scour_part.new.units; cols = c.scour_part-2.new.units }) c.free.new.self c.free-2.new.self
+    c.requires.sound c.requires.free refl c.in_ok-rows.ensures.scours c.in_ok-cols.ensures.scours c.in_ok-rows.ensures.sound c.in_ok-cols.ensures.sound c.in_ok-free.ensures f))

@@ -12,7 +12,7 @@ compact-requires-clause-free c =
 
 pub returns-in-Ok-clause-kept : goal.returns-in-Ok-clause-kept
 returns-in-Ok-clause-kept c = λ last doc stages n h. restate-kept c.args.floor c.compact.new.self 0 c.self.inside.given true c.self.inside.usable doc stages
-    (c.in-Ok.ensures.kept last doc stages (record {
+    (c.in-Ok.ensures.compacts.kept last doc stages (record {
       named = n;
       holds = restate c.self.inside.grid c.self.inside.given 0 c.self.inside.usable true doc stages (subst (λ s. HoldsGrid s doc stages) (sym c.self.view_is) h);
     }))
