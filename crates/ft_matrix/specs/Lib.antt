@@ -4,6 +4,7 @@ pub mod Sides
 pub mod Sound
 pub mod HoldsGrid
 pub mod Conditions
+pub mod Empty
 pub mod Splices
 pub mod Acked
 pub mod Applied

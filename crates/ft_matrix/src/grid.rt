@@ -1,14 +1,9 @@
 //! The parts of a shared table.
 
-ghost use Rattle.std.specs.Prelude.{◌≡◌, [], ℕ, OnOk, true};
+ghost use Rattle.std.specs.Prelude.{◌≡◌, OnOk};
 ghost use Rattle.std.specs.Borrow.{sem};
-ghost use Rattle.ft_cells.specs.CellTables.{cell_at, empty_cell};
-ghost use Rattle.ft_op.specs.Document.{empty};
-ghost use Rattle.ft_matrix.specs.Sound.{IsSound};
-ghost use Rattle.ft_matrix.specs.GridStates.{grid_state};
-ghost use Rattle.ft_matrix.specs.HoldsGrid.{HoldsGrid};
+ghost use Rattle.ft_matrix.specs.Empty.{IsEmptyGrid};
 ghost use Rattle.ft_matrix.specs.Sides.{lends_units, units_at, with_more_made};
-ghost use Rattle.ft_matrix.specs.Units.{units_of};
 
 use crate::messages::more;
 use crate::stages::GridStage;
@@ -34,12 +29,7 @@ pub struct Grid {
 impl Grid {
     /// No rows, no columns, no cells, nothing pending.
     pub fn new(alloc: Global) -> Grid
-        ensures sound { IsSound result }
-        ensures holds { HoldsGrid (grid_state result 0 true) empty [] }
-        ensures floor { result.rows.tree.floor ≡ 0 }
-        ensures units { (units_of result.rows ≡ []) × (units_of result.cols ≡ []) }
-        ensures cells { (row col : ℕ) → cell_at result.cells row col ≡ empty_cell }
-        ensures stages { result.stages.items ≡ [] }
+        ensures { IsEmptyGrid result }
     {
         Grid {
             rows: Vector::new(alloc),
