@@ -40,6 +40,7 @@ impl Grid {
             cols_made: 0,
         }
     }
+
     /// The rows, or the columns.
     pub fn units(&self, target: Target) -> &Vector
         ensures { result.now ≡ units_at target self.now }
