@@ -2,7 +2,7 @@
 
 ghost use Rattle.std.specs.Prelude.{◌≡◌, ◌+◌, ◌<◌, ◌≤◌, ◌^◌, ℕ, IfOk, IsTrue, OnOk, true};
 ghost use Rattle.ft_tree_leaves.specs.References.{IsReferenceIn};
-ghost use Rattle.ft_interval_store.specs.State.{IsAboveAll, IsLive, is_add};
+ghost use Rattle.ft_interval_store.specs.State.{IsAboveAll, IsLive, is_interval_operation};
 
 use ft_base::{OutOfMemory, Steps, Text};
 use ft_block::LenView;
@@ -31,7 +31,7 @@ const LOCAL: LenView = LenView::Stage(u64::MAX);
 
 // The addition of an interval with a number as its id, on the character at that position.
 fn addition(alloc: Global, number: u64, position: u64) -> Result<TextOp, OutOfMemory>
-    ensures { IfOk result (λ op. is_add op ≡ true) }
+    ensures { IfOk result (λ op. is_interval_operation op ≡ true) }
 {
     let at = i64::try_from(position).unwrap_or(0);
     Ok(TextOp::IntervalAdd {
@@ -60,7 +60,7 @@ fn add(
 {
     let position = numbers.next() % tree.length(LOCAL).max(1);
     let op = addition(alloc, stage, position)?;
-    match intervals.add_local(tree, &op, stage) {
+    match intervals.edit_local(tree, &op, stage) {
         Ok(()) => Ok(()),
         Err(_) => Err(StepFault::OutOfRange),
     }

@@ -57,27 +57,36 @@ module _ (tree : TreeState TextContent) (c : CollectionsState) (label : Characte
   of-label y e = subst (λ (o : Option LabelIndex). IfSome o (λ (z : LabelIndex). is_eq (text_cmp label z.label) ≡ true)) e own
 
   -- what is gathered answers all that meet the range
-  pub found-all : AreFitting → (is : List (Interval ℕ)) → IsPartOf from is (λ n. is_on_any n c.pending || is_met place a b n x)
+  found-own : AreFitting → (is : List (Interval ℕ)) → IsPartOf from is (λ n. is_on_any n c.pending || is_met place a b n x)
       → filter (meets label a b) (map (shown_record xs) (shown_from xs 0 ts is)) ≡ answers
-  found-all fits is p =
+  found-own fits is p =
       gathered-shown xs ts from is (λ n. is_on_any n c.pending || is_met place a b n x) p
       (NamesRise-map (settled_interval xs 0) (placed_intervals tree.refs c.acked) (λ i. refl) (NamesRise-map (with_mapped_ends (places_of_ends tree.refs)) c.acked (λ i. refl) names))
       (λ n h. on-placed tree.refs n c.pending ∙ first-false (is_on_any n c.pending) (is_met place a b n x) h) (meets label a b)
       (λ m h. unwanted xs (length xs) tree.refs c.acked ts label a b x names (placed-rise tree.refs 0 c.pending order.rising) (fits-placed tree.refs c.pending fits) of-label l m
       (ap (λ (o : Bool). o || is_met place a b m x) (on-placed tree.refs m c.pending) ∙ h))
 
+  pub found-all : (y : Option LabelIndex) → y ≡ x → AreFitting → (is : List (Interval ℕ)) → IsPartOf from is (λ n. is_on_any n c.pending || is_met place a b n y)
+      → filter (meets label a b) (map (shown_record xs) (shown_from xs 0 ts is)) ≡ answers
+  found-all y at fits is p = found-own fits is (subst (λ (o : Option LabelIndex). IsPartOf from is (λ n. is_on_any n c.pending || is_met place a b n o)) at p)
+
   keys-few : AreFitting → length (keys_meeting place a b (list_in x).items) ≤ length answers + length c.pending
   keys-few fits =
       let most = few-keys xs tree.refs c.acked ts label a b x names (placed-rise tree.refs 0 c.pending order.rising) (fits-placed tree.refs c.pending fits) l in
       subst (λ (m : ℕ). length (keys_meeting place a b (list_in x).items) ≤ length answers + m) (count-placed tree.refs c.pending) most
 
-  -- and few nodes are read for it
-  pub few-steps : (new old : ℕ) → (new ≡ old) ⊎ (AreFitting × (new ≤ old + 9 * ((list_in x).depth + 1) * (length (keys_meeting place a b (list_in x).items) + 1)))
-      → new ≤ old + 9 * ((list_in x).depth + 1) * (length answers + length c.pending + 1)
-  few-steps new old h = elim h [
+  abbrev Reads : ℕ → ℕ → Option LabelIndex → Type 0
+  Reads new old o = (new ≡ old) ⊎ (AreFitting × (new ≤ old + 9 * ((list_in o).depth + 1) * (length (keys_meeting place a b (list_in o).items) + 1)))
+
+  few-own : (new old : ℕ) → Reads new old x → new ≤ old + 9 * ((list_in x).depth + 1) * (length answers + length c.pending + 1)
+  few-own new old h = elim h [
     | inl e ↦ none-read new old (9 * ((list_in x).depth + 1) * (length answers + length c.pending + 1)) e
     | inr k ↦ few-reads new old (list_in x).depth (length (keys_meeting place a b (list_in x).items)) (length answers) (length c.pending) k.1 (keys-few k.0)
   ]
+
+  -- and few nodes are read for it
+  pub few-steps : (y : Option LabelIndex) → y ≡ x → (new old : ℕ) → Reads new old y → new ≤ old + 9 * ((list_in x).depth + 1) * (length answers + length c.pending + 1)
+  few-steps y at new old h = few-own new old (subst (Reads new old) at h)
 
 -- ---- no more items than intervals
 

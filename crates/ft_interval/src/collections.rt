@@ -1,6 +1,6 @@
 //! Collections of intervals.
 
-ghost use Rattle.std.specs.Prelude.{◌≡◌, ◌≤◌, ◌+◌, ◌*◌, ◌^◌, [], Some, IsSome, not, IsTrue, IfOk, IfErr, OnErr, OnOk, true, false, filter, length, map, option_map};
+ghost use Rattle.std.specs.Prelude.{◌≡◌, ◌≤◌, ◌+◌, ◌*◌, ◌^◌, [], Some, IsSome, not, IsTrue, IfOk, IfErr, OnErr, OnOk, true, false, filter, length, map, option_copied, option_map};
 ghost use Rattle.std.specs.List.{list_any};
 ghost use Rattle.ft_base.specs.Scan.{len};
 ghost use Rattle.ft_block.specs.declared.leaves.LenView.TheVariants.{At, Stage};
@@ -14,15 +14,16 @@ ghost use Rattle.ft_interval_store.specs.Ends.{map_ends, places_of_given, slid_e
 ghost use Rattle.ft_interval.specs.Indexes.{StandsOn, index_of, list_in};
 ghost use Rattle.ft_interval_store.specs.Intervals.{NamesRise, interval_of, name_in};
 ghost use Rattle.ft_interval_store.specs.Shown.{last, numbers_at, regenerated, settled_end, shown_intervals, shown_record};
-ghost use Rattle.ft_interval_store.specs.State.{IsAboveAll, IsFirst, IsInOrder, IsAsBefore, IsRefusedEdit, KeepsReferences, Pushes, first_stage, is_add, is_at_stage, is_change, is_delete, is_interval_operation, is_shown, operation_at, placed, text_elements, with_effect, with_ends_at, with_first_acked};
+ghost use Rattle.ft_interval_store.specs.State.{IsAboveAll, IsFirst, IsInOrder, IsAsBefore, IsRefusedEdit, KeepsReferences, Pushes, first_stage, is_add, is_at_stage, is_interval_operation, is_shown, operation_at, placed, text_elements, with_effect, with_ends_at, with_first_acked};
 
-use crate::gathering::overlapping;
+use crate::gathering::gathered;
 use crate::indexes::{LabelIndex, index_of, order_is_kept};
 use crate::listing::{enlist_changed, unlist_changed};
 use ft_base::{OutOfMemory, Perspective, Steps, Text};
 use ft_interval_store::{IntervalFault, Store};
 use ft_op::{Ends, TextOp};
 use ft_sumdoc::IntervalRec;
+use ft_sumdoc::meeting::meets;
 use ft_tree::{TextContent, Tree};
 use std::alloc::Global;
 use std::marker::Model;
@@ -67,12 +68,14 @@ impl Collections {
         }
     }
 
-    /// Adds an interval as a pending operation of that stage, with its ends on the elements that the client sees.
+    /// Adds, changes or deletes an interval as a pending operation of that stage; its ends, if it gives some, are on the elements
+    /// that the client sees.
     ///
-    /// Returns `IdInUse` exactly where the label has the id in the view, else `OutOfRange` exactly where the ends are neither
-    /// below the length seen nor both detached, and then nothing changed; and `OutOfMemory` where there is no room, and then
-    /// tree and collections may be used no more.
-    pub fn add_local(
+    /// Returns `IdInUse` exactly where a new interval's label has the id in the view, `NoSuchInterval` exactly where that of a
+    /// changed or deleted one doesn't have it, else `OutOfRange` exactly where ends are given and neither below the length seen nor
+    /// both detached, and then nothing changed; and `OutOfMemory` where there is no room, and then tree and collections may be used
+    /// no more.
+    pub fn edit_local(
         &mut self,
         tree: &mut Tree<TextContent>,
         op: &TextOp,
@@ -80,7 +83,7 @@ impl Collections {
     ) -> Result<(), IntervalFault>
         requires usable { IsTrue tree.old.usable }
         requires stands { StandsOn tree.old self.old }
-        requires kind { is_add op.now ≡ true }
+        requires kind { is_interval_operation op.now ≡ true }
         requires some { 1 ≤ stage }
         requires above { IsAboveAll stage self.old.state }
         ensures taken { OnOk result (Pushes (seen_in (Stage stage)) (text_elements tree.old) stage op.now self.old.state self.new.state tree.old tree.new) }
@@ -92,63 +95,7 @@ impl Collections {
         ensures indexes { self.new.indexes ≡ self.old.indexes }
         ensures stands { OnOk result (StandsOn tree.new self.new) }
     {
-        self.store.add_local(tree, op, stage)
-    }
-
-    /// Changes an interval as a pending operation of that stage; its new ends, if it gets some, are on the elements that the
-    /// client sees.
-    ///
-    /// Returns `NoSuchInterval` exactly where the label doesn't have the id in the view, else `OutOfRange` exactly where the
-    /// ends are given and neither below the length seen nor both detached, and then nothing changed; and `OutOfMemory` where
-    /// there is no room, and then tree and collections may be used no more.
-    pub fn change_local(
-        &mut self,
-        tree: &mut Tree<TextContent>,
-        op: &TextOp,
-        stage: u64,
-    ) -> Result<(), IntervalFault>
-        requires usable { IsTrue tree.old.usable }
-        requires stands { StandsOn tree.old self.old }
-        requires kind { is_change op.now ≡ true }
-        requires some { 1 ≤ stage }
-        requires above { IsAboveAll stage self.old.state }
-        ensures taken { OnOk result (Pushes (seen_in (Stage stage)) (text_elements tree.old) stage op.now self.old.state self.new.state tree.old tree.new) }
-        ensures name { OnOk result (is_shown (text_elements tree.old) (name_in op.now) (placed tree.old.refs self.old.state) ≡ not (is_add op.now)) }
-        ensures refused { let shown = is_shown (text_elements tree.old) (name_in op.now) (placed tree.old.refs self.old.state) in
-            let length = len (seen_in (Stage stage)) (text_elements tree.old) in
-            IfErr result (IsRefusedEdit shown length op.now (IsAsBefore self.old.state self.new.state tree.old tree.new)) }
-        ensures unusable { IfErr result (λ e. e ≡ fault.OutOfMemory → tree.new.usable ≡ false) }
-        ensures indexes { self.new.indexes ≡ self.old.indexes }
-        ensures stands { OnOk result (StandsOn tree.new self.new) }
-    {
-        self.store.change_local(tree, op, stage)
-    }
-
-    /// Takes an interval away as a pending operation of that stage.
-    ///
-    /// Returns `NoSuchInterval` exactly where the label doesn't have the id in the view, and then nothing changed; and
-    /// `OutOfMemory` where there is no room, and then tree and collections may be used no more.
-    pub fn delete_local(
-        &mut self,
-        tree: &mut Tree<TextContent>,
-        op: &TextOp,
-        stage: u64,
-    ) -> Result<(), IntervalFault>
-        requires usable { IsTrue tree.old.usable }
-        requires stands { StandsOn tree.old self.old }
-        requires kind { is_delete op.now ≡ true }
-        requires some { 1 ≤ stage }
-        requires above { IsAboveAll stage self.old.state }
-        ensures taken { OnOk result (Pushes (seen_in (Stage stage)) (text_elements tree.old) stage op.now self.old.state self.new.state tree.old tree.new) }
-        ensures name { OnOk result (is_shown (text_elements tree.old) (name_in op.now) (placed tree.old.refs self.old.state) ≡ not (is_add op.now)) }
-        ensures refused { let shown = is_shown (text_elements tree.old) (name_in op.now) (placed tree.old.refs self.old.state) in
-            let length = len (seen_in (Stage stage)) (text_elements tree.old) in
-            IfErr result (IsRefusedEdit shown length op.now (IsAsBefore self.old.state self.new.state tree.old tree.new)) }
-        ensures unusable { IfErr result (λ e. e ≡ fault.OutOfMemory → tree.new.usable ≡ false) }
-        ensures indexes { self.new.indexes ≡ self.old.indexes }
-        ensures stands { OnOk result (StandsOn tree.new self.new) }
-    {
-        self.store.delete_local(tree, op, stage)
+        self.store.edit_local(tree, op, stage)
     }
 
     /// Applies a sequenced operation of another client, with its ends on the elements that its sender sees. It returns false
@@ -176,40 +123,14 @@ impl Collections {
         ensures stands { OnOk result (StandsOn tree.new self.new) }
         ensures err { OnErr result (tree.new.usable ≡ false) }
     {
-        match self.take_effect(tree, op, at) {
-            Ok(fits) => Ok(fits),
-            Err(e) => {
-                tree.spoil();
-                Err(e)
-            }
-        }
-    }
-
-    // The same, where nothing is said of the tree after `OutOfMemory`.
-    fn take_effect(
-        &mut self,
-        tree: &mut Tree<TextContent>,
-        op: &TextOp,
-        at: Perspective,
-    ) -> Result<bool, OutOfMemory>
-        requires usable { IsTrue tree.old.usable }
-        requires stands { StandsOn tree.old self.old }
-        requires kind { is_interval_operation op.now ≡ true }
-        requires floor { tree.old.floor ≤ at.r }
-        ensures fits { IfOk result (λ fits. fits ≡ given_ends_fit (len (seen_in (At at)) (text_elements tree.old)) (ends_of op.now)) }
-        ensures effect { let xs = text_elements tree.old in
-            let ends = map_ends (slid_end xs) (places_of_given (seen_in (At at)) xs (ends_of op.now)) in
-            IfOk result (λ fits. fits ≡ true → placed tree.new.refs self.new.state ≡ with_effect op.now ends (placed tree.old.refs self.old.state)) }
-        ensures refs { IfOk result (λ fits. fits ≡ true → KeepsReferences self.old.state self.new.state tree.old.refs tree.new.refs) }
-        ensures rest { OnOk result (tree.new ≡ record tree.old { refs = tree.new.refs }) }
-        ensures misfit { IfOk result (λ fits. fits ≡ false → (self.new.state ≡ self.old.state) × (tree.new ≡ tree.old)) }
-        ensures stands { OnOk result (StandsOn tree.new self.new) }
-    {
         // That names rise is read off its contract.
         let _first = self.store.first_stage();
         unlist_changed(&mut self.indexes, &self.store, tree, op);
         let fits = self.store.apply(tree, op, at)?;
-        enlist_changed(&mut self.indexes, &self.store, tree, op)?;
+        let Ok(()) = enlist_changed(&mut self.indexes, &self.store, tree, op) else {
+            tree.spoil();
+            return Err(OutOfMemory);
+        };
         Ok(fits)
     }
 
@@ -228,32 +149,19 @@ impl Collections {
         ensures stands { OnOk result (StandsOn tree.new self.new) }
         ensures err { OnErr result (tree.new.usable ≡ false) }
     {
-        match self.take_first(tree, stage) {
-            Ok(()) => Ok(()),
-            Err(e) => {
-                tree.spoil();
-                Err(e)
-            }
-        }
-    }
-
-    // The same, where nothing is said of the tree after `OutOfMemory`.
-    fn take_first(&mut self, tree: &mut Tree<TextContent>, stage: u64) -> Result<(), OutOfMemory>
-        requires usable { IsTrue tree.old.usable }
-        requires stands { StandsOn tree.old self.old }
-        requires first { IsFirst stage self.old.state }
-        ensures effect { let xs = text_elements tree.old in
-            OnOk result (placed tree.new.refs self.new.state ≡ with_first_acked (map_ends (slid_end xs)) (placed tree.old.refs self.old.state)) }
-        ensures refs { OnOk result (KeepsReferences self.old.state self.new.state tree.old.refs tree.new.refs) }
-        ensures rest { OnOk result (tree.new ≡ record tree.old { refs = tree.new.refs }) }
-        ensures stands { OnOk result (StandsOn tree.new self.new) }
-    {
         // That names rise is read off its contract.
         let _first = self.store.first_stage();
-        let op = self.store.first_operation()?;
+        let Ok(op) = self.store.first_operation() else {
+            tree.spoil();
+            return Err(OutOfMemory);
+        };
         unlist_changed(&mut self.indexes, &self.store, tree, &op);
         self.store.ack(tree, stage)?;
-        enlist_changed(&mut self.indexes, &self.store, tree, &op)
+        let Ok(()) = enlist_changed(&mut self.indexes, &self.store, tree, &op) else {
+            tree.spoil();
+            return Err(OutOfMemory);
+        };
+        Ok(())
     }
 
     /// The stage of the first pending operation: None exactly where nothing is pending.
@@ -323,12 +231,27 @@ impl Collections {
         ensures depth { let list = list_in (index_of label.now self.now.indexes) in 4 ^ list.depth ≤ length list.items + 1 }
         ensures few { length (list_in (index_of label.now self.now.indexes)).items ≤ length self.now.state.acked }
     {
+        // That names and stages rise is read off its contract.
+        let _first = self.store.first_stage();
+        let first = gathered(&self.store, tree, self.index(label), a, b, steps)?;
+        let mut found = self.store.shown_behind(tree, first)?;
+        found.retain(|i| meets(i, label, a, b));
+        Ok(found)
+    }
+
+    // The index of the label, if it has one. It is no deeper than so many intervals make it.
+    fn index(&self, label: &Text) -> Option<&LabelIndex>
+        requires { (tree : TreeState TextContent) × StandsOn tree self.now }
+        ensures index { option_copied result ≡ index_of label.now self.now.indexes }
+        ensures depth { let list = list_in (index_of label.now self.now.indexes) in 4 ^ list.depth ≤ length list.items + 1 }
+        ensures few { length (list_in (index_of label.now self.now.indexes)).items ≤ length self.now.state.acked }
+    {
         // That names rise is read off its contract.
         let _first = self.store.first_stage();
         let index = index_of(&self.indexes, label);
         // How deep the index is is read off its contract.
         order_is_kept(index);
-        overlapping(&self.store, tree, index, label, a, b, steps)
+        index
     }
 
     /// The operation of that pending stage as it is sent again after a reconnection: its ends, if it gives some, are settled at

@@ -1,25 +1,22 @@
 //! The intervals that meet a range, gathered by the index of their label.
 
-ghost use Rattle.std.specs.Prelude.{◌≡◌, ◌⊎◌, ◌≤◌, ◌+◌, ◌*◌, ◌^◌, ◌&&◌, ◌||◌, ℕ, List, All, Some, IsTrue, IfOk, IfSome, OnOk, true, filter, length, map, option_copied};
+ghost use Rattle.std.specs.Prelude.{◌≡◌, ◌⊎◌, ◌≤◌, ◌+◌, ◌*◌, ◌&&◌, ◌||◌, ℕ, List, All, Some, IsTrue, IfOk, OnOk, length, map, option_copied};
 ghost use Rattle.std.specs.Ordering.{is_eq};
 ghost use Rattle.ft_overlap.specs.Items.{AreKnown, IsInOrder};
 ghost use Rattle.ft_props.specs.Keys.{text_cmp};
-ghost use Rattle.ft_sumdoc.specs.Meeting.{meets};
 ghost use Rattle.ft_interval_store.specs.declared.intervals.Interval.{Interval};
 ghost use Rattle.ft_interval_store.specs.Gathered.{Gathers, IsPartOf, is_on_any};
-ghost use Rattle.ft_interval_store.specs.Shown.{last, settled_interval, shown_intervals, shown_place, shown_record};
+ghost use Rattle.ft_interval_store.specs.Shown.{last, settled_interval, shown_place};
 ghost use Rattle.ft_interval_store.specs.Standing.{ShowsAll};
-ghost use Rattle.ft_interval_store.specs.State.{IsLive, ends_of_name, placed, placed_intervals, text_elements};
-ghost use Rattle.ft_interval.specs.Indexes.{IsListed, id_in, is_found, is_id, is_met, keys_meeting, list_in};
+ghost use Rattle.ft_interval_store.specs.State.{IsLive, placed_intervals, text_elements};
+ghost use Rattle.ft_interval.specs.Indexes.{id_in, is_found, is_id, is_met, keys_meeting, list_in};
 ghost use Rattle.ft_interval.specs.Order.{IsLiveIn};
 
 use crate::indexes::{LabelIndex, found_keys};
-use ft_base::{OutOfMemory, Steps, Text};
+use ft_base::{OutOfMemory, Steps};
 use ft_interval_store::Store;
 use ft_interval_store::intervals::Intervals;
 use ft_refs::Place;
-use ft_sumdoc::IntervalRec;
-use ft_sumdoc::meeting::meets;
 use ft_tree::{TextContent, Tree};
 use std::sync::ledger::Ledger;
 
@@ -86,9 +83,9 @@ fn add_met<G: Ledger>(
     Ok(all)
 }
 
-// The acknowledged intervals at stage 0 that pending operations are on, or that the index says to meet the places from `a` to
-// `b`. It reads no node of the index before it knows the stages of all pending operations.
-fn gathered<G: Ledger>(
+/// The acknowledged intervals at stage 0 that pending operations are on, or that the index says to meet the places from `a` to
+/// `b`. A read of a node of the index is one step. It reads none before it knows the stages of all pending operations.
+pub fn gathered<G: Ledger>(
     store: &Store,
     tree: &Tree<TextContent>,
     index: Option<&LabelIndex>,
@@ -113,36 +110,4 @@ fn gathered<G: Ledger>(
         Some(index) => add_met(store, tree, index, a, b, steps, all),
         None => Ok(all),
     }
-}
-
-/// The intervals of the label as they are shown that meet the places from `a` to `b`, by rising id, where the index of the label is
-/// given, if it has one. A read of a node of it is one step.
-pub fn overlapping<G: Ledger>(
-    store: &Store,
-    tree: &Tree<TextContent>,
-    index: Option<&LabelIndex>,
-    label: &Text,
-    a: u64,
-    b: u64,
-    steps: &mut Steps<G>,
-) -> Result<Vec<IntervalRec>, OutOfMemory>
-    requires usable { IsTrue tree.now.usable }
-    requires live { IsLive tree.now.refs store.now }
-    requires label { IfSome (option_copied index) (λ x. is_eq (text_cmp label.now x.label) ≡ true) }
-    requires listed { IsListed (length (text_elements tree.now)) tree.now.refs (λ id. ends_of_name (label.now, id) store.now.acked) (option_copied index) }
-    ensures found { let xs = text_elements tree.now in
-        let c = placed tree.now.refs store.now in
-        IfOk result (λ found. found.items ≡ filter (meets label.now a b) (map (shown_record xs) (shown_intervals xs c.acked c.pending))) }
-    ensures cost { let xs = text_elements tree.now in
-        let c = placed tree.now.refs store.now in
-        let k = length (filter (meets label.now a b) (map (shown_record xs) (shown_intervals xs c.acked c.pending))) in
-        let depth = (list_in (option_copied index.entry)).depth in
-        steps.new ≤ steps.old + 9 * (depth + 1) * (k + length store.now.pending + 1) }
-{
-    // That names and stages rise is read off its contract.
-    let _first = store.first_stage();
-    let first = gathered(store, tree, index, a, b, steps)?;
-    let mut found = store.shown_behind(tree, first)?;
-    found.retain(|i| meets(i, label, a, b));
-    Ok(found)
 }

@@ -1,22 +1,22 @@
--- Why a local edit is refused, once it is known whether the view has its name; and that stages rise behind one.
-use Rattle.std.proofs.Common.{◌≡◌, ℕ, ◌+◌, ◌<◌, ◌≤◌, Bool, not, List, [], ◌∷◌, All, Result, sym, ap, subst, arith}
-use Rattle.std.specs.Prelude.{IfErr}
-use Rattle.std.proofs.lemmas.Result.{IfErr-weaker}
+-- That the view has the name of a local edit just where that adds none; and that stages rise behind one.
+use Rattle.std.proofs.Common.{◌≡◌, ℕ, ◌+◌, ◌<◌, ◌≤◌, Bool, true, false, not, List, [], ◌∷◌, All, sym, ap, subst, inl, inr, arith}
+use Rattle.std.specs.Prelude.{◌⊎◌}
 use Rattle.std.proofs.lemmas.List.Elements.{All-append, All-cons, All-head, All-nil, All-tail}
 use Rattle.ft_tree_leaves.specs.declared.text.TextContent.{TextContent}
 use Rattle.ft_tree_leaves.specs.Elements.{TreeElement}
 use Rattle.ft_op.specs.Document.{ends_of}
 use Rattle.ft_op.specs.declared.operations.TextOp.{TextOp}
-use Rattle.ft_interval_store.specs.declared.faults.IntervalFault.{IntervalFault}
 use Rattle.ft_tree.specs.State.{TreeState}
 use Rattle.ft_interval_store.specs.declared.pending.Operation.{Operation}
 use Rattle.ft_interval_store.specs.Ends.{References, places_of_ends, places_of_given}
-use Rattle.ft_interval_store.specs.State.{CollectionsState, IsAboveAll, IsOutOfRange, IsRefusedEdit, Pushes, is_add, placed_operations, with_mapped_names}
+use Rattle.ft_interval_store.specs.State.{CollectionsState, IsAboveAll, Pushes, placed_operations, with_mapped_names}
 
-pub edit-refused : {T : Type 0} (r : Result T IntervalFault) (shown : Bool) (length : ℕ) (op : TextOp) (P : Type 0) → shown ≡ not (is_add op)
-    → IfErr r (IsOutOfRange length op P) → IfErr r (IsRefusedEdit shown length op P)
-edit-refused r shown length op P e h =
-    IfErr-weaker r (IsOutOfRange length op P) (IsRefusedEdit shown length op P) (λ fault k. subst (λ b. IsRefusedEdit b length op P fault) (sym e) k.0) h
+pub shown-unless-added : (adds shown : Bool) → ((adds ≡ true) × (shown ≡ false)) ⊎ (adds ≡ false) → ((adds ≡ false) × (shown ≡ true)) ⊎ (adds ≡ true)
+    → shown ≡ not adds
+shown-unless-added true shown (inl h) k = h.1
+shown-unless-added true shown (inr h) k = (cc)
+shown-unless-added false shown h (inl k) = k.1
+shown-unless-added false shown h (inr k) = (cc)
 
 -- ---- stages
 

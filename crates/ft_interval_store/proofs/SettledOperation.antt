@@ -1,6 +1,5 @@
 -- One pending operation gets new references as its ends, and those that it had end.
-use Rattle.std.proofs.Common.{◌≡◌, ◌≢◌, ℕ, ◌+◌, ◌<◌, ◌≤◌, Bool, true, false, cond, nat_eq, List, [], ◌∷◌, ◌++◌, map, length, get_or, set, take, drop, suc, not, nat_lt, Option, Some, None, IsSome, option_map, refl, sym, ◌∙◌, ap, subst, arith}
-use Rattle.std.specs.Prelude.{IfOk, OnOk, Result, Ok, Err}
+use Rattle.std.proofs.Common.{◌≡◌, ◌≢◌, ℕ, ◌+◌, ◌<◌, ◌≤◌, Bool, true, false, cond, nat_eq, List, [], ◌∷◌, ◌++◌, map, length, get_or, set, take, drop, suc, not, nat_lt, Some, None, IsSome, option_map, refl, sym, ◌∙◌, ap, subst, arith}
 use Rattle.std.specs.List.{list_any, position, position_or_len}
 use Rattle.std.proofs.lemmas.List.{drop_more, get_or_read, set_split, take-append-drop}
 use Rattle.std.proofs.lemmas.Bool.Decides.{nat_tests}
@@ -330,9 +329,6 @@ module _ {is : List (Interval ℕ)} {ps : List Operation} {i : ℕ} {d : Operati
   cut-live : IsLive before (was is front own back no_ends no_ends before before)
   cut-live = subst (λ x. IsLive before x) (sym cut-now) s.live
 
-  pub settle-within : i < length ps
-  settle-within = within
-
   -- what is read at its place
   pub settle-own : (x : Operation) → x ≡ get_or ps i x → x ≡ own
   settle-own x e = get_or_read ps i x within e d
@@ -374,14 +370,3 @@ module _ {is : List (Interval ℕ)} {ps : List Operation} {i : ℕ} {d : Operati
           sym (ap (λ x. placed after x) new-is)
           ∙ settled-places is front own back places again before mid cut-order cut-live added after dropped k f at-stage-k p
           ∙ ap (λ x. with_ends_at k f (placed before x)) cut-now
-
--- what holds whatever a call answers
-pub whatever : {T E : Type 0} (r : Result T E) (P : Type 0) → P → OnOk r P
-whatever (Ok x) P h = h
-whatever (Err e) P h = tt
-
--- what was found is what stands there, and is so again
-pub some-again : {T E B : Type 0} (r : Result T E) (f : B → T) (o : Option B) (t u : B) → o ≡ Some u → f t ≡ f u → IfOk r (λ x. x ≡ f t)
-    → IfOk r (λ x. Some x ≡ option_map f o)
-some-again (Ok x) f o t u h same e = ap (λ y. Some y) (e ∙ same) ∙ sym (ap (option_map f) h)
-some-again (Err e) f o t u h same k = tt

@@ -187,13 +187,6 @@ operation_at k (t ∷ ts) = cond (is_at_stage k t) (Some t) (operation_at k ts)
 abbrev pub with_ends_at : ℕ → (EndPair ℕ → EndPair ℕ) → CollectionsState → CollectionsState
 with_ends_at k f c = record c { pending = map (λ t. cond (is_at_stage k t) (with_mapped_names f t) t) c.pending }
 
--- whether a fault is one of an id
-abbrev pub is_id_fault : IntervalFault → Bool
-is_id_fault IdInUse = true
-is_id_fault NoSuchInterval = true
-is_id_fault (OutOfRange l) = false
-is_id_fault OutOfMemory = false
-
 -- what an edit that is taken makes of collections and tree: an operation more that is pending at stage k, with its ends on
 -- the elements that pass the test
 pub record Pushes {U : Type 0} (seen : TreeElement U → Bool) (xs : List (TreeElement U)) (k : ℕ) (op : TextOp)
@@ -216,10 +209,6 @@ IsRefusedEdit shown length op unchanged NoSuchInterval = (is_add op ≡ false) �
 IsRefusedEdit shown length op unchanged (OutOfRange l) =
     (shown ≡ not (is_add op)) × (given_ends_fit length (ends_of op) ≡ false) × (l ≡ length) × unchanged
 IsRefusedEdit shown length op unchanged OutOfMemory = ⊤
-
--- the same where the view has the name just where it has to
-abbrev pub IsOutOfRange : ℕ → TextOp → Type 0 → IntervalFault → Type 0
-IsOutOfRange length op unchanged fault = IsRefusedEdit (not (is_add op)) length op unchanged fault × (is_id_fault fault ≡ false)
 
 -- ---- parts of an effect
 

@@ -7,7 +7,7 @@ ghost use Rattle.ft_interval_store.specs.declared.intervals.Interval.{Interval};
 ghost use Rattle.ft_interval_store.specs.Ends.{AreLiveEnds, map_ends, places_of_ends};
 ghost use Rattle.ft_interval_store.specs.Gathered.{Gathers, IsPartOf, is_on_any};
 ghost use Rattle.ft_interval_store.specs.Intervals.{after_operation, is_on, name_cmp};
-ghost use Rattle.ft_interval_store.specs.Shown.{carried, last, settled_end, settled_interval, shown_from, shown_intervals, shown_record};
+ghost use Rattle.ft_interval_store.specs.Shown.{carried, last, settled_end, settled_interval, shown_from, shown_record};
 ghost use Rattle.ft_interval_store.specs.Standing.{AreOnTree, HasPlaces, IsCarriedInterval, ShowsAll, ShowsInterval, record_at};
 ghost use Rattle.ft_interval_store.specs.State.{AreLiveIntervals, AreLiveOperations, StagesRise, placed_intervals, placed_operations, text_elements, with_mapped_ends};
 
@@ -52,8 +52,8 @@ fn placed_on_heap(
     Ok(held)
 }
 
-// The intervals at stage 0, with their ends as elements that this sees.
-fn first_places(
+/// The intervals at stage 0, with their ends as elements that this sees.
+pub fn first_places(
     tree: &Tree<TextContent>,
     acked: &Intervals<RefId>,
 ) -> Result<Intervals<Place>, OutOfMemory>
@@ -184,24 +184,6 @@ pub fn shown_behind(
     }
     carry_all(tree, &mut all, stage, u64::MAX);
     records(tree, all)
-}
-
-/// All intervals as they are shown, by rising label and id.
-pub fn all_shown(
-    tree: &Tree<TextContent>,
-    acked: &Intervals<RefId>,
-    pending: &[Operation],
-) -> Result<Vec<IntervalRec>, OutOfMemory>
-    requires usable { IsTrue tree.now.usable }
-    requires acked { AreLiveIntervals tree.now.refs acked.now }
-    requires pending { AreLiveOperations tree.now.refs pending.now }
-    requires rising { StagesRise 0 pending.now }
-    ensures { let xs = text_elements tree.now in
-        let is = placed_intervals tree.now.refs acked.now in
-        let ts = placed_operations tree.now.refs pending.now in
-        IfOk result (λ all. all.items ≡ map (shown_record xs) (shown_intervals xs is ts)) }
-{
-    shown_behind(tree, first_places(tree, acked)?, pending)
 }
 
 /// Adds the acknowledged interval of that label and id, at stage 0, if it is there.

@@ -92,39 +92,18 @@ pub fn take_effect(
     ensures err { OnErr result (intervals.new ≡ intervals.old) }
     ensures unusable { OnErr result (tree.new.usable ≡ false) }
 {
-    match take(intervals, tree, op, ends) {
-        Ok(()) => Ok(()),
+    let unused = unused_ends(intervals, op, *ends);
+    let lost = lost_ends(intervals, op);
+    match intervals.apply(op, *ends) {
+        Ok(()) => {
+            settle_ends(tree, *ends);
+            drop_ends(tree, unused);
+            drop_ends(tree, lost);
+            Ok(())
+        }
         Err(e) => {
             tree.spoil();
             Err(e)
         }
     }
-}
-
-// The same, where nothing is said of the tree after `OutOfMemory`.
-//
-// Returns `OutOfMemory` where there is no room for what it makes, and then the intervals are as they were.
-fn take(
-    intervals: &mut Intervals<RefId>,
-    tree: &mut Tree<TextContent>,
-    op: &TextOp,
-    ends: &EndPair<RefId>,
-) -> Result<(), OutOfMemory>
-    requires usable { IsTrue tree.old.usable }
-    requires kept { AreKeptOnce tree.old.refs ends.now intervals.old }
-    ensures placed { let xs = text_elements tree.old in
-        let places = map_ends (slid_end xs) (places_of_ends tree.old.refs ends.now) in
-        OnOk result (placed_intervals tree.new.refs intervals.new ≡ after_operation op.now places (placed_intervals tree.old.refs intervals.old)) }
-    ensures after { OnOk result (intervals.new ≡ after_operation op.now ends.now intervals.old) }
-    ensures refs { OnOk result (HandsOn ends.now intervals.old intervals.new tree.old.refs tree.new.refs) }
-    ensures rest { OnOk result (tree.new ≡ record tree.old { refs = tree.new.refs }) }
-    ensures err { OnErr result (intervals.new ≡ intervals.old) }
-{
-    let unused = unused_ends(intervals, op, *ends);
-    let lost = lost_ends(intervals, op);
-    intervals.apply(op, *ends)?;
-    settle_ends(tree, *ends);
-    drop_ends(tree, unused);
-    drop_ends(tree, lost);
-    Ok(())
 }

@@ -1,18 +1,17 @@
 //! Pending operations on intervals.
 
-ghost use Rattle.std.specs.Prelude.{◌≡◌, ◌≤◌, ◌++◌, [], ◌∷◌, OnOk, OnErr, false, position};
+ghost use Rattle.std.specs.Prelude.{◌≡◌, ◌≤◌, ◌++◌, [], ◌∷◌, OnOk, OnErr, position};
 ghost use Rattle.std.specs.List.{list_any};
 ghost use Rattle.ft_op.specs.Document.{ends_of};
 ghost use Rattle.ft_interval_store.specs.declared.pending.Operation.{Operation};
 ghost use Rattle.ft_interval_store.specs.Intervals.{is_on};
 ghost use Rattle.ft_interval_store.specs.Shown.{last};
-ghost use Rattle.ft_interval_store.specs.State.{is_at_stage};
+ghost use Rattle.ft_interval_store.specs.State.{is_add, is_at_stage};
 
 use crate::intervals::{EndPair, is_same_name};
 use ft_base::{Datum, OutOfMemory, Text};
 use ft_op::{Ends, TextOp};
 use ft_refs::RefId;
-use ft_tree::{TextContent, Tree};
 
 /// A pending operation on an interval: its stage, the operation as it was made, and references on the elements at its
 /// ends.
@@ -44,10 +43,10 @@ fn push(pending: &mut Vec<Operation>, operation: Operation) -> Result<(), OutOfM
     Ok(())
 }
 
-// Adds a copy of an operation with these ends behind all others.
-//
-// Returns `OutOfMemory` where there is no room for it, and then nothing changed.
-fn add_copy(
+/// Adds a copy of an operation with these ends behind all others.
+///
+/// Returns `OutOfMemory` where there is no room for it, and then nothing changed.
+pub fn push_copy(
     pending: &mut Vec<Operation>,
     stage: u64,
     op: &TextOp,
@@ -59,31 +58,6 @@ fn add_copy(
 {
     let op = op.copy()?;
     push(pending, Operation { stage, op, ends })
-}
-
-/// The same, where `OutOfMemory` makes the tree one that may be used no more.
-///
-/// Returns `OutOfMemory` where there is no room for it, and then nothing changed, but the tree may be used no more.
-pub fn push_copy(
-    pending: &mut Vec<Operation>,
-    tree: &mut Tree<TextContent>,
-    stage: u64,
-    op: &TextOp,
-    ends: EndPair<RefId>,
-) -> Result<(), OutOfMemory>
-    ensures ok { let t : Operation = record { stage = stage; op = op.now; ends = ends } in
-        OnOk result (pending.new.items ≡ pending.old.items ++ t ∷ []) }
-    ensures err { OnErr result (pending.new.items ≡ pending.old.items) }
-    ensures kept { OnOk result (tree.new ≡ tree.old) }
-    ensures unusable { OnErr result (tree.new.usable ≡ false) }
-{
-    match add_copy(pending, stage, op, ends) {
-        Ok(()) => Ok(()),
-        Err(e) => {
-            tree.spoil();
-            Err(e)
-        }
-    }
 }
 
 /// The place of the operation of that stage, if it is pending.
@@ -98,6 +72,13 @@ pub fn has_stage(pending: &[Operation], stage: u64) -> bool
     ensures { result ≡ list_any (is_at_stage stage) pending.now }
 {
     pending.iter().any(|t| t.stage == stage)
+}
+
+/// Whether the operation adds an interval.
+pub fn is_add(op: &TextOp) -> bool
+    ensures { result ≡ is_add op.now }
+{
+    matches!(op, TextOp::IntervalAdd { .. })
 }
 
 /// The ends that an operation gives, if it gives some.

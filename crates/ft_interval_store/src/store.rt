@@ -14,15 +14,15 @@ ghost use Rattle.ft_interval_store.specs.Gathered.{Gathers, IsPartOf, is_on_any}
 ghost use Rattle.ft_interval_store.specs.Intervals.{NamesRise, interval_of, name_cmp, name_in};
 ghost use Rattle.ft_interval_store.specs.Shown.{last, numbers_at, regenerated, settled_end, settled_interval, shown_from, shown_intervals, shown_record};
 ghost use Rattle.ft_interval_store.specs.Standing.{ShowsAll};
-ghost use Rattle.ft_interval_store.specs.State.{IsAboveAll, IsAfter, IsAfterFirst, IsAsBefore, IsFirst, IsInOrder, IsLive, IsOutOfRange, IsRefusedEdit, KeepsReferences, Pushes, ends_of_name, first_operation, first_stage, is_add, is_at_stage, is_change, is_delete, is_interval_operation, is_shown, operation_at, placed, placed_intervals, placed_operations, text_elements, with_effect, with_ends_at, with_first_acked};
+ghost use Rattle.ft_interval_store.specs.State.{IsAboveAll, IsAfter, IsAfterFirst, IsAsBefore, IsFirst, IsInOrder, IsLive, IsRefusedEdit, KeepsReferences, Pushes, ends_of_name, first_operation, first_stage, is_add, is_at_stage, is_interval_operation, is_shown, operation_at, placed, placed_intervals, placed_operations, text_elements, with_effect, with_ends_at, with_first_acked};
 
-use crate::all::{add_named, all_shown, places_of_pending, shown_behind};
+use crate::all::{add_named, first_places, places_of_pending, shown_behind};
 use crate::effects::{ends_of, take_effect};
 use crate::ends::{add_ends, drop_ends, given_ends_fit};
 use crate::faults::IntervalFault;
 use crate::intervals::{EndPair, Intervals};
 use crate::numbers::{add_numbers, settled_numbers, with_numbers};
-use crate::pending::{Operation, given_ends, has_stage, place_of_stage, push_copy};
+use crate::pending::{Operation, given_ends, has_stage, is_add, place_of_stage, push_copy};
 use crate::shown::shown_ends;
 use crate::standing::shown_numbers;
 use ft_base::{Datum, OutOfMemory, Perspective, Text};
@@ -68,12 +68,14 @@ impl Store {
         }
     }
 
-    /// Adds an interval as a pending operation of that stage, with its ends on the elements that the client sees.
+    /// Adds, changes or deletes an interval as a pending operation of that stage; its ends, if it gives some, are on the elements
+    /// that the client sees.
     ///
-    /// Returns `IdInUse` exactly where the label has the id in the view, else `OutOfRange` exactly where the ends are neither
-    /// below the length seen nor both detached, and then nothing changed; and `OutOfMemory` where there is no room, and then
-    /// tree and collections may be used no more.
-    pub fn add_local(
+    /// Returns `IdInUse` exactly where a new interval's label has the id in the view, `NoSuchInterval` exactly where that of a
+    /// changed or deleted one doesn't have it, else `OutOfRange` exactly where ends are given and neither below the length seen nor
+    /// both detached, and then nothing changed; and `OutOfMemory` where there is no room, and then tree and collections may be used
+    /// no more.
+    pub fn edit_local(
         &mut self,
         tree: &mut Tree<TextContent>,
         op: &TextOp,
@@ -81,7 +83,7 @@ impl Store {
     ) -> Result<(), IntervalFault>
         requires usable { IsTrue tree.old.usable }
         requires live { IsLive tree.old.refs self.old }
-        requires kind { is_add op.now ≡ true }
+        requires kind { is_interval_operation op.now ≡ true }
         requires some { 1 ≤ stage }
         requires above { IsAboveAll stage self.old }
         ensures taken { OnOk result (Pushes (seen_in (Stage stage)) (text_elements tree.old) stage op.now self.old self.new tree.old tree.new) }
@@ -92,113 +94,14 @@ impl Store {
         ensures unusable { IfErr result (λ e. e ≡ fault.OutOfMemory → tree.new.usable ≡ false) }
         ensures acked { self.new.acked ≡ self.old.acked }
     {
-        let TextOp::IntervalAdd { label, id, .. } = op else {
-            tree.spoil();
-            return Err(IntervalFault::OutOfMemory);
-        };
-        if self.is_shown(tree, label, id) {
+        let adds = is_add(op);
+        let shown = self.is_shown(tree, op);
+        if adds && shown {
             return Err(IntervalFault::IdInUse);
         }
-        self.push(tree, op, stage)
-    }
-
-    /// Changes an interval as a pending operation of that stage; its new ends, if it gets some, are on the elements that the
-    /// client sees.
-    ///
-    /// Returns `NoSuchInterval` exactly where the label doesn't have the id in the view, else `OutOfRange` exactly where the
-    /// ends are given and neither below the length seen nor both detached, and then nothing changed; and `OutOfMemory` where
-    /// there is no room, and then tree and collections may be used no more.
-    pub fn change_local(
-        &mut self,
-        tree: &mut Tree<TextContent>,
-        op: &TextOp,
-        stage: u64,
-    ) -> Result<(), IntervalFault>
-        requires usable { IsTrue tree.old.usable }
-        requires live { IsLive tree.old.refs self.old }
-        requires kind { is_change op.now ≡ true }
-        requires some { 1 ≤ stage }
-        requires above { IsAboveAll stage self.old }
-        ensures taken { OnOk result (Pushes (seen_in (Stage stage)) (text_elements tree.old) stage op.now self.old self.new tree.old tree.new) }
-        ensures name { OnOk result (is_shown (text_elements tree.old) (name_in op.now) (placed tree.old.refs self.old) ≡ not (is_add op.now)) }
-        ensures refused { let shown = is_shown (text_elements tree.old) (name_in op.now) (placed tree.old.refs self.old) in
-            let length = len (seen_in (Stage stage)) (text_elements tree.old) in
-            IfErr result (IsRefusedEdit shown length op.now (IsAsBefore self.old self.new tree.old tree.new)) }
-        ensures unusable { IfErr result (λ e. e ≡ fault.OutOfMemory → tree.new.usable ≡ false) }
-        ensures acked { self.new.acked ≡ self.old.acked }
-    {
-        let TextOp::IntervalChange { label, id, .. } = op else {
-            tree.spoil();
-            return Err(IntervalFault::OutOfMemory);
-        };
-        if !self.is_shown(tree, label, id) {
+        if !adds && !shown {
             return Err(IntervalFault::NoSuchInterval);
         }
-        self.push(tree, op, stage)
-    }
-
-    /// Takes an interval away as a pending operation of that stage.
-    ///
-    /// Returns `NoSuchInterval` exactly where the label doesn't have the id in the view, and then nothing changed; and
-    /// `OutOfMemory` where there is no room, and then tree and collections may be used no more.
-    pub fn delete_local(
-        &mut self,
-        tree: &mut Tree<TextContent>,
-        op: &TextOp,
-        stage: u64,
-    ) -> Result<(), IntervalFault>
-        requires usable { IsTrue tree.old.usable }
-        requires live { IsLive tree.old.refs self.old }
-        requires kind { is_delete op.now ≡ true }
-        requires some { 1 ≤ stage }
-        requires above { IsAboveAll stage self.old }
-        ensures taken { OnOk result (Pushes (seen_in (Stage stage)) (text_elements tree.old) stage op.now self.old self.new tree.old tree.new) }
-        ensures name { OnOk result (is_shown (text_elements tree.old) (name_in op.now) (placed tree.old.refs self.old) ≡ not (is_add op.now)) }
-        ensures refused { let shown = is_shown (text_elements tree.old) (name_in op.now) (placed tree.old.refs self.old) in
-            let length = len (seen_in (Stage stage)) (text_elements tree.old) in
-            IfErr result (IsRefusedEdit shown length op.now (IsAsBefore self.old self.new tree.old tree.new)) }
-        ensures unusable { IfErr result (λ e. e ≡ fault.OutOfMemory → tree.new.usable ≡ false) }
-        ensures acked { self.new.acked ≡ self.old.acked }
-    {
-        let TextOp::IntervalDelete { label, id } = op else {
-            tree.spoil();
-            return Err(IntervalFault::OutOfMemory);
-        };
-        if !self.is_shown(tree, label, id) {
-            return Err(IntervalFault::NoSuchInterval);
-        }
-        self.push(tree, op, stage)
-    }
-
-    // Whether the label has the id in the view.
-    fn is_shown(&self, tree: &Tree<TextContent>, label: &Text, id: &Text) -> bool
-        requires usable { IsTrue tree.now.usable }
-        requires live { IsLive tree.now.refs self.now }
-        ensures { result ≡ is_shown (text_elements tree.now) (label.now, id.now) (placed tree.now.refs self.now) }
-    {
-        shown_ends(tree, &self.acked, &self.pending, label, id).is_some()
-    }
-
-    // Adds a pending operation, with references on the elements at its ends that the client sees.
-    //
-    // Returns `OutOfRange` exactly where the ends are given and neither below the length seen nor both detached, and then
-    // nothing changed; and `OutOfMemory` where there is no room, and then the tree may be used no more.
-    fn push(
-        &mut self,
-        tree: &mut Tree<TextContent>,
-        op: &TextOp,
-        stage: u64,
-    ) -> Result<(), IntervalFault>
-        requires usable { IsTrue tree.old.usable }
-        requires live { IsLive tree.old.refs self.old }
-        requires some { 1 ≤ stage }
-        requires above { IsAboveAll stage self.old }
-        ensures taken { OnOk result (Pushes (seen_in (Stage stage)) (text_elements tree.old) stage op.now self.old self.new tree.old tree.new) }
-        ensures refused { let length = len (seen_in (Stage stage)) (text_elements tree.old) in
-            IfErr result (IsOutOfRange length op.now (IsAsBefore self.old self.new tree.old tree.new)) }
-        ensures unusable { IfErr result (λ e. e ≡ fault.OutOfMemory → tree.new.usable ≡ false) }
-        ensures acked { self.new.acked ≡ self.old.acked }
-    {
         let view = LenView::Stage(stage);
         let given = given_ends(op);
         let length = tree.length(view);
@@ -206,8 +109,35 @@ impl Store {
             return Err(IntervalFault::OutOfRange { length });
         }
         let ends = add_ends(tree, given, view)?;
-        push_copy(&mut self.pending, tree, stage, op, ends)?;
+        let Ok(()) = push_copy(&mut self.pending, stage, op, ends) else {
+            tree.spoil();
+            return Err(IntervalFault::OutOfMemory);
+        };
         Ok(())
+    }
+
+    // Whether the view has the interval that the operation is on.
+    fn is_shown(&self, tree: &Tree<TextContent>, op: &TextOp) -> bool
+        requires usable { IsTrue tree.now.usable }
+        requires live { IsLive tree.now.refs self.now }
+        requires kind { is_interval_operation op.now ≡ true }
+        ensures { result ≡ is_shown (text_elements tree.now) (name_in op.now) (placed tree.now.refs self.now) }
+    {
+        match op {
+            TextOp::IntervalAdd { label, id, .. } => self.has_shown(tree, label, id),
+            TextOp::IntervalChange { label, id, .. } => self.has_shown(tree, label, id),
+            TextOp::IntervalDelete { label, id } => self.has_shown(tree, label, id),
+            TextOp::One(_) | TextOp::Group(_) => unreachable!(),
+        }
+    }
+
+    // Whether the label has the id in the view.
+    fn has_shown(&self, tree: &Tree<TextContent>, label: &Text, id: &Text) -> bool
+        requires usable { IsTrue tree.now.usable }
+        requires live { IsLive tree.now.refs self.now }
+        ensures { result ≡ is_shown (text_elements tree.now) (label.now, id.now) (placed tree.now.refs self.now) }
+    {
+        shown_ends(tree, &self.acked, &self.pending, label, id).is_some()
     }
 
     /// Applies a sequenced operation of another client, with its ends on the elements that its sender sees. It returns false
@@ -327,7 +257,7 @@ impl Store {
             let c = placed tree.now.refs self.now in
             IfOk result (λ all. all.items ≡ map (shown_record xs) (shown_intervals xs c.acked c.pending)) }
     {
-        all_shown(tree, &self.acked, &self.pending)
+        shown_behind(tree, first_places(tree, &self.acked)?, &self.pending)
     }
 
     /// The acknowledged intervals that pending operations are on, at stage 0.
@@ -398,36 +328,18 @@ impl Store {
         ensures acked { self.new.acked ≡ self.old.acked }
         ensures err { OnErr result (tree.new.usable ≡ false) }
     {
-        match self.settle(tree, stage) {
-            Ok(op) => Ok(op),
-            Err(e) => {
-                tree.spoil();
-                Err(e)
-            }
-        }
-    }
-
-    // The same, where nothing is said of the tree after `OutOfMemory`.
-    fn settle(&mut self, tree: &mut Tree<TextContent>, stage: u64) -> Result<TextOp, OutOfMemory>
-        requires usable { IsTrue tree.old.usable }
-        requires live { IsLive tree.old.refs self.old }
-        requires pending { IsSome (operation_at stage self.old.pending) }
-        ensures op { let xs = text_elements tree.old in
-            let c = placed tree.old.refs self.old in
-            IfOk result (λ op. Some op ≡ option_map (λ t. regenerated xs stage (map_ends (settled_end xs stage) t.ends) t.op) (operation_at stage c.pending)) }
-        ensures settled { let xs = text_elements tree.old in
-            OnOk result (placed tree.new.refs self.new ≡ with_ends_at stage (map_ends (settled_end xs stage)) (placed tree.old.refs self.old)) }
-        ensures refs { OnOk result (KeepsReferences self.old self.new tree.old.refs tree.new.refs) }
-        ensures rest { OnOk result (tree.new ≡ record tree.old { refs = tree.new.refs }) }
-        ensures acked { self.new.acked ≡ self.old.acked }
-    {
         let Some(i) = place_of_stage(&self.pending, stage) else {
+            tree.spoil();
             return Err(OutOfMemory);
         };
         let numbers = settled_numbers(tree, self.pending[i].ends, stage);
+        let Ok(op) = with_numbers(&self.pending[i].op, numbers) else {
+            tree.spoil();
+            return Err(OutOfMemory);
+        };
         let again = add_numbers(tree, &numbers, stage)?;
         drop_ends(tree, self.pending[i].ends);
         self.pending[i].ends = again;
-        with_numbers(&self.pending[i].op, numbers)
+        Ok(op)
     }
 }

@@ -1,5 +1,5 @@
 -- What the client's own operation on an interval makes of a whole shared text.
-use Rattle.std.proofs.Common.{◌≡◌, ◌≢◌, ℕ, ◌-◌, ◌≤◌, ◌<◌, All, Bool, true, false, IsTrue, cond, not, List, [], ◌∷◌, Option, Some, None, Result, Ok, Err, refl, subst, sym, ◌∙◌, ap, arith, map, append-nil, ℤ, pos, negsuc}
+use Rattle.std.proofs.Common.{◌≡◌, ℕ, ◌-◌, ◌≤◌, ◌<◌, All, Bool, true, false, IsTrue, cond, not, List, [], ◌∷◌, Option, Some, None, Result, Ok, Err, refl, subst, sym, ◌∙◌, ap, arith, map, append-nil, ℤ, pos, negsuc}
 use Rattle.std.proofs.lemmas.List.Elements.{All-cons, All-nil}
 use Rattle.ft_base.specs.Scan.{len}
 use Rattle.ft_block.specs.declared.leaves.LenView.TheVariants.{Stage as at_stage}
@@ -187,11 +187,11 @@ as-it-was : (tree new : TreeState TextContent) (c d : CollectionsState) (ops : L
     → IsAsBefore c d tree new → state_of new d ops given b ≡ state_of tree c ops given usable
 as-it-was tree new c d ops given usable b u e h = rw (h.0, h.1, e, u) refl
 
--- a refusal leaves all as it was
+-- a refusal leaves all as it was, and behind OutOfMemory the text may be used no more
 pub interval-leaves : (tree new : TreeState TextContent) (c d : CollectionsState) (ops : List PendingOp) (given : ℕ) (usable b : Bool) (op : TextOp) (shown : Bool) (count : ℕ)
-    (fault : IntervalFault) → IsTrue usable → b ≡ is_refusal fault → IsRefusedEdit shown count op (IsAsBefore c d tree new) fault → edit_fault_of fault ≢ OutOfMemory
+    (fault : IntervalFault) → IsTrue usable → b ≡ is_refusal fault → IsRefusedEdit shown count op (IsAsBefore c d tree new) fault
     → Leaves (state_of tree c ops given usable) (state_of new d ops given b) (edit_fault_of fault)
-interval-leaves tree new c d ops given usable b op shown count interval.IdInUse u e h some = as-it-was tree new c d ops given usable b u e h.2
-interval-leaves tree new c d ops given usable b op shown count interval.NoSuchInterval u e h some = as-it-was tree new c d ops given usable b u e h.2
-interval-leaves tree new c d ops given usable b op shown count (interval.OutOfRange l) u e h some = as-it-was tree new c d ops given usable b u e h.3
-interval-leaves tree new c d ops given usable b op shown count interval.OutOfMemory u e h some = absurd (some refl)
+interval-leaves tree new c d ops given usable b op shown count interval.IdInUse u e h = as-it-was tree new c d ops given usable b u e h.2
+interval-leaves tree new c d ops given usable b op shown count interval.NoSuchInterval u e h = as-it-was tree new c d ops given usable b u e h.2
+interval-leaves tree new c d ops given usable b op shown count (interval.OutOfRange l) u e h = as-it-was tree new c d ops given usable b u e h.3
+interval-leaves tree new c d ops given usable b op shown count interval.OutOfMemory u e h = e

@@ -1,13 +1,9 @@
 //! The client's own edits of a shared text.
 
-ghost use Rattle.std.specs.Prelude.{◌≡◌, ◌≢◌, ◌+◌, ◌*◌, ◌-◌, ◌<◌, ◌≤◌, ◌^◌, ◌++◌, ◌∷◌, List, [], All, not, IfErr, IsTrue, OnOk, is_ok, length, map, true};
+ghost use Rattle.std.specs.Prelude.{◌≡◌, ◌≢◌, ◌+◌, ◌*◌, ◌-◌, ◌<◌, ◌≤◌, ◌^◌, ◌++◌, ◌∷◌, List, [], All, IfErr, IsTrue, OnOk, is_ok, length, map, true};
 ghost use Rattle.std.specs.List.{AllByRecursion};
-ghost use Rattle.ft_base.specs.Scan.{len};
-ghost use Rattle.ft_block.specs.declared.leaves.LenView.TheVariants.{Stage as at_stage};
-ghost use Rattle.ft_interval.specs.Indexes.{StandsOn};
-ghost use Rattle.ft_interval_store.specs.Intervals.{name_in};
-ghost use Rattle.ft_interval_store.specs.State.{IsAboveAll, IsAsBefore, IsRefusedEdit, Pushes, is_add, is_interval_operation, is_shown, placed, text_elements};
-ghost use Rattle.ft_tree_leaves.specs.Elements.{IsAboveChanges, seen_in};
+ghost use Rattle.ft_interval_store.specs.State.{is_interval_operation, text_elements};
+ghost use Rattle.ft_tree_leaves.specs.Elements.{IsAboveChanges};
 ghost use Rattle.ft_msg.specs.Client.{local_sub_operations};
 ghost use Rattle.ft_op.specs.declared.operations.TextOp.TheVariants.{One};
 ghost use Rattle.ft_op.specs.Document.{Document};
@@ -28,7 +24,6 @@ use crate::strings::SharedString;
 use ft_arena::NodeId;
 use ft_base::{Datum, OutOfMemory, Steps};
 use ft_block::LenView;
-use ft_interval::Collections;
 use ft_interval_store::IntervalFault;
 use ft_msg::EditFault;
 use ft_op::{BaseOp, TextOp};
@@ -115,34 +110,6 @@ fn take_all<G: Ledger>(
     Ok(())
 }
 
-// Adds a pending operation on an interval.
-fn take_interval(
-    intervals: &mut Collections,
-    tree: &mut Tree<TextContent>,
-    op: &TextOp,
-    stage: u64,
-) -> Result<(), IntervalFault>
-    requires usable { IsTrue tree.old.usable }
-    requires stands { StandsOn tree.old intervals.old }
-    requires kind { is_interval_operation op.now ≡ true }
-    requires some { 1 ≤ stage }
-    requires above { IsAboveAll stage intervals.old.state }
-    ensures taken { OnOk result (Pushes (seen_in (at_stage stage)) (text_elements tree.old) stage op.now intervals.old.state intervals.new.state tree.old tree.new) }
-    ensures name { OnOk result (is_shown (text_elements tree.old) (name_in op.now) (placed tree.old.refs intervals.old.state) ≡ not (is_add op.now)) }
-    ensures refused { let shown = is_shown (text_elements tree.old) (name_in op.now) (placed tree.old.refs intervals.old.state) in
-        let length = len (seen_in (at_stage stage)) (text_elements tree.old) in
-        IfErr result (IsRefusedEdit shown length op.now (IsAsBefore intervals.old.state intervals.new.state tree.old tree.new)) }
-    ensures indexes { intervals.new.indexes ≡ intervals.old.indexes }
-    ensures stands { OnOk result (StandsOn tree.new intervals.new) }
-{
-    match op {
-        TextOp::IntervalAdd { .. } => intervals.add_local(tree, op, stage),
-        TextOp::IntervalChange { .. } => intervals.change_local(tree, op, stage),
-        TextOp::IntervalDelete { .. } => intervals.delete_local(tree, op, stage),
-        TextOp::One(_) | TextOp::Group(_) => unreachable!(),
-    }
-}
-
 // Whether it is a refusal, and not `OutOfMemory`.
 fn is_refusal(fault: &IntervalFault) -> bool
     ensures { result ≡ is_refusal fault.now }
@@ -194,12 +161,12 @@ impl SharedString {
     {
         // How deep a search goes is read off its contract.
         let _leaf = self.first_leaf();
-        match self.edit_by_kind(op, first, steps) {
-            Err(EditFault::OutOfMemory) => {
-                self.spoil();
-                Err(EditFault::OutOfMemory)
-            }
-            answer => answer,
+        match op {
+            TextOp::One(op) => self.edit_elements(slice::from_ref(op), first, steps),
+            TextOp::Group(ops) => self.edit_elements(ops.as_slice(), first, steps),
+            TextOp::IntervalAdd { .. }
+            | TextOp::IntervalChange { .. }
+            | TextOp::IntervalDelete { .. } => self.edit_interval(op, first),
         }
     }
 
@@ -211,34 +178,7 @@ impl SharedString {
         self.tree.first_leaf()
     }
 
-    // The same, but that after `OutOfMemory` nothing is said.
-    fn edit_by_kind<G: Ledger>(
-        &mut self,
-        op: &TextOp,
-        first: u64,
-        steps: &mut Steps<G>,
-    ) -> Result<u64, EditFault>
-        requires usable { IsTrue self.old.usable }
-        requires none_given { self.old.given ≡ 0 }
-        requires formed { IsWellFormedText op.now }
-        requires some { 1 ≤ first }
-        requires held { HoldsSome (first - 1) self.old }
-        ensures answers { (doc : Document) → (stages : List Stage) → IsTextSound (first - 1) doc stages → HoldsText self.old doc stages
-            → AnswersEdit self.new stages (local_sub_operations doc stages first (text_sub_operations op.now)) result }
-        ensures leaves { IfErr result (λ fault. fault ≢ EditFault.OutOfMemory → Leaves self.old self.new fault) }
-        ensures rest { OnOk result (KeepsRest self.old self.new) }
-        ensures reads { IsShort op.now → steps.new ≤ steps.old + 9 * (self.old.depth + 1) }
-    {
-        match op {
-            TextOp::One(op) => self.edit_elements(slice::from_ref(op), first, steps),
-            TextOp::Group(ops) => self.edit_elements(ops.as_slice(), first, steps),
-            TextOp::IntervalAdd { .. }
-            | TextOp::IntervalChange { .. }
-            | TextOp::IntervalDelete { .. } => self.edit_interval(op, first),
-        }
-    }
-
-    // Tests the operations by lengths alone, and returns how many elements they put in.
+    // Tests the operations by lengths alone.
     //
     // Returns `OutOfRange` with the length before the first that is out of range, and `OutOfMemory` where numbers of stages or
     // elements would pass their limits.
@@ -273,11 +213,18 @@ impl SharedString {
         requires held { HoldsSome (first - 1) self.old }
         ensures answers { (doc : Document) → (stages : List Stage) → IsTextSound (first - 1) doc stages → HoldsText self.old doc stages
             → AnswersEdit self.new stages (local_sub_operations doc stages first (map (λ op. OnText op) ops.now)) result }
-        ensures leaves { IfErr result (λ fault. fault ≢ EditFault.OutOfMemory → Leaves self.old self.new fault) }
+        ensures leaves { IfErr result (Leaves self.old self.new) }
         ensures rest { OnOk result (KeepsRest self.old self.new) }
         ensures reads { (op : BaseOp) → ops.now ≡ op ∷ [] → IsShort (One op) → steps.new ≤ steps.old + 9 * (self.old.depth + 1) }
     {
-        self.test(ops, first)?;
+        match self.test(ops, first) {
+            Ok(()) => {}
+            Err(EditFault::OutOfMemory) => {
+                self.spoil();
+                return Err(EditFault::OutOfMemory);
+            }
+            Err(fault) => return Err(fault),
+        }
         self.usable = false;
         match take_all(&mut self.tree, &mut self.ops, ops, first, steps) {
             Ok(()) => {
@@ -297,12 +244,12 @@ impl SharedString {
         requires held { HoldsSome (first - 1) self.old }
         ensures answers { (doc : Document) → (stages : List Stage) → IsTextSound (first - 1) doc stages → HoldsText self.old doc stages
             → AnswersEdit self.new stages (local_sub_operations doc stages first (OnIntervals op.now ∷ [])) result }
-        ensures leaves { IfErr result (λ fault. fault ≢ EditFault.OutOfMemory → Leaves self.old self.new fault) }
+        ensures leaves { IfErr result (Leaves self.old self.new) }
         ensures rest { OnOk result (KeepsRest self.old self.new) }
     {
         // That names rise is read off its contract.
         let _first = self.intervals.first_stage();
-        match take_interval(&mut self.intervals, &mut self.tree, op, first) {
+        match self.intervals.edit_local(&mut self.tree, op, first) {
             Ok(()) => Ok(1),
             Err(fault) => {
                 self.usable = is_refusal(&fault);

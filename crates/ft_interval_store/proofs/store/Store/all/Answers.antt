@@ -1,21 +1,25 @@
 use Rattle.std.proofs.Common.{List, map, subst, sym, ◌∙◌, ap}
 use Rattle.std.proofs.lemmas.Result.{IfOk-weaker}
 use Rattle.ft_interval_store.specs.declared.pending.Operation.{Operation}
-use Rattle.ft_interval_store.specs.Shown.{shown_intervals, shown_record}
+use Rattle.ft_interval_store.specs.Shown.{settled_interval, shown_intervals, shown_record}
 use Rattle.ft_interval_store.specs.State.{AreLiveOperations, CollectionsState, IsLive, placed_intervals, placed_operations, text_elements}
 use Rattle.ft_interval_store.proofs.KeptEnds.{live-intervals, live-operations}
 use Rattle.ft_interval_store.proofs.store.Store.all.Goals as goal
 
-pub all_shown-requires-clause-acked : goal.all_shown-requires-clause-acked
-all_shown-requires-clause-acked c =
+pub first_places-requires-clause-live : goal.first_places-requires-clause-live
+first_places-requires-clause-live c =
     let old : CollectionsState = record { acked = c.self.inside.acked; pending = c.self.inside.pending.items } in
     live-intervals c.args.tree.now.refs old (subst (λ x. IsLive c.args.tree.now.refs x) (sym c.self.view_is) c.requires.live)
 
-pub all_shown-requires-clause-pending : goal.all_shown-requires-clause-pending
-all_shown-requires-clause-pending c =
+pub shown_behind-requires-clause-pending : goal.shown_behind-requires-clause-pending
+shown_behind-requires-clause-pending c =
     let old : CollectionsState = record { acked = c.self.inside.acked; pending = c.self.inside.pending.items } in
     subst (λ ts. AreLiveOperations c.args.tree.now.refs ts) (sym c.deref.ensures.value)
     (live-operations c.args.tree.now.refs old (subst (λ x. IsLive c.args.tree.now.refs x) (sym c.self.view_is) c.requires.live))
+
+pub shown_behind-requires-clause-shown : goal.shown_behind-requires-clause-shown
+shown_behind-requires-clause-shown c =
+    (map (settled_interval (text_elements c.args.tree.now) 0) (placed_intervals c.args.tree.now.refs c.self.inside.acked), c.in_ok-first_places.ensures)
 
 pub returns : goal.returns
 returns c =
@@ -24,4 +28,4 @@ returns c =
     let is = placed_intervals refs c.self.inside.acked in
     let same = ap (λ (ps : List Operation). map (shown_record xs) (shown_intervals xs is (placed_operations refs ps))) c.deref.ensures.value
     ∙ ap (λ (x : CollectionsState). map (shown_record xs) (shown_intervals xs (placed_intervals refs x.acked) (placed_operations refs x.pending))) c.self.view_is in
-    IfOk-weaker c.all_shown.result _ _ (λ all e. e ∙ same) c.all_shown.ensures
+    IfOk-weaker c.shown_behind.result _ _ (λ all e. e ∙ same) (c.shown_behind.ensures (map (settled_interval xs 0) is) c.in_ok-first_places.ensures)

@@ -6,7 +6,7 @@ use Rattle.ft_interval_store.specs.Ends.{map_ends, places_of_given, slid_end}
 use Rattle.ft_interval_store.specs.State.{KeepsReferences, placed, text_elements, with_effect}
 use Rattle.ft_interval.specs.Indexes.{IndexedState, StandsOn}
 use Rattle.ft_interval.proofs.Effects.{live-applied, out-applied, within-applied}
-use Rattle.ft_interval.proofs.collections.Collections.take_effect.Goals as goal
+use Rattle.ft_interval.proofs.collections.Collections.apply.Goals as goal
 
 pub unlist_changed-requires-clause-live : goal.unlist_changed-requires-clause-live
 unlist_changed-requires-clause-live c = (subst (λ (x : IndexedState). StandsOn c.args.tree.now x) (sym c.self.view_is) c.requires.stands).live
@@ -49,7 +49,7 @@ returns-clause-stands c =
     record {
       live = live-applied c.args.tree.now c.apply.new.tree c.self.inside.store c.apply.new.self c.args.op.now c.self.inside.indexes.items c.unlist_changed.new.indexes.items c.first_stage-first.ensures.names
           c.in_ok-fits.ensures.rest s.listed c.unlist_changed.ensures c.in_ok-fits.fits places c.in_ok-fits.ensures.effect c.in_ok-fits.ensures.after c.in_ok-fits.ensures.misfit c.in_ok-fits.ensures.refs s.live;
-      listed = c.in_ok-enlist_changed.ensures;
+      listed = c.in-Ok.ensures;
     }
 
 pub returns-clause-effect : goal.returns-clause-effect

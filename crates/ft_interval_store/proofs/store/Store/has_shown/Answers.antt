@@ -5,7 +5,7 @@ use Rattle.ft_interval_store.specs.Shown.{last, shown_intervals}
 use Rattle.ft_interval_store.specs.State.{AreLiveOperations, CollectionsState, IsLive, is_shown, placed, placed_intervals, placed_operations, text_elements}
 use Rattle.ft_interval_store.proofs.KeptEnds.{live-intervals, live-operations}
 use Rattle.ft_interval_store.proofs.StandingEnds.{shows-some}
-use Rattle.ft_interval_store.proofs.store.Store.is_shown.Goals as goal
+use Rattle.ft_interval_store.proofs.store.Store.has_shown.Goals as goal
 
 pub shown_ends-requires-clause-acked : goal.shown_ends-requires-clause-acked
 shown_ends-requires-clause-acked c =

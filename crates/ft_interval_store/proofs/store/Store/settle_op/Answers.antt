@@ -1,15 +1,14 @@
-use Rattle.std.proofs.Common.{◌≡◌, ℕ, refl, cond, None, get_or, set, List, sym, ◌∙◌, ap, subst, arith}
+use Rattle.std.proofs.Common.{ℕ, refl, cond, None, get_or, set, List, Some, option_map, sym, ◌∙◌, ap, subst, arith}
 use Rattle.std.specs.List.{position}
-use Rattle.std.proofs.lemmas.List.{get_or-set_same}
 use Rattle.ft_tree_leaves.specs.References.{reference_at}
 use Rattle.ft_op.specs.declared.operations.TextOp.{TextOp}
 use Rattle.ft_interval_store.specs.declared.pending.Operation.{Operation}
 use Rattle.ft_interval_store.specs.Ends.{AreDistinctEnds, AreLiveEnds, holds_end, map_ends, places_of_ends}
 use Rattle.ft_interval_store.specs.Numbers.{AreNumbers}
 use Rattle.ft_interval_store.specs.Shown.{regenerated, settled_end}
-use Rattle.ft_interval_store.specs.State.{CollectionsState, IsInOrder, KeepsReferences, is_at_stage, placed, placed_operations, operation_at, text_elements, with_ends_at}
-use Rattle.ft_interval_store.proofs.SettledOperation.{StandsPending, place-within, settle-distinct, settle-in_order, settle-live, settle-live-mid, settle-operation, settle-own, settle-places, settle-references, settle-within, some-again, whatever}
-use Rattle.ft_interval_store.proofs.store.Store.settle.Goals as goal
+use Rattle.ft_interval_store.specs.State.{CollectionsState, IsInOrder, KeepsReferences, is_at_stage, placed, text_elements}
+use Rattle.ft_interval_store.proofs.SettledOperation.{StandsPending, place-within, settle-distinct, settle-in_order, settle-live, settle-live-mid, settle-operation, settle-own, settle-places, settle-references}
+use Rattle.ft_interval_store.proofs.store.Store.settle_op.Goals as goal
 
 pub index-requires : goal.index-requires
 index-requires c =
@@ -41,7 +40,7 @@ drop_ends-requires-clause-live c =
     let again = c.in_ok-again.again in
     let mid = c.add_numbers.new.tree.refs in
     let added = c.in_ok-again.ensures.ends places numbers in
-    subst (λ (t : Operation). AreLiveEnds mid t.ends) (sym (settle-own stands c.index-2.result.now c.index-2.ensures))
+    subst (λ (t : Operation). AreLiveEnds mid t.ends) (sym (settle-own stands c.index-3.result.now c.index-3.ensures))
     (settle-live-mid stands places again mid added)
 
 pub drop_ends-requires-clause-once : goal.drop_ends-requires-clause-once
@@ -50,7 +49,7 @@ drop_ends-requires-clause-once c =
     let found = ap (λ (us : List Operation). position (is_at_stage c.args.stage) us) (sym c.deref.ensures.value) ∙ sym c.place_of_stage.ensures ∙ c.in-Some.is in
     let stands : StandsPending c.self.inside.acked ps c.in-Some.i c.index.result.now c.args.stage c.args.self.now c.args.tree.now.refs =
     record { found = found; view = c.self.view_is; order = c.self.invariant; live = c.requires.live } in
-    subst (λ (t : Operation). AreDistinctEnds t.ends) (sym (settle-own stands c.index-2.result.now c.index-2.ensures)) (settle-distinct stands)
+    subst (λ (t : Operation). AreDistinctEnds t.ends) (sym (settle-own stands c.index-3.result.now c.index-3.ensures)) (settle-distinct stands)
 
 pub invariant_of-self : goal.invariant_of-self
 invariant_of-self c =
@@ -86,15 +85,9 @@ returns-clause-op c =
     let own = get_or ps c.in-Some.i c.index.result.now in
     let places = f (places_of_ends before own.ends) in
     let numbers = subst (λ (t : Operation). AreNumbers xs k (f (places_of_ends before t.ends)) c.settled_numbers-numbers.result) c.index.ensures c.settled_numbers-numbers.ensures in
-    let was = settle-own stands c.index_mut.result.now c.index_mut.ensures.value in
-    let written : Operation = record c.index_mut.result.now { ends = c.in_ok-again.again } in
-    let kept = c.index-3.result.now in
-    let there = c.index-3.ensures ∙ get_or-set_same ps c.in-Some.i written kept (settle-within stands) in
-    let op = ap (λ (t : Operation). t.op) there ∙ ap (λ (t : Operation). t.op) was in
-    let own_places = places_of_ends before own.ends in
-    some-again c.with_numbers.result (λ (t : Operation). regenerated xs k (f t.ends) t.op) (operation_at k (placed_operations before c.args.self.now.pending))
-    (record kept { ends = own_places }) (record own { ends = own_places }) (settle-operation stands) (ap (λ (o : TextOp). regenerated xs k places o) op)
-    (c.with_numbers.ensures xs k places numbers)
+    let op = settle-own stands c.index-2.result.now c.index-2.ensures in
+    ap (λ (o : TextOp). Some o) (c.in-Ok.ensures xs k places numbers ∙ ap (λ (t : Operation). regenerated xs k places t.op) op)
+    ∙ sym (ap (option_map (λ (t : Operation). regenerated xs k (f t.ends) t.op)) (settle-operation stands))
 
 pub returns-clause-settled : goal.returns-clause-settled
 returns-clause-settled c =
@@ -114,12 +107,11 @@ returns-clause-settled c =
     let added = c.in_ok-again.ensures.ends places numbers in
     let after = c.drop_ends.new.tree.refs in
     let dropped = λ (r : ℕ). c.drop_ends.ensures.refs r
-    ∙ ap (λ (t : Operation). cond (holds_end r t.ends) None (reference_at mid r)) (settle-own stands c.index-2.result.now c.index-2.ensures) in
+    ∙ ap (λ (t : Operation). cond (holds_end r t.ends) None (reference_at mid r)) (settle-own stands c.index-3.result.now c.index-3.ensures) in
     let was = settle-own stands c.index_mut.result.now c.index_mut.ensures.value in
     let with = λ (t : Operation).
     (let x : CollectionsState = record { acked = c.self.inside.acked; pending = set ps c.in-Some.i (record t { ends = again }) } in x) in
-    whatever c.with_numbers.result (placed after (with c.index_mut.result.now) ≡ with_ends_at k f (placed before c.args.self.now))
-    (ap (λ (t : Operation). placed after (with t)) was ∙ settle-places stands places again mid added after dropped f refl)
+    ap (λ (t : Operation). placed after (with t)) was ∙ settle-places stands places again mid added after dropped f refl
 
 pub returns-clause-refs : goal.returns-clause-refs
 returns-clause-refs c =
@@ -139,10 +131,9 @@ returns-clause-refs c =
     let added = c.in_ok-again.ensures.ends places numbers in
     let after = c.drop_ends.new.tree.refs in
     let dropped = λ (r : ℕ). c.drop_ends.ensures.refs r
-    ∙ ap (λ (t : Operation). cond (holds_end r t.ends) None (reference_at mid r)) (settle-own stands c.index-2.result.now c.index-2.ensures) in
+    ∙ ap (λ (t : Operation). cond (holds_end r t.ends) None (reference_at mid r)) (settle-own stands c.index-3.result.now c.index-3.ensures) in
     let was = settle-own stands c.index_mut.result.now c.index_mut.ensures.value in
     let with = λ (t : Operation).
     (let x : CollectionsState = record { acked = c.self.inside.acked; pending = set ps c.in-Some.i (record t { ends = again }) } in x) in
-    whatever c.with_numbers.result (KeepsReferences c.args.self.now (with c.index_mut.result.now) before after)
-    (subst (λ (t : Operation). KeepsReferences c.args.self.now (with t) before after) (sym was)
-    (settle-references stands places again mid added after dropped))
+    subst (λ (t : Operation). KeepsReferences c.args.self.now (with t) before after) (sym was)
+    (settle-references stands places again mid added after dropped)

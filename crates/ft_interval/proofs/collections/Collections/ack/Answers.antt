@@ -1,10 +1,9 @@
 use Rattle.std.proofs.Common.{sym, ◌∙◌, ap, subst}
-use Rattle.std.proofs.lemmas.Result.{on_ok_weaker}
 use Rattle.ft_interval_store.specs.Ends.{map_ends, slid_end}
 use Rattle.ft_interval_store.specs.State.{IsFirst, KeepsReferences, placed, text_elements, with_first_acked}
 use Rattle.ft_interval.specs.Indexes.{IndexedState, StandsOn}
 use Rattle.ft_interval.proofs.Effects.{out-after, takes-first, within-after}
-use Rattle.ft_interval.proofs.collections.Collections.take_first.Goals as goal
+use Rattle.ft_interval.proofs.collections.Collections.ack.Goals as goal
 
 pub unlist_changed-requires-clause-live : goal.unlist_changed-requires-clause-live
 unlist_changed-requires-clause-live c = (subst (λ (x : IndexedState). StandsOn c.args.tree.now x) (sym c.self.view_is) c.requires.stands).live
@@ -22,36 +21,31 @@ pub enlist_changed-requires-clause-listed : goal.enlist_changed-requires-clause-
 enlist_changed-requires-clause-listed c =
     let s = subst (λ (x : IndexedState). StandsOn c.args.tree.now x) (sym c.self.view_is) c.requires.stands in
     let xs = text_elements c.args.tree.now in
-    let first = takes-first c.in_ok-op.op (map_ends (slid_end xs)) c.args.tree.now.refs c.ack.new.tree.refs c.self.inside.store c.ack.new.self c.in_ok-op.ensures c.in_ok-ack.ensures.after
+    let first = takes-first c.in-Ok.op (map_ends (slid_end xs)) c.args.tree.now.refs c.ack.new.tree.refs c.self.inside.store c.ack.new.self c.in-Ok.ensures c.in_ok-ack.ensures.after
     c.in_ok-ack.ensures.effect in
-    out-after c.args.tree.now c.ack.new.tree c.self.inside.store c.ack.new.self c.in_ok-op.op c.self.inside.indexes.items c.unlist_changed.new.indexes.items c.first_stage-first.ensures.names
+    out-after c.args.tree.now c.ack.new.tree c.self.inside.store c.ack.new.self c.in-Ok.op c.self.inside.indexes.items c.unlist_changed.new.indexes.items c.first_stage-first.ensures.names
     c.in_ok-ack.ensures.rest s.listed c.unlist_changed.ensures first.places first.taken first.effect
 
 pub enlist_changed-requires-clause-within : goal.enlist_changed-requires-clause-within
 enlist_changed-requires-clause-within c =
     let s = subst (λ (x : IndexedState). StandsOn c.args.tree.now x) (sym c.self.view_is) c.requires.stands in
     let xs = text_elements c.args.tree.now in
-    let first = takes-first c.in_ok-op.op (map_ends (slid_end xs)) c.args.tree.now.refs c.ack.new.tree.refs c.self.inside.store c.ack.new.self c.in_ok-op.ensures c.in_ok-ack.ensures.after
+    let first = takes-first c.in-Ok.op (map_ends (slid_end xs)) c.args.tree.now.refs c.ack.new.tree.refs c.self.inside.store c.ack.new.self c.in-Ok.ensures c.in_ok-ack.ensures.after
     c.in_ok-ack.ensures.effect in
-    within-after c.args.tree.now c.ack.new.tree c.self.inside.store c.ack.new.self c.in_ok-op.op c.self.inside.indexes.items c.unlist_changed.new.indexes.items c.first_stage-first.ensures.names
+    within-after c.args.tree.now c.ack.new.tree c.self.inside.store c.ack.new.self c.in-Ok.op c.self.inside.indexes.items c.unlist_changed.new.indexes.items c.first_stage-first.ensures.names
     c.in_ok-ack.ensures.rest s.listed c.unlist_changed.ensures first.places first.taken first.effect
 
 pub returns-clause-stands : goal.returns-clause-stands
-returns-clause-stands c =
-    on_ok_weaker c.enlist_changed.result (λ listed. record { live = c.in_ok-ack.ensures.refs.live; listed = listed }) c.enlist_changed.ensures
+returns-clause-stands c = record { live = c.in_ok-ack.ensures.refs.live; listed = c.in-Ok-enlist_changed.ensures }
 
 pub ack-requires-clause-first : goal.ack-requires-clause-first
 ack-requires-clause-first c = subst (λ (x : IndexedState). IsFirst c.args.stage x.state) (sym c.self.view_is) c.requires.first
 
 pub returns-clause-effect : goal.returns-clause-effect
 returns-clause-effect c =
-    on_ok_weaker c.enlist_changed.result (λ listed. c.in_ok-ack.ensures.effect
-    ∙ ap (λ (x : IndexedState). with_first_acked (map_ends (slid_end (text_elements c.args.tree.now))) (placed c.args.tree.now.refs x.state)) c.self.view_is) c.enlist_changed.ensures
+    c.in_ok-ack.ensures.effect
+    ∙ ap (λ (x : IndexedState). with_first_acked (map_ends (slid_end (text_elements c.args.tree.now))) (placed c.args.tree.now.refs x.state)) c.self.view_is
 
 pub returns-clause-refs : goal.returns-clause-refs
 returns-clause-refs c =
-    on_ok_weaker c.enlist_changed.result (λ listed. subst (λ (x : IndexedState). KeepsReferences x.state c.ack.new.self c.args.tree.now.refs c.ack.new.tree.refs) c.self.view_is
-    c.in_ok-ack.ensures.refs) c.enlist_changed.ensures
-
-pub returns-clause-rest : goal.returns-clause-rest
-returns-clause-rest c = on_ok_weaker c.enlist_changed.result (λ listed. c.in_ok-ack.ensures.rest) c.enlist_changed.ensures
+    subst (λ (x : IndexedState). KeepsReferences x.state c.ack.new.self c.args.tree.now.refs c.ack.new.tree.refs) c.self.view_is c.in_ok-ack.ensures.refs
