@@ -1,8 +1,6 @@
 -- Whether two segments are one run: the test decides that all but what they hold is equal.
-use Rattle.std.proofs.Common.{◌≡◌, true, ◌&&◌, List, refl, sym, ◌∙◌, ap, append_assoc}
-use Rattle.ft_base.proofs.Booleans.{all_four, both}
-use Rattle.ft_op.specs.Same.{same_list}
-use Rattle.ft_sumdoc.specs.declared.summary.Mark.{Mark}
+use Rattle.std.proofs.Common.{◌≡◌, true, ◌&&◌, refl, sym, ◌∙◌, ap, append_assoc}
+use Rattle.ft_base.proofs.Booleans.{all_four}
 use Rattle.ft_sumdoc.specs.declared.summary.Seg.{Seg}
 use Rattle.ft_sumdoc.specs.declared.summary.Seg.TheVariants.{Chars, Marker}
 use Rattle.ft_sumdoc.specs.declared.summary.SegRec.{SegRec}
@@ -10,13 +8,8 @@ use Rattle.ft_sumdoc.specs.Stamps.{same_mark}
 use Rattle.ft_sumdoc.specs.WellFormed.{are_alike, are_characters, same_props, same_stamps}
 use Rattle.ft_msg.specs.SummaryOf.{joined_bodies}
 use Rattle.ft_string.specs.Saved.{joined}
-use Rattle.ft_string.proofs.SameTests.{same_mark-Decides, same_marks-Decides, same_props-Decides}
-
--- two stamps that the test holds equal are equal
-pub stamps_are_same : (ins other : Mark) (dels others : List Mark) → same_stamps ins dels other others ≡ true → (ins ≡ other) × (dels ≡ others)
-stamps_are_same ins other dels others h =
-    let parts = both (same_mark ins other) (same_list same_mark dels others) h in
-    ((same_mark-Decides ins other).0 parts.0, (same_marks-Decides dels others).0 parts.1)
+use Rattle.ft_named.proofs.SameStamps.{same_mark-Decides, stamps_are_same}
+use Rattle.ft_string.proofs.SameTests.{same_props-Decides}
 
 -- ---- segments
 

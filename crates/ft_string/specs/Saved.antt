@@ -8,15 +8,14 @@ use Rattle.ft_tree_leaves.specs.declared.text.TextContent.{TextContent}
 use Rattle.ft_tree_leaves.specs.Elements.{TreeElement}
 use Rattle.ft_tree_leaves.specs.LeafLists.{elements}
 use Rattle.ft_tree_leaves.specs.TextLeaves.{text_units}
-use Rattle.ft_props.specs.Compaction.{has_collectable_removal, is_insertion_at_or_below}
+use Rattle.ft_props.specs.Compaction.{has_collectable_removal}
 use Rattle.ft_props.specs.Element.{ElementContent}
 use Rattle.ft_props.specs.Overlay.{OverlayState}
-use Rattle.ft_sumdoc.specs.declared.summary.Mark.{Mark}
 use Rattle.ft_sumdoc.specs.declared.summary.Seg.{Seg}
 use Rattle.ft_sumdoc.specs.declared.summary.SegRec.{SegRec}
 use Rattle.ft_sumdoc.specs.Chunks.{chunk_length}
-use Rattle.ft_sumdoc.specs.Stamps.{universal}
 use Rattle.ft_sumdoc.specs.WellFormed.{are_alike}
+use Rattle.ft_named.specs.SavedStamps.{insertion_mark}
 use Rattle.ft_msg.specs.SummaryOf.{author_mark, element_body, extended_segments, joined_bodies, mark_of}
 use Rattle.ft_string.specs.Parts.{TextElements}
 use Rattle.ft_string.specs.Shows.{TextLeaves}
@@ -24,10 +23,6 @@ use Rattle.ft_string.specs.declared.segments.Head.{Head}
 use Rattle.ft_string.specs.declared.segments.Segments.{Segments}
 
 -- ---- segments of one element
-
--- the insertion as a mark: that which everybody sees, where it is at or below the minimum
-abbrev pub insertion_mark : ℕ → Stamp → Mark
-insertion_mark min ins = cond (is_insertion_at_or_below min ins) universal (mark_of ins)
 
 -- what a segment of elements with these stamps, author and properties has beside its content
 abbrev pub head_of : ℕ → ElementStamps → Option Stamp → OverlayState → Head

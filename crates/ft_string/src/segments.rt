@@ -6,20 +6,20 @@ ghost use Rattle.ft_block.specs.Leaves.{IsLeafIn, value_at};
 ghost use Rattle.ft_tree_leaves.specs.declared.leaves.TreeLeaf.{TreeLeaf};
 ghost use Rattle.ft_tree_leaves.specs.declared.text.TextContent.{TextContent};
 ghost use Rattle.ft_tree_leaves.specs.TextLeaves.{text_units};
-ghost use Rattle.ft_msg.specs.SummaryOf.{author_mark, joined_bodies, mark_of};
-ghost use Rattle.ft_props.specs.Compaction.{has_collectable_removal};
+ghost use Rattle.ft_msg.specs.SummaryOf.{joined_bodies};
 ghost use Rattle.ft_props.specs.Element.{Character, MarkerOf};
 ghost use Rattle.ft_sumdoc.specs.declared.summary.SegRec.{SegRec};
 ghost use Rattle.ft_sumdoc.specs.declared.summary.Seg.TheVariants.{Chars as characters_of};
 ghost use Rattle.ft_sumdoc.specs.Stamps.{same_mark};
 ghost use Rattle.ft_sumdoc.specs.WellFormed.{are_alike, are_characters, same_props, same_stamps};
-ghost use Rattle.ft_string.specs.Saved.{Adds, ended_segments, head_of, headed, insertion_mark, joined_from, leaf_segments, open_segment, segments_in, unit_segment, whole};
+ghost use Rattle.ft_string.specs.Saved.{Adds, ended_segments, head_of, headed, joined_from, leaf_segments, open_segment, segments_in, unit_segment, whole};
 ghost use Rattle.ft_string.specs.Bodies.{body_of_parts};
 
 use crate::contents::{characters, push_character};
 use crate::lengths::sum;
 use ft_arena::NodeId;
-use ft_base::{Datum, OutOfMemory, Stamp, Text};
+use ft_base::{Datum, OutOfMemory, Text};
+use ft_named::marks::{author_of, insertion_of, is_collectable, marks_of, same_mark, same_stamps};
 use ft_props::Props;
 use ft_sumdoc::{CHUNK_LENGTH, Mark, Marks, Seg, SegRec, SegRecs};
 use ft_tree::{TextContent, Tree};
@@ -65,88 +65,11 @@ pub(crate) struct Segments {
     count: u64,
 }
 
-// A sequenced stamp as a mark.
-fn mark_of(stamp: &Stamp) -> Mark
-    ensures { result ≡ mark_of stamp.now }
-{
-    match stamp {
-        Stamp::Acked { seq, conn } => Mark {
-            seq: *seq,
-            conn: *conn,
-        },
-        Stamp::Local { .. } => Mark { seq: 0, conn: 0 },
-    }
-}
-
-// The author of an element, (0, 0) where it isn't known.
-fn author_of(by: Option<Stamp>) -> Mark
-    ensures { result ≡ author_mark by }
-{
-    match by {
-        Some(stamp) => mark_of(&stamp),
-        None => Mark { seq: 0, conn: 0 },
-    }
-}
-
-// The stamps as marks.
-fn marks_of(alloc: Global, stamps: &[Stamp]) -> Result<Marks, OutOfMemory>
-    ensures { IfOk result (λ marks. marks ≡ map mark_of stamps.now) }
-{
-    let mut marks = Marks::new(alloc);
-    for stamp in stamps {
-        marks.push(mark_of(stamp))?;
-    }
-    Ok(marks)
-}
-
-// The insertion as a mark, as a summary with this minimum has it: that which everybody sees, where it is at or below the
-// minimum.
-fn insertion_of(ins: &Stamp, min: u64) -> Mark
-    ensures { result ≡ insertion_mark min ins.now }
-{
-    match ins {
-        Stamp::Acked { seq, conn } => {
-            if *seq <= min {
-                return Mark { seq: 0, conn: 0 };
-            }
-            Mark {
-                seq: *seq,
-                conn: *conn,
-            }
-        }
-        Stamp::Local { .. } => Mark { seq: 0, conn: 0 },
-    }
-}
-
-// Whether the first removal is at or below the minimum.
-fn is_collectable(dels: &[Stamp], min: u64) -> bool
-    ensures { result ≡ has_collectable_removal min dels.now }
-{
-    match dels.first() {
-        Some(Stamp::Acked { seq, .. }) => *seq <= min,
-        Some(Stamp::Local { .. }) | None => false,
-    }
-}
-
 // Whether the properties are equal.
 fn same_props(a: &Props, b: &Props) -> bool
     ensures { result ≡ same_props a.now b.now }
 {
     a.same(b)
-}
-
-// Whether the marks are equal.
-fn same_mark(a: Mark, b: Mark) -> bool
-    ensures { result ≡ same_mark a b }
-{
-    a.seq == b.seq && a.conn == b.conn
-}
-
-// Whether the insertions are equal, and the removals too.
-fn same_stamps(ins: Mark, dels: &Marks, other_ins: Mark, other_dels: &Marks) -> bool
-    ensures { result ≡ same_stamps ins dels.now other_ins other_dels.now }
-{
-    same_mark(ins, other_ins) && dels.same(other_dels)
 }
 
 // The head of the segment of a leaf.

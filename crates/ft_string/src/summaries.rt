@@ -1,8 +1,8 @@
 //! A shared text from a summary, and as one.
 
-ghost use Rattle.std.specs.Prelude.{◌≡◌, ℕ, ◌≤◌, [], IfOk, IsTrue, None, OnOk, map, true};
+ghost use Rattle.std.specs.Prelude.{◌≡◌, ℕ, ◌≤◌, [], IfOk, IsTrue, None, OnOk, true};
 ghost use Rattle.ft_op.specs.Document.{Document};
-ghost use Rattle.ft_msg.specs.Summary.{doc_of, segment_bodies, stamp_of};
+ghost use Rattle.ft_msg.specs.Summary.{doc_of, segment_bodies};
 ghost use Rattle.ft_op.specs.Operation.{segment_contents};
 ghost use Rattle.ft_props.specs.Keys.{key_cmp, put_rising};
 ghost use Rattle.ft_props.specs.Properties.{apply};
@@ -21,47 +21,16 @@ use crate::lengths::{have_room, made_in};
 use crate::segments::segments_of;
 use crate::shown::listed;
 use crate::strings::SharedString;
-use ft_base::{Datum, Element, OutOfMemory, Perspective, Stamp, Stamps, Text};
+use ft_base::{Datum, OutOfMemory, Perspective, Text};
 use ft_interval::Collections;
 use ft_json::ValText;
+use ft_named::marks::element_of;
 use ft_op::{Ends, Seg as Segment, TextOp};
 use ft_props::{PropSet, Props};
-use ft_sumdoc::{Ends2, IntervalRec, Mark, Seg, SegRec, SumDoc};
+use ft_sumdoc::{Ends2, IntervalRec, Seg, SegRec, SumDoc};
 use ft_tree::{Content, TextContent, Tree};
 use std::alloc::Global;
 use std::collections::VecDeque;
-
-// The mark as a stamp.
-fn stamp_of(mark: Mark) -> Stamp
-    ensures { result ≡ stamp_of mark }
-{
-    Stamp::Acked {
-        seq: mark.seq,
-        conn: mark.conn,
-    }
-}
-
-// The marks as stamps.
-fn stamps_of(alloc: Global, marks: &[Mark]) -> Result<Stamps, OutOfMemory>
-    ensures { IfOk result (λ stamps. stamps ≡ map stamp_of marks.now) }
-{
-    let mut stamps = Stamps::new(alloc);
-    for mark in marks {
-        stamps.push(stamp_of(*mark))?;
-    }
-    Ok(stamps)
-}
-
-// The stamps of the elements of a segment.
-fn element_of(alloc: Global, seg: &SegRec) -> Result<Element, OutOfMemory>
-    ensures { IfOk result (λ e. e ≡ record { ins = stamp_of seg.now.ins; dels = map stamp_of seg.now.dels }) }
-{
-    let dels = stamps_of(alloc, seg.dels.as_slice())?;
-    Ok(Element {
-        ins: stamp_of(seg.ins),
-        dels,
-    })
-}
 
 // What a segment of a summary holds, as an operation has it.
 fn segment_of(seg: &Seg) -> Result<Segment, OutOfMemory>
@@ -91,7 +60,7 @@ fn append_content(
         return Err(OutOfMemory);
     }
     content.stamped(seg.by.seq, seg.by.conn);
-    let stamps = element_of(tree.allocator(), seg)?;
+    let stamps = element_of(tree.allocator(), seg.ins, &seg.dels)?;
     tree.append(content, &seg.props, stamps)
 }
 
