@@ -14,3 +14,4 @@ pub mod StandsSteps
 pub mod GatheringSteps
 pub mod Overlapping
 pub mod Effects
+pub mod OnIntervals

@@ -14,7 +14,7 @@ ghost use Rattle.ft_interval_store.specs.Ends.{map_ends, places_of_given, slid_e
 ghost use Rattle.ft_interval.specs.Indexes.{StandsOn, index_of, list_in};
 ghost use Rattle.ft_interval_store.specs.Intervals.{NamesRise, interval_of, name_in};
 ghost use Rattle.ft_interval_store.specs.Shown.{last, numbers_at, regenerated, settled_end, shown_intervals, shown_record};
-ghost use Rattle.ft_interval_store.specs.State.{IsAboveAll, IsFirst, IsInOrder, IsAsBefore, IsRefusedEdit, KeepsReferences, Pushes, first_stage, is_add, is_at_stage, is_interval_operation, is_shown, operation_at, placed, text_elements, with_effect, with_ends_at, with_first_acked};
+ghost use Rattle.ft_interval_store.specs.State.{IsAboveAll, IsFirst, IsInOrder, IsAsBefore, IsRefusedEdit, KeepsReferences, Pushes, first_stage, is_add, is_at_stage, is_change, is_delete, is_interval_operation, is_shown, operation_at, placed, text_elements, with_effect, with_ends_at, with_first_acked};
 
 use crate::gathering::gathered;
 use crate::indexes::{LabelIndex, index_of, order_is_kept};
@@ -68,14 +68,12 @@ impl Collections {
         }
     }
 
-    /// Adds, changes or deletes an interval as a pending operation of that stage; its ends, if it gives some, are on the elements
-    /// that the client sees.
+    /// Adds an interval as a pending operation of that stage, with its ends on the elements that the client sees.
     ///
-    /// Returns `IdInUse` exactly where a new interval's label has the id in the view, `NoSuchInterval` exactly where that of a
-    /// changed or deleted one doesn't have it, else `OutOfRange` exactly where ends are given and neither below the length seen nor
-    /// both detached, and then nothing changed; and `OutOfMemory` where there is no room, and then tree and collections may be used
-    /// no more.
-    pub fn edit_local(
+    /// Returns `IdInUse` exactly where the label has the id in the view, else `OutOfRange` exactly where the ends are neither
+    /// below the length seen nor both detached, and then nothing changed; and `OutOfMemory` where there is no room, and then
+    /// tree and collections may be used no more.
+    pub fn add_local(
         &mut self,
         tree: &mut Tree<TextContent>,
         op: &TextOp,
@@ -83,7 +81,63 @@ impl Collections {
     ) -> Result<(), IntervalFault>
         requires usable { IsTrue tree.old.usable }
         requires stands { StandsOn tree.old self.old }
-        requires kind { is_interval_operation op.now ≡ true }
+        requires kind { is_add op.now ≡ true }
+        requires some { 1 ≤ stage }
+        requires above { IsAboveAll stage self.old.state }
+        ensures taken { OnOk result (Pushes (seen_in (Stage stage)) (text_elements tree.old) stage op.now self.old.state self.new.state tree.old tree.new) }
+        ensures name { OnOk result (is_shown (text_elements tree.old) (name_in op.now) (placed tree.old.refs self.old.state) ≡ not (is_add op.now)) }
+        ensures refused { let shown = is_shown (text_elements tree.old) (name_in op.now) (placed tree.old.refs self.old.state) in
+            let length = len (seen_in (Stage stage)) (text_elements tree.old) in
+            IfErr result (IsRefusedEdit shown length op.now (IsAsBefore self.old.state self.new.state tree.old tree.new)) }
+        ensures unusable { IfErr result (λ e. e ≡ fault.OutOfMemory → tree.new.usable ≡ false) }
+        ensures indexes { self.new.indexes ≡ self.old.indexes }
+        ensures stands { OnOk result (StandsOn tree.new self.new) }
+    {
+        self.store.edit_local(tree, op, stage)
+    }
+
+    /// Changes an interval as a pending operation of that stage; its new ends, if it gets some, are on the elements that the
+    /// client sees.
+    ///
+    /// Returns `NoSuchInterval` exactly where the label doesn't have the id in the view, else `OutOfRange` exactly where the
+    /// ends are given and neither below the length seen nor both detached, and then nothing changed; and `OutOfMemory` where
+    /// there is no room, and then tree and collections may be used no more.
+    pub fn change_local(
+        &mut self,
+        tree: &mut Tree<TextContent>,
+        op: &TextOp,
+        stage: u64,
+    ) -> Result<(), IntervalFault>
+        requires usable { IsTrue tree.old.usable }
+        requires stands { StandsOn tree.old self.old }
+        requires kind { is_change op.now ≡ true }
+        requires some { 1 ≤ stage }
+        requires above { IsAboveAll stage self.old.state }
+        ensures taken { OnOk result (Pushes (seen_in (Stage stage)) (text_elements tree.old) stage op.now self.old.state self.new.state tree.old tree.new) }
+        ensures name { OnOk result (is_shown (text_elements tree.old) (name_in op.now) (placed tree.old.refs self.old.state) ≡ not (is_add op.now)) }
+        ensures refused { let shown = is_shown (text_elements tree.old) (name_in op.now) (placed tree.old.refs self.old.state) in
+            let length = len (seen_in (Stage stage)) (text_elements tree.old) in
+            IfErr result (IsRefusedEdit shown length op.now (IsAsBefore self.old.state self.new.state tree.old tree.new)) }
+        ensures unusable { IfErr result (λ e. e ≡ fault.OutOfMemory → tree.new.usable ≡ false) }
+        ensures indexes { self.new.indexes ≡ self.old.indexes }
+        ensures stands { OnOk result (StandsOn tree.new self.new) }
+    {
+        self.store.edit_local(tree, op, stage)
+    }
+
+    /// Takes an interval away as a pending operation of that stage.
+    ///
+    /// Returns `NoSuchInterval` exactly where the label doesn't have the id in the view, and then nothing changed; and
+    /// `OutOfMemory` where there is no room, and then tree and collections may be used no more.
+    pub fn delete_local(
+        &mut self,
+        tree: &mut Tree<TextContent>,
+        op: &TextOp,
+        stage: u64,
+    ) -> Result<(), IntervalFault>
+        requires usable { IsTrue tree.old.usable }
+        requires stands { StandsOn tree.old self.old }
+        requires kind { is_delete op.now ≡ true }
         requires some { 1 ≤ stage }
         requires above { IsAboveAll stage self.old.state }
         ensures taken { OnOk result (Pushes (seen_in (Stage stage)) (text_elements tree.old) stage op.now self.old.state self.new.state tree.old tree.new) }

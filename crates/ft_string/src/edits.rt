@@ -1,9 +1,13 @@
 //! The client's own edits of a shared text.
 
-ghost use Rattle.std.specs.Prelude.{◌≡◌, ◌≢◌, ◌+◌, ◌*◌, ◌-◌, ◌<◌, ◌≤◌, ◌^◌, ◌++◌, ◌∷◌, List, [], All, IfErr, IsTrue, OnOk, is_ok, length, map, true};
+ghost use Rattle.std.specs.Prelude.{◌≡◌, ◌≢◌, ◌+◌, ◌*◌, ◌-◌, ◌<◌, ◌≤◌, ◌^◌, ◌++◌, ◌∷◌, List, [], All, not, IfErr, IsTrue, OnOk, is_ok, length, map, true};
 ghost use Rattle.std.specs.List.{AllByRecursion};
-ghost use Rattle.ft_interval_store.specs.State.{is_interval_operation, text_elements};
-ghost use Rattle.ft_tree_leaves.specs.Elements.{IsAboveChanges};
+ghost use Rattle.ft_base.specs.Scan.{len};
+ghost use Rattle.ft_block.specs.declared.leaves.LenView.TheVariants.{Stage as at_stage};
+ghost use Rattle.ft_interval.specs.Indexes.{StandsOn};
+ghost use Rattle.ft_interval_store.specs.Intervals.{name_in};
+ghost use Rattle.ft_interval_store.specs.State.{IsAboveAll, IsAsBefore, IsRefusedEdit, Pushes, is_add, is_interval_operation, is_shown, placed, text_elements};
+ghost use Rattle.ft_tree_leaves.specs.Elements.{IsAboveChanges, seen_in};
 ghost use Rattle.ft_msg.specs.Client.{local_sub_operations};
 ghost use Rattle.ft_op.specs.declared.operations.TextOp.TheVariants.{One};
 ghost use Rattle.ft_op.specs.Document.{Document};
@@ -24,6 +28,7 @@ use crate::strings::SharedString;
 use ft_arena::NodeId;
 use ft_base::{Datum, OutOfMemory, Steps};
 use ft_block::LenView;
+use ft_interval::Collections;
 use ft_interval_store::IntervalFault;
 use ft_msg::EditFault;
 use ft_op::{BaseOp, TextOp};
@@ -108,6 +113,34 @@ fn take_all<G: Ledger>(
         stage += 1;
     }
     Ok(())
+}
+
+// Adds a pending operation on an interval.
+fn take_interval(
+    intervals: &mut Collections,
+    tree: &mut Tree<TextContent>,
+    op: &TextOp,
+    stage: u64,
+) -> Result<(), IntervalFault>
+    requires usable { IsTrue tree.old.usable }
+    requires stands { StandsOn tree.old intervals.old }
+    requires kind { is_interval_operation op.now ≡ true }
+    requires some { 1 ≤ stage }
+    requires above { IsAboveAll stage intervals.old.state }
+    ensures taken { OnOk result (Pushes (seen_in (at_stage stage)) (text_elements tree.old) stage op.now intervals.old.state intervals.new.state tree.old tree.new) }
+    ensures name { OnOk result (is_shown (text_elements tree.old) (name_in op.now) (placed tree.old.refs intervals.old.state) ≡ not (is_add op.now)) }
+    ensures refused { let shown = is_shown (text_elements tree.old) (name_in op.now) (placed tree.old.refs intervals.old.state) in
+        let length = len (seen_in (at_stage stage)) (text_elements tree.old) in
+        IfErr result (IsRefusedEdit shown length op.now (IsAsBefore intervals.old.state intervals.new.state tree.old tree.new)) }
+    ensures indexes { intervals.new.indexes ≡ intervals.old.indexes }
+    ensures stands { OnOk result (StandsOn tree.new intervals.new) }
+{
+    match op {
+        TextOp::IntervalAdd { .. } => intervals.add_local(tree, op, stage),
+        TextOp::IntervalChange { .. } => intervals.change_local(tree, op, stage),
+        TextOp::IntervalDelete { .. } => intervals.delete_local(tree, op, stage),
+        TextOp::One(_) | TextOp::Group(_) => unreachable!(),
+    }
 }
 
 // Whether it is a refusal, and not `OutOfMemory`.
@@ -249,7 +282,7 @@ impl SharedString {
     {
         // That names rise is read off its contract.
         let _first = self.intervals.first_stage();
-        match self.intervals.edit_local(&mut self.tree, op, first) {
+        match take_interval(&mut self.intervals, &mut self.tree, op, first) {
             Ok(()) => Ok(1),
             Err(fault) => {
                 self.usable = is_refusal(&fault);

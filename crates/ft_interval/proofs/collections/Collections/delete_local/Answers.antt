@@ -7,11 +7,15 @@ use Rattle.ft_tree_leaves.specs.Elements.{seen_in}
 use Rattle.ft_interval_store.specs.Intervals.{name_in}
 use Rattle.ft_interval_store.specs.State.{CollectionsState, IsAsBefore, IsRefusedEdit, is_shown, placed, text_elements}
 use Rattle.ft_interval.specs.Indexes.{IndexedState, StandsOn}
+use Rattle.ft_interval.proofs.OnIntervals.{delete-is-on-intervals}
 use Rattle.ft_interval.proofs.StandsSteps.{stands-kept}
-use Rattle.ft_interval.proofs.collections.Collections.edit_local.Goals as goal
+use Rattle.ft_interval.proofs.collections.Collections.delete_local.Goals as goal
 
 pub edit_local-requires-clause-live : goal.edit_local-requires-clause-live
 edit_local-requires-clause-live c = (subst (λ (x : IndexedState). StandsOn c.args.tree.now x) (sym c.self.view_is) c.requires.stands).live
+
+pub edit_local-requires-clause-kind : goal.edit_local-requires-clause-kind
+edit_local-requires-clause-kind c = delete-is-on-intervals c.args.op.now c.requires.kind
 
 pub returns-clause-stands : goal.returns-clause-stands
 returns-clause-stands c =
