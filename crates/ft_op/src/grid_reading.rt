@@ -8,8 +8,9 @@ ghost use Rattle.ft_op.specs.Reading.{read_each};
 ghost use Rattle.ft_op.specs.GridGrammar.{cell_op, cell_write, grid_op, group, group_item, is_group, splice, splice_in, splice_out, target_of, typed_splice, untargeted};
 ghost use Rattle.ft_op.specs.WellFormed.{IsWellFormedCell, IsWellFormedGrid};
 
+use crate::groups::{GroupItem, read_items};
 use crate::limits::{GROUP, SPLICE_IN, SPLICE_LIMIT, SPLICE_OUT};
-use crate::operations::{CellOp, CellOps, GridOp, OpFault, Target};
+use crate::operations::{CellOp, GridOp, OpFault, Target};
 use crate::reading::{is_object, read_kept_value, read_range};
 use ft_json::{Field, array_field, count, count_field, field};
 use serde_json::Value;
@@ -49,33 +50,27 @@ fn read_group(alloc: Global, value: &Value) -> Result<GridOp, OpFault>
     ensures { Reads OpFault.OutOfMemory (group (view value.now)) IsWellFormedGrid result }
 {
     let items = array_field(value, Field::Ops)?;
-    Ok(GridOp::Group(read_group_items(alloc, items)?))
+    Ok(GridOp::Group(read_items(alloc, items)?))
 }
 
-// The operations of the items of a group.
-fn read_group_items(alloc: Global, items: &[Value]) -> Result<CellOps, OpFault>
-    ensures { Reads OpFault.OutOfMemory (read_each group_item (map view items.now)) (AllByRecursion IsWellFormedCell) result }
-{
-    let mut ops = CellOps::new(alloc);
-    for item in items {
-        let op = read_group_item(alloc, item)?;
-        ops.push(op)?;
-    }
-    Ok(ops)
-}
+impl GroupItem for CellOp {
+    ghost use Rattle.ft_op.specs.GridGrammar.{group_item};
+    ghost use Rattle.ft_op.specs.WellFormed.{IsWellFormedCell};
 
-// The operation of an item of a group.
-#[tactic(auto, unfolding(crate::specs::GridGrammar::group_item))]
-fn read_group_item(alloc: Global, item: &Value) -> Result<CellOp, OpFault>
-    ensures { Reads OpFault.OutOfMemory (group_item (view item.now)) IsWellFormedCell result }
-{
-    if !is_object(item) {
-        return Err(OpFault::WrongKind(Field::Ops));
+    ghost item = { group_item };
+
+    ghost IsFormed = { IsWellFormedCell };
+
+    #[tactic(auto, unfolding(crate::specs::GridGrammar::group_item))]
+    fn read_item(alloc: Global, value: &Value) -> Result<CellOp, OpFault> {
+        if !is_object(value) {
+            return Err(OpFault::WrongKind(Field::Ops));
+        }
+        if is_group(value) {
+            return Err(OpFault::NestedGroup);
+        }
+        read_cell_op(alloc, value)
     }
-    if is_group(item) {
-        return Err(OpFault::NestedGroup);
-    }
-    read_cell_op(alloc, item)
 }
 
 // The operation of the object, which is no group.

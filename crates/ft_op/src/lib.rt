@@ -6,6 +6,7 @@
 mod adjustments;
 mod copies;
 pub mod grid_reading;
+mod groups;
 mod interval_reading;
 pub mod laws;
 pub mod limits;

@@ -9,9 +9,10 @@ ghost use Rattle.ft_op.specs.TextGrammar.{annotation, base_op, group, group_item
 ghost use Rattle.ft_op.specs.WellFormed.{IsWellFormedBase, IsWellFormedText};
 
 use crate::adjustments::read_given_adjustments;
+use crate::groups::{GroupItem, read_items};
 use crate::interval_reading::read_interval_op;
 use crate::limits::{ANNOTATION, GROUP, INSERTION, REMOVAL};
-use crate::operations::{BaseOp, BaseOps, OpFault, TextOp};
+use crate::operations::{BaseOp, OpFault, TextOp};
 use crate::reading::{is_object, read_given_properties, read_range};
 use crate::segments::read_segment;
 use ft_json::{Field, array_field, count_field, field};
@@ -53,34 +54,28 @@ fn read_group(alloc: Global, value: &Value) -> Result<TextOp, OpFault>
     ensures { Reads OpFault.OutOfMemory (group (view value.now)) IsWellFormedText result }
 {
     let items = array_field(value, Field::Ops)?;
-    Ok(TextOp::Group(read_group_items(alloc, items)?))
+    Ok(TextOp::Group(read_items(alloc, items)?))
 }
 
-// The operations of the items of a group.
-fn read_group_items(alloc: Global, items: &[Value]) -> Result<BaseOps, OpFault>
-    ensures { Reads OpFault.OutOfMemory (read_each group_item (map view items.now)) (AllByRecursion IsWellFormedBase) result }
-{
-    let mut ops = BaseOps::new(alloc);
-    for item in items {
-        let op = read_group_item(alloc, item)?;
-        ops.push(op)?;
-    }
-    Ok(ops)
-}
+impl GroupItem for BaseOp {
+    ghost use Rattle.ft_op.specs.TextGrammar.{group_item};
+    ghost use Rattle.ft_op.specs.WellFormed.{IsWellFormedBase};
 
-// The operation of an item of a group.
-#[tactic(auto, unfolding(crate::specs::TextGrammar::group_item))]
-fn read_group_item(alloc: Global, item: &Value) -> Result<BaseOp, OpFault>
-    ensures { Reads OpFault.OutOfMemory (group_item (view item.now)) IsWellFormedBase result }
-{
-    if !is_object(item) {
-        return Err(OpFault::WrongKind(Field::Ops));
+    ghost item = { group_item };
+
+    ghost IsFormed = { IsWellFormedBase };
+
+    #[tactic(auto, unfolding(crate::specs::TextGrammar::group_item))]
+    fn read_item(alloc: Global, value: &Value) -> Result<BaseOp, OpFault> {
+        if !is_object(value) {
+            return Err(OpFault::WrongKind(Field::Ops));
+        }
+        let kind = count_field(value, Field::Kind)?;
+        if kind == GROUP {
+            return Err(OpFault::NestedGroup);
+        }
+        read_base_op(alloc, value, kind)
     }
-    let kind = count_field(item, Field::Kind)?;
-    if kind == GROUP {
-        return Err(OpFault::NestedGroup);
-    }
-    read_base_op(alloc, item, kind)
 }
 
 // The operation of this type that may stand in a group.
