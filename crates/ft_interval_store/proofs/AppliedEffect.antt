@@ -1,8 +1,7 @@
 -- An operation whose ends are new references takes effect on the acknowledged intervals, beside pending operations.
 use Rattle.std.proofs.Common.{◌≡◌, ℕ, ◌+◌, ◌≤◌, Bool, true, false, cond, List, [], ◌∷◌, ◌++◌, length, get_or, ◌<◌, Result, Ok, Err, Option, Some, None, IsSome, option_map, refl, sym, ◌∙◌, ap, subst, arith, true≢false}
-use Rattle.std.specs.Prelude.{OnErr, OnOk}
+use Rattle.std.specs.Prelude.{OnOk}
 use Rattle.std.specs.List.{list_any, remove}
-use Rattle.std.proofs.lemmas.Result.{on_err_weaker, on_ok_weaker}
 use Rattle.ft_base.specs.Scan.{len}
 use Rattle.ft_tree_leaves.proofs.Runs.{len-append}
 use Rattle.ft_tree_leaves.specs.declared.references.Reference.{Reference}
@@ -14,7 +13,7 @@ use Rattle.ft_interval_store.specs.declared.intervals.Interval.{Interval}
 use Rattle.ft_interval_store.specs.declared.pending.Operation.{Operation}
 use Rattle.ft_interval_store.specs.Ends.{AreAddedEnds, References, both_ends, holds_end, is_reference, map_ends, places_of_ends, slid_end}
 use Rattle.ft_interval_store.specs.Intervals.{after_operation}
-use Rattle.ft_interval_store.specs.State.{AreKeptOnce, CollectionsState, HandsOn, IsFirst, IsInOrder, IsLive, IsMarked, KeepsReferences, ends_of_intervals, ends_of_operations, ends_with, keeps, placed, placed_intervals, times_kept, with_effect, with_first_acked}
+use Rattle.ft_interval_store.specs.State.{AreKeptOnce, CollectionsState, HandsOn, IsFirst, IsInOrder, IsLive, IsMarked, KeepsReferences, ends_of_intervals, ends_of_operations, ends_with, keeps, placed, placed_intervals, first_operation, times_kept, with_effect, with_first_acked}
 use Rattle.ft_interval_store.proofs.HandedOn.{held, no-times, none-there, one-there, some-times}
 use Rattle.ft_interval_store.proofs.KeptEnds.{any_intervals, any_operations, intervals-same, operations-same}
 use Rattle.ft_interval_store.proofs.TakenEffect.{effect-in_order, effect-live, effect-marked, effect-others, first-in_order, first-kept_once, first-references, first-stays, others-stay, rise-below}
@@ -154,11 +153,6 @@ rest-in_order is t ts o = record {
   rising = rise-below 0 t.stage ts (omega arith) o.rising.1;
 }
 
--- what holds after either answer
-pub either-way : {T E : Type 0} (r : Result T E) (P : Type 0) → OnOk r P → OnErr r P → P
-either-way (Ok x) P a b = a
-either-way (Err y) P a b = b
-
 -- of two facts after an answer
 pub both-ok : {T E : Type 0} (r : Result T E) (P Q R : Type 0) → (P → Q → R) → OnOk r P → OnOk r Q → OnOk r R
 both-ok (Ok x) P Q R f a b = f a b
@@ -193,27 +187,28 @@ module _ (is : List (Interval ℕ)) (ps : List Operation) (t : Operation) (ts : 
   pub ack-kept : AreKeptOnce before t.ends is
   ack-kept = first-kept_once is is t ts before before first-order first-live
 
-  pub ack-in_order : {T E : Type 0} (r : Result T E) (new : List (Interval ℕ)) (after : References) → OnOk r (HandsOn t.ends is new before after) → OnErr r (new ≡ is)
+  pub ack-in_order : (new : List (Interval ℕ)) (after : References) → HandsOn t.ends is new before after
       → (let x : CollectionsState = record { acked = new; pending = ts } in IsInOrder x)
-  ack-in_order r new after hands same =
+  ack-in_order new after hands = first-in_order is new t ts before after first-order hands
+
+  -- where it takes no effect it is gone all the same
+  pub ack-failed : (now-acked : List (Interval ℕ)) → now-acked ≡ is → (let x : CollectionsState = record { acked = now-acked; pending = ts } in IsInOrder x)
+  ack-failed now-acked same =
       let P : List (Interval ℕ) → Type 0 = λ us. (let x : CollectionsState = record { acked = us; pending = ts } in IsInOrder x) in
-      either-way r (P new) (on_ok_weaker r (λ h. first-in_order is new t ts before after first-order h) hands)
-      (on_err_weaker r (λ e. subst P (sym e) (rest-in_order is t ts first-order)) same)
+      subst P (sym same) (rest-in_order is t ts first-order)
 
-  pub ack-references : {T E : Type 0} (r : Result T E) (new : List (Interval ℕ)) (after : References) → OnOk r (HandsOn t.ends is new before after)
-      → (let x : CollectionsState = record { acked = new; pending = ts } in OnOk r (KeepsReferences now x before after))
-  ack-references r new after hands =
+  pub ack-references : (new : List (Interval ℕ)) (after : References) → HandsOn t.ends is new before after
+      → (let x : CollectionsState = record { acked = new; pending = ts } in KeepsReferences now x before after)
+  ack-references new after hands =
       let x : CollectionsState = record { acked = new; pending = ts } in
-      on_ok_weaker r (λ h. subst (λ y. KeepsReferences y x before after) is-now (first-references is new t ts before after first-order first-live h)) hands
+      subst (λ y. KeepsReferences y x before after) is-now (first-references is new t ts before after first-order first-live hands)
 
-  pub ack-places : {U T E : Type 0} (xs : List (TreeElement U)) (r : Result T E) (new : List (Interval ℕ)) (after : References)
-      → OnOk r (HandsOn t.ends is new before after)
-      → OnOk r (placed_intervals after new ≡ after_operation t.op (map_ends (slid_end xs) (places_of_ends before t.ends)) (placed_intervals before is))
-      → (let x : CollectionsState = record { acked = new; pending = ts } in OnOk r (placed after x ≡ with_first_acked (map_ends (slid_end xs)) (placed before now)))
-  ack-places xs r new after hands places =
-      let x : CollectionsState = record { acked = new; pending = ts } in
-      both-ok r (HandsOn t.ends is new before after)
-      (placed_intervals after new ≡ after_operation t.op (map_ends (slid_end xs) (places_of_ends before t.ends)) (placed_intervals before is))
-      (placed after x ≡ with_first_acked (map_ends (slid_end xs)) (placed before now))
-      (λ h p. first-places xs is new t ts before after first-order h p ∙ ap (λ y. with_first_acked (map_ends (slid_end xs)) (placed before y)) is-now)
-      hands places
+  pub ack-places : {U : Type 0} (xs : List (TreeElement U)) (new : List (Interval ℕ)) (after : References) → HandsOn t.ends is new before after
+      → placed_intervals after new ≡ after_operation t.op (map_ends (slid_end xs) (places_of_ends before t.ends)) (placed_intervals before is)
+      → (let x : CollectionsState = record { acked = new; pending = ts } in placed after x ≡ with_first_acked (map_ends (slid_end xs)) (placed before now))
+  ack-places xs new after hands places =
+      first-places xs is new t ts before after first-order hands places ∙ ap (λ y. with_first_acked (map_ends (slid_end xs)) (placed before y)) is-now
+
+  -- what was pending first is the operation
+  pub ack-operation : first_operation now.pending ≡ Some t.op
+  ack-operation = ap (λ (x : CollectionsState). first_operation x.pending) (sym is-now)

@@ -1,9 +1,8 @@
 -- Acknowledged intervals that are gathered by their names, and what is shown of them.
-use Rattle.std.proofs.Common.{◌≡◌, ℕ, Bool, true, false, cond, ◌||◌, List, [], ◌∷◌, ◌++◌, ◌<◌, ◌≤◌, ◌+◌, All, length, take, get_or, Option, Some, None, option_map, refl, sym, ◌∙◌, ap, subst, inl, inr, arith, map, filter}
+use Rattle.std.proofs.Common.{◌≡◌, ℕ, Bool, true, false, cond, ◌||◌, List, [], ◌∷◌, ◌++◌, ◌<◌, ◌≤◌, ◌+◌, All, length, take, get_or, Some, None, option_map, refl, sym, ◌∙◌, ap, subst, inl, inr, map, filter}
 use Rattle.std.specs.Prelude.{◌⊎◌}
 use Rattle.std.specs.List.{list_any}
 use Rattle.std.specs.Ordering.{is_eq}
-use Rattle.std.proofs.lemmas.Bool.{or_left, or_right}
 use Rattle.std.proofs.lemmas.List.{take_more}
 use Rattle.std.proofs.lemmas.List.Elements.{All-append, All-cons, All-nil}
 use Rattle.ft_op.specs.declared.operations.TextOp.{TextOp}
@@ -15,7 +14,7 @@ use Rattle.ft_interval_store.specs.declared.intervals.Interval.{Interval}
 use Rattle.ft_interval_store.specs.declared.pending.Operation.{Operation}
 use Rattle.ft_interval_store.specs.Ends.{References, map_ends, places_of_ends}
 use Rattle.ft_interval_store.specs.Gathered.{IsPartOf, is_on_any}
-use Rattle.ft_interval_store.specs.Intervals.{Name, NamesRise, after_own, interval_cmp, interval_of, is_on, name_cmp, name_of, one_after}
+use Rattle.ft_interval_store.specs.Intervals.{Name, NamesRise, after_own, interval_cmp, interval_of, is_on, name_cmp, one_after}
 use Rattle.ft_interval_store.specs.Shown.{carried_interval, last, settled_end, settled_interval, shown_from, shown_one_from, shown_record}
 use Rattle.ft_interval_store.specs.State.{placed_intervals, with_mapped_ends}
 use Rattle.ft_interval_store.proofs.OneInterval.{NamesRise-after, NamesRise-map, interval_of-map, interval_of-put, same_name}

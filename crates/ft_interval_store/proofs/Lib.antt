@@ -1,5 +1,6 @@
 pub mod RisingNames
 pub mod OneInterval
+pub mod OperationEnds
 pub mod ShownOne
 pub mod KeptEnds
 pub mod BothEnds

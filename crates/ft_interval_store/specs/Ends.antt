@@ -13,7 +13,7 @@ abbrev pub References : Type 0
 References = List (ℕ × Reference)
 
 -- no ends
-abbrev pub no_ends : EndPair ℕ
+abbrev pub no_ends : {T : Type 0} → EndPair T
 no_ends = record { start = None; end = None }
 
 -- f of both ends

@@ -77,12 +77,16 @@ module _ {T : Type 0} where
   abbrev pub changed_interval : Option Ends → EndPair T → PropertySet → Interval T → Interval T
   changed_interval given ends props i = record i { ends = cond (is_some given) ends i.ends; props = apply i.props props }
 
+  -- the interval that an operation adds
+  abbrev pub added_interval : Characters → Characters → EndPair T → PropertySet → Interval T
+  added_interval label id ends props = record { label = label; id = id; ends = ends; props = apply [] props }
+
   -- the intervals after an operation with these ends: an add does nothing where the name is there, a change and a delete
   -- nothing where it isn't
   abbrev pub after_operation : TextOp → EndPair T → List (Interval T) → List (Interval T)
   after_operation (IntervalAdd label id given props) ends is =
       cond (is_some (interval_of (label, id) is)) is
-      (put_rising interval_cmp (record { label = label; id = id; ends = ends; props = apply [] props }) is)
+      (put_rising interval_cmp (added_interval label id ends props) is)
   after_operation (IntervalChange label id given props) ends is = with_changed (label, id) (changed_interval given ends props) is
   after_operation (IntervalDelete label id) ends is = without_name (label, id) is
   after_operation _ ends is = is

@@ -4,6 +4,7 @@
 use Rattle.std.specs.Prelude.{◌≡◌, ℕ, ◌<◌, ◌≤◌, Bool, true, false, cond, not, nat_eq, List, [], ◌∷◌, ◌++◌, Option, Some, None, IsSome, All, ⊤, flat_map, map, option_map, is_some}
 use Rattle.std.specs.List.{list_any}
 use Rattle.ft_base.specs.Scan.{len}
+use Rattle.ft_op.specs.declared.operations.Ends.{Ends}
 use Rattle.ft_op.specs.declared.operations.TextOp.{TextOp}
 use Rattle.ft_op.specs.declared.operations.TextOp.TheVariants.{IntervalAdd, IntervalChange, IntervalDelete}
 use Rattle.ft_op.specs.Document.{ends_of, given_ends_fit}
@@ -18,9 +19,10 @@ use Rattle.ft_tree.specs.State.{TreeState}
 use Rattle.ft_interval_store.specs.declared.faults.IntervalFault.{IntervalFault}
 use Rattle.ft_interval_store.specs.declared.faults.IntervalFault.TheVariants.{IdInUse, NoSuchInterval, OutOfRange, OutOfMemory}
 use Rattle.ft_interval_store.specs.declared.intervals.EndPair.{EndPair}
+use Rattle.ft_interval_store.specs.declared.intervals.EndsAfter.{EndsAfter}
 use Rattle.ft_interval_store.specs.declared.intervals.Interval.{Interval}
 use Rattle.ft_interval_store.specs.declared.pending.Operation.{Operation}
-use Rattle.ft_interval_store.specs.Intervals.{Name, after_operation, interval_of}
+use Rattle.ft_interval_store.specs.Intervals.{Name, after_operation, interval_of, is_on}
 use Rattle.ft_interval_store.specs.Shown.{shown_intervals}
 use Rattle.ft_interval_store.specs.Ends.{AreLiveEnds, References, both_ends, no_ends, is_reference, places_of_ends, places_of_given}
 
@@ -212,21 +214,41 @@ IsRefusedEdit shown length op unchanged OutOfMemory = ⊤
 
 -- ---- parts of an effect
 
--- the ends of the interval of that name, none where it isn't there
-abbrev pub ends_of_name : Name → List (Interval ℕ) → EndPair ℕ
-ends_of_name n is = elim (interval_of n is) [ None ↦ no_ends | Some i ↦ i.ends ]
+module _ {T : Type 0} where
+  -- the ends of the interval of that name, none where it isn't there
+  abbrev pub ends_of_name : Name → List (Interval T) → EndPair T
+  ends_of_name n is = elim (interval_of n is) [ None ↦ no_ends | Some i ↦ i.ends ]
 
--- the ends of an operation, where no interval takes them
-abbrev pub unused_ends : TextOp → EndPair ℕ → List (Interval ℕ) → EndPair ℕ
-unused_ends (IntervalAdd label id given props) ends is = cond (is_some (interval_of (label, id) is)) ends no_ends
-unused_ends (IntervalChange label id (Some given) props) ends is = cond (is_some (interval_of (label, id) is)) no_ends ends
-unused_ends _ ends is = ends
+  -- the ends of an operation, where no interval takes them
+  abbrev pub unused_ends : TextOp → EndPair T → List (Interval T) → EndPair T
+  unused_ends (IntervalAdd label id given props) ends is = cond (is_some (interval_of (label, id) is)) ends no_ends
+  unused_ends (IntervalChange label id (Some given) props) ends is = cond (is_some (interval_of (label, id) is)) no_ends ends
+  unused_ends _ ends is = ends
 
--- the ends that the interval of an operation had, where it gets others or is taken away
-abbrev pub lost_ends : TextOp → List (Interval ℕ) → EndPair ℕ
-lost_ends (IntervalChange label id (Some given) props) is = ends_of_name (label, id) is
-lost_ends (IntervalDelete label id) is = ends_of_name (label, id) is
-lost_ends _ is = no_ends
+  -- the ends that the interval of an operation had, where it gets others or is taken away
+  abbrev pub lost_ends : TextOp → List (Interval T) → EndPair T
+  lost_ends (IntervalChange label id (Some given) props) is = ends_of_name (label, id) is
+  lost_ends (IntervalDelete label id) is = ends_of_name (label, id) is
+  lost_ends _ is = no_ends
+
+  -- what a change makes of ends, where its interval is there and had those
+  abbrev pub ends_changed : Option Ends → EndPair T → EndPair T → EndsAfter T
+  ends_changed None ends had = record { kept = had; unused = ends; lost = no_ends }
+  ends_changed (Some given) ends had = record { kept = ends; unused = no_ends; lost = had }
+
+  -- the same where its interval isn't there
+  abbrev pub ends_missing : EndPair T → EndsAfter T
+  ends_missing ends = record { kept = no_ends; unused = ends; lost = no_ends }
+
+  -- these are the ends of the interval that the operation is on, none where it isn't there
+  abbrev pub AreOwnEnds : TextOp → List (Interval T) → EndPair T → Type 0
+  AreOwnEnds op is ends = (n : Name) → is_on n op ≡ true → ends ≡ ends_of_name n is
+
+  -- which ends an operation with these ends leaves to its interval, and which to none
+  pub record IsEndsAfter (op : TextOp) (ends : EndPair T) (old new : List (Interval T)) (after : EndsAfter T) : Type 0 where
+    pub kept : AreOwnEnds op new after.kept
+    pub unused : after.unused ≡ unused_ends op ends old
+    pub lost : after.lost ≡ lost_ends op old
 
 -- the ends of an operation, and those of intervals
 abbrev pub ends_with : EndPair ℕ → List (Interval ℕ) → List (Option ℕ)

@@ -124,7 +124,7 @@ fn take_next(
         → OnOk result (ShowsAll tree.now t.now.stage (after_operation t.now.op ends (carried xs from t.now.stage is)) all.new) }
 {
     carry_all(tree, all, from, t.stage);
-    all.apply(&t.op, settled(tree, t.ends, t.stage))
+    all.follow(&t.op, settled(tree, t.ends, t.stage))
 }
 
 // The interval as it is shown.

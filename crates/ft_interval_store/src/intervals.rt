@@ -3,7 +3,9 @@
 ghost use Rattle.std.specs.Prelude.{◌≡◌, [], IfOk, OnOk, OnErr, option_copied};
 ghost use Rattle.std.specs.Ordering.{is_eq};
 ghost use Rattle.ft_props.specs.Keys.{put_rising};
-ghost use Rattle.ft_interval_store.specs.Intervals.{after_operation, changed_interval, interval_cmp, interval_of, name_cmp, name_of, place_of_name, with_changed, without_name};
+ghost use Rattle.ft_interval_store.specs.Ends.{no_ends};
+ghost use Rattle.ft_interval_store.specs.Intervals.{added_interval, after_operation, changed_interval, interval_cmp, interval_of, name_cmp, name_of, place_of_name, with_changed, without_name};
+ghost use Rattle.ft_interval_store.specs.State.{IsEndsAfter, ends_changed, ends_missing};
 
 use ft_base::{Datum, OutOfMemory, Text};
 use ft_op::{Ends, TextOp};
@@ -18,6 +20,42 @@ use std::marker::Model;
 pub struct EndPair<T> {
     pub start: Option<T>,
     pub end: Option<T>,
+}
+
+impl<T: Copy> EndPair<T> {
+    /// No ends.
+    pub fn none() -> EndPair<T>
+        ensures { result ≡ no_ends }
+    {
+        EndPair {
+            start: None,
+            end: None,
+        }
+    }
+}
+
+/// What an operation makes of ends: those that its interval has, and those that no interval has any more.
+#[derive(Clone, Copy)]
+pub struct EndsAfter<T> {
+    /// Those of the interval that the operation is on, none where it isn't there.
+    pub kept: EndPair<T>,
+    /// Those of the operation, where no interval takes them.
+    pub unused: EndPair<T>,
+    /// Those that the interval had, where it got others or was taken away.
+    pub lost: EndPair<T>,
+}
+
+impl<T: Copy> EndsAfter<T> {
+    // Where the interval isn't there: the ends of the operation belong to none.
+    fn missing(ends: EndPair<T>) -> EndsAfter<T>
+        ensures { result ≡ ends_missing ends }
+    {
+        EndsAfter {
+            kept: EndPair::none(),
+            unused: ends,
+            lost: EndPair::none(),
+        }
+    }
 }
 
 /// An interval.
@@ -52,16 +90,27 @@ impl<T: Copy> Held<T> {
         given: Option<Ends>,
         ends: EndPair<T>,
         props: &PropSet,
-    ) -> Result<(), OutOfMemory>
+    ) -> Result<EndsAfter<T>, OutOfMemory>
         ensures name { name_of self.new ≡ name_of self.old }
         ensures ok { OnOk result (self.new ≡ changed_interval given ends props.now self.old) }
+        ensures ends { IfOk result (λ after. after ≡ ends_changed given ends self.old.ends) }
         ensures err { OnErr result (self.new ≡ self.old) }
     {
+        let had = self.interval.ends;
         self.interval.props = self.interval.props.applied(props)?;
-        if given.is_some() {
-            self.interval.ends = ends;
+        if given.is_none() {
+            return Ok(EndsAfter {
+                kept: had,
+                unused: ends,
+                lost: EndPair::none(),
+            });
         }
-        Ok(())
+        self.interval.ends = ends;
+        Ok(EndsAfter {
+            kept: ends,
+            unused: EndPair::none(),
+            lost: had,
+        })
     }
 }
 
@@ -125,6 +174,27 @@ impl<T> Held<T> {
     {
         self.interval.ends = ends;
     }
+}
+
+// The interval that an operation adds, on the heap.
+//
+// Returns `OutOfMemory` where there is no room for it.
+fn added<T: Copy + Drop>(
+    alloc: Global,
+    label: &Text,
+    id: &Text,
+    ends: EndPair<T>,
+    props: &PropSet,
+) -> Result<Held<T>, OutOfMemory>
+    ensures { IfOk result (λ held. held ≡ added_interval label.now id.now ends props.now) }
+{
+    let interval = Interval {
+        label: label.copy()?,
+        id: id.copy()?,
+        ends,
+        props: Props::new(alloc).applied(props)?,
+    };
+    Held::new(alloc, interval)
 }
 
 /// Intervals by rising label and id, so that no name stands twice. One is found by a binary search.
@@ -222,20 +292,27 @@ impl<T: Copy + Drop> Intervals<T> {
         id: &Text,
         ends: EndPair<T>,
         props: &PropSet,
-    ) -> Result<(), OutOfMemory>
+    ) -> Result<EndsAfter<T>, OutOfMemory>
         ensures ok { (given : Ends) → OnOk result (self.new ≡ after_operation (TextOp.IntervalAdd label.now id.now given props.now) ends self.old) }
+        ensures ends { (given : Ends) → IfOk result (IsEndsAfter (TextOp.IntervalAdd label.now id.now given props.now) ends self.old self.new) }
         ensures err { OnErr result (self.new ≡ self.old) }
     {
-        if self.get(label, id).is_some() {
-            return Ok(());
+        match self.search(label, id) {
+            Ok(i) => Ok(EndsAfter {
+                kept: self.items[i].ends(),
+                unused: ends,
+                lost: EndPair::none(),
+            }),
+            Err(i) => {
+                let held = added(self.allocator(), label, id, ends, props)?;
+                self.items.insert(i, held)?;
+                Ok(EndsAfter {
+                    kept: ends,
+                    unused: EndPair::none(),
+                    lost: EndPair::none(),
+                })
+            }
         }
-        let props = Props::new(self.allocator()).applied(props)?;
-        self.put(Interval {
-            label: label.copy()?,
-            id: id.copy()?,
-            ends,
-            props,
-        })
     }
 
     // Gives the interval of that name, if it is there, the ends, if an operation gives some, and applies the set to
@@ -249,31 +326,40 @@ impl<T: Copy + Drop> Intervals<T> {
         given: Option<Ends>,
         ends: EndPair<T>,
         props: &PropSet,
-    ) -> Result<(), OutOfMemory>
+    ) -> Result<EndsAfter<T>, OutOfMemory>
         ensures ok { OnOk result (self.new ≡ with_changed (label.now, id.now) (changed_interval given ends props.now) self.old) }
+        ensures ends { IfOk result (IsEndsAfter (TextOp.IntervalChange label.now id.now given props.now) ends self.old self.new) }
         ensures err { OnErr result (self.new ≡ self.old) }
     {
         match self.search(label, id) {
             Ok(i) => self.items[i].change(given, ends, props),
-            Err(_) => Ok(()),
+            Err(_) => Ok(EndsAfter::missing(ends)),
         }
     }
 
     // Takes the interval of that name out, if it is there.
-    fn delete(&mut self, label: &Text, id: &Text)
-        ensures { self.new ≡ without_name (label.now, id.now) self.old }
+    fn delete(&mut self, label: &Text, id: &Text, ends: EndPair<T>) -> EndsAfter<T>
+        ensures ok { self.new ≡ without_name (label.now, id.now) self.old }
+        ensures ends { IsEndsAfter (TextOp.IntervalDelete label.now id.now) ends self.old self.new result }
     {
-        if let Ok(i) = self.search(label, id) {
-            let _ = self.items.remove(i);
+        let Ok(i) = self.search(label, id) else {
+            return EndsAfter::missing(ends);
+        };
+        let lost = self.items.remove(i).ends();
+        EndsAfter {
+            kept: EndPair::none(),
+            unused: ends,
+            lost,
         }
     }
 
     /// Applies an operation with these ends: an add does nothing where the name is there, a change and a delete nothing
-    /// where it isn't.
+    /// where it isn't. It returns which ends then belong to its interval, and which to none.
     ///
     /// Returns `OutOfMemory` where there is no room for what it makes, and then nothing changed.
-    pub fn apply(&mut self, op: &TextOp, ends: EndPair<T>) -> Result<(), OutOfMemory>
+    pub fn apply(&mut self, op: &TextOp, ends: EndPair<T>) -> Result<EndsAfter<T>, OutOfMemory>
         ensures ok { OnOk result (self.new ≡ after_operation op.now ends self.old) }
+        ensures ends { IfOk result (IsEndsAfter op.now ends self.old self.new) }
         ensures err { OnErr result (self.new ≡ self.old) }
     {
         match op {
@@ -289,11 +375,19 @@ impl<T: Copy + Drop> Intervals<T> {
                 ends: given,
                 props,
             } => self.change(label, id, *given, ends, props),
-            TextOp::IntervalDelete { label, id } => {
-                self.delete(label, id);
-                Ok(())
-            }
-            TextOp::One(_) | TextOp::Group(_) => Ok(()),
+            TextOp::IntervalDelete { label, id } => Ok(self.delete(label, id, ends)),
+            TextOp::One(_) | TextOp::Group(_) => Ok(EndsAfter::missing(ends)),
         }
+    }
+
+    /// The same where nobody asks which ends belong to none then.
+    ///
+    /// Returns `OutOfMemory` where there is no room for what it makes, and then nothing changed.
+    pub fn follow(&mut self, op: &TextOp, ends: EndPair<T>) -> Result<(), OutOfMemory>
+        ensures ok { OnOk result (self.new ≡ after_operation op.now ends self.old) }
+        ensures err { OnErr result (self.new ≡ self.old) }
+    {
+        self.apply(op, ends)?;
+        Ok(())
     }
 }

@@ -1,6 +1,6 @@
 //! Intervals with what is pending on them.
 
-ghost use Rattle.std.specs.Prelude.{◌≡◌, ◌≤◌, ℕ, List, All, [], IsSome, Some, not, IsTrue, IfOk, IfErr, OnErr, OnOk, true, false, map, option_copied, option_map};
+ghost use Rattle.std.specs.Prelude.{◌≡◌, ◌≤◌, ℕ, List, All, [], IfSome, IsSome, Some, is_some, not, IsTrue, IfOk, IfErr, OnErr, OnOk, true, false, map, option_copied, option_map};
 ghost use Rattle.std.specs.Ordering.{is_eq};
 ghost use Rattle.std.specs.List.{list_any};
 ghost use Rattle.ft_base.specs.Scan.{len};
@@ -14,7 +14,7 @@ ghost use Rattle.ft_interval_store.specs.Gathered.{Gathers, IsPartOf, is_on_any}
 ghost use Rattle.ft_interval_store.specs.Intervals.{NamesRise, interval_of, name_cmp, name_in};
 ghost use Rattle.ft_interval_store.specs.Shown.{last, numbers_at, regenerated, settled_end, settled_interval, shown_from, shown_intervals, shown_record};
 ghost use Rattle.ft_interval_store.specs.Standing.{ShowsAll};
-ghost use Rattle.ft_interval_store.specs.State.{IsAboveAll, IsAfter, IsAfterFirst, IsAsBefore, IsFirst, IsInOrder, IsLive, IsRefusedEdit, KeepsReferences, Pushes, ends_of_name, first_operation, first_stage, is_add, is_at_stage, is_interval_operation, is_shown, operation_at, placed, placed_intervals, placed_operations, text_elements, with_effect, with_ends_at, with_first_acked};
+ghost use Rattle.ft_interval_store.specs.State.{AreOwnEnds, IsAboveAll, IsAfter, IsAfterFirst, IsAsBefore, IsFirst, IsInOrder, IsLive, IsRefusedEdit, KeepsReferences, Pushes, ends_of_name, first_operation, first_stage, is_add, is_at_stage, is_interval_operation, is_shown, operation_at, placed, placed_intervals, placed_operations, text_elements, with_effect, with_ends_at, with_first_acked};
 
 use crate::all::{add_named, first_places, places_of_pending, shown_behind};
 use crate::effects::{ends_of, take_effect};
@@ -55,6 +55,14 @@ impl Model for Store {
     ghost view = { λ a. record { acked = a.acked; pending = a.pending.items } };
 
     ghost invariant = { λ a. IsInOrder (record { acked = a.acked; pending = a.pending.items }) };
+}
+
+/// An operation that was acknowledged.
+#[derive(Drop)]
+pub struct Acked {
+    pub op: TextOp,
+    /// The ends that its interval has now, none where it isn't there.
+    pub ends: EndPair<RefId>,
 }
 
 impl Store {
@@ -140,9 +148,10 @@ impl Store {
         shown_ends(tree, &self.acked, &self.pending, label, id).is_some()
     }
 
-    /// Applies a sequenced operation of another client, with its ends on the elements that its sender sees. It returns false
+    /// Applies a sequenced operation of another client, with its ends on the elements that its sender sees. It returns None
     /// exactly where they are given and are neither below the length that the sender sees nor both detached, and then nothing
-    /// changed. An add does nothing where the label has the id, a change and a delete nothing where it doesn't.
+    /// changed, and else the ends of the operation's interval, none where it isn't there. An add does nothing where the label has
+    /// the id, a change and a delete nothing where it doesn't.
     ///
     /// Returns `OutOfMemory` where there is no room, and then tree and collections may be used no more.
     pub fn apply(
@@ -150,36 +159,36 @@ impl Store {
         tree: &mut Tree<TextContent>,
         op: &TextOp,
         at: Perspective,
-    ) -> Result<bool, OutOfMemory>
+    ) -> Result<Option<EndPair<RefId>>, OutOfMemory>
         requires usable { IsTrue tree.old.usable }
         requires live { IsLive tree.old.refs self.old }
         requires kind { is_interval_operation op.now ≡ true }
         requires floor { tree.old.floor ≤ at.r }
-        ensures fits { IfOk result (λ fits. fits ≡ given_ends_fit (len (seen_in (At at)) (text_elements tree.old)) (ends_of op.now)) }
+        ensures fits { IfOk result (λ now. is_some now ≡ given_ends_fit (len (seen_in (At at)) (text_elements tree.old)) (ends_of op.now)) }
         ensures effect { let xs = text_elements tree.old in
             let ends = map_ends (slid_end xs) (places_of_given (seen_in (At at)) xs (ends_of op.now)) in
-            IfOk result (λ fits. fits ≡ true → placed tree.new.refs self.new ≡ with_effect op.now ends (placed tree.old.refs self.old)) }
-        ensures refs { IfOk result (λ fits. fits ≡ true → KeepsReferences self.old self.new tree.old.refs tree.new.refs) }
-        ensures after { IfOk result (λ fits. fits ≡ true → IsAfter op.now self.old.acked self.new.acked) }
+            IfOk result (λ now. is_some now ≡ true → placed tree.new.refs self.new ≡ with_effect op.now ends (placed tree.old.refs self.old)) }
+        ensures refs { IfOk result (λ now. is_some now ≡ true → KeepsReferences self.old self.new tree.old.refs tree.new.refs) }
+        ensures after { IfOk result (λ now. is_some now ≡ true → IsAfter op.now self.old.acked self.new.acked) }
+        ensures ends { IfOk result (λ now. IfSome now (AreOwnEnds op.now self.new.acked)) }
         ensures rest { OnOk result (tree.new ≡ record tree.old { refs = tree.new.refs }) }
-        ensures misfit { IfOk result (λ fits. fits ≡ false → (self.new ≡ self.old) × (tree.new ≡ tree.old)) }
+        ensures misfit { IfOk result (λ now. is_some now ≡ false → (self.new ≡ self.old) × (tree.new ≡ tree.old)) }
         ensures err { OnErr result (tree.new.usable ≡ false) }
     {
         let view = LenView::At(at);
         let given = given_ends(op);
         if !given_ends_fit(tree.length(view), given) {
-            return Ok(false);
+            return Ok(None);
         }
         let ends = add_ends(tree, given, view)?;
-        take_effect(&mut self.acked, tree, op, &ends)?;
-        Ok(true)
+        Ok(Some(take_effect(&mut self.acked, tree, op, &ends)?))
     }
 
     /// Acknowledges the pending operation of that stage, which is the first: it takes effect on the acknowledged intervals, and
-    /// its ends slide.
+    /// its ends slide. It returns the operation, with the ends of its interval.
     ///
     /// Returns `OutOfMemory` where there is no room, and then tree and collections may be used no more.
-    pub fn ack(&mut self, tree: &mut Tree<TextContent>, stage: u64) -> Result<(), OutOfMemory>
+    pub fn ack(&mut self, tree: &mut Tree<TextContent>, stage: u64) -> Result<Acked, OutOfMemory>
         requires usable { IsTrue tree.old.usable }
         requires live { IsLive tree.old.refs self.old }
         requires first { IsFirst stage self.old }
@@ -187,11 +196,14 @@ impl Store {
             OnOk result (placed tree.new.refs self.new ≡ with_first_acked (map_ends (slid_end xs)) (placed tree.old.refs self.old)) }
         ensures refs { OnOk result (KeepsReferences self.old self.new tree.old.refs tree.new.refs) }
         ensures after { OnOk result (IsAfterFirst self.old.pending self.old.acked self.new.acked) }
+        ensures op { IfOk result (λ acked. first_operation self.old.pending ≡ Some acked.op) }
+        ensures ends { IfOk result (λ acked. AreOwnEnds acked.op self.new.acked acked.ends) }
         ensures rest { OnOk result (tree.new ≡ record tree.old { refs = tree.new.refs }) }
         ensures err { OnErr result (tree.new.usable ≡ false) }
     {
         let t = self.pending.remove(0);
-        take_effect(&mut self.acked, tree, &t.op, &t.ends)
+        let ends = take_effect(&mut self.acked, tree, &t.op, &t.ends)?;
+        Ok(Acked { op: t.op, ends })
     }
 
     /// The stage of the first pending operation: None exactly where nothing is pending.
@@ -210,15 +222,13 @@ impl Store {
         }
     }
 
-    /// A copy of the operation of the first stage.
-    ///
-    /// Returns `OutOfMemory` where there is no room for it, or nothing is pending.
-    pub fn first_operation(&self) -> Result<TextOp, OutOfMemory>
-        ensures { IfOk result (λ op. first_operation self.now.pending ≡ Some op) }
+    /// The operation of the first stage: None exactly where nothing is pending.
+    pub fn first_operation(&self) -> Option<&TextOp>
+        ensures { option_copied result ≡ first_operation self.now.pending }
     {
         match self.pending.first() {
-            Some(t) => t.op.copy(),
-            None => Err(OutOfMemory),
+            Some(t) => Some(&t.op),
+            None => None,
         }
     }
 

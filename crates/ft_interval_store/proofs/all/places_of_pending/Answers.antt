@@ -1,4 +1,4 @@
-use Rattle.std.proofs.Common.{◌≤◌, ℕ, List, [], All, map, take, sym, subst}
+use Rattle.std.proofs.Common.{◌≤◌, List, [], All, map, take, sym, subst}
 use Rattle.std.proofs.lemmas.List.{take_all}
 use Rattle.std.proofs.lemmas.List.Elements.{All-nil}
 use Rattle.ft_refs.specs.declared.numbers.Place.{Place}

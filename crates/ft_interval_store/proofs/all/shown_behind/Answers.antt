@@ -3,8 +3,8 @@ use Rattle.std.proofs.Math.ListN.{drop_of_length-le}
 use Rattle.std.proofs.lemmas.Result.{IfOk-weaker}
 use Rattle.ft_interval_store.specs.Ends.{map_ends, places_of_ends}
 use Rattle.ft_interval_store.specs.Intervals.{after_operation}
-use Rattle.ft_interval_store.specs.Shown.{carried, last, settled_end, settled_interval, shown_from, shown_record}
-use Rattle.ft_interval_store.specs.State.{placed_intervals, placed_operations, text_elements}
+use Rattle.ft_interval_store.specs.Shown.{carried, last, settled_end, shown_from, shown_record}
+use Rattle.ft_interval_store.specs.State.{placed_operations, text_elements}
 use Rattle.ft_interval_store.proofs.ShownAll.{carried-all, places-shown, last-all, next-all, records-shown}
 use Rattle.ft_interval_store.proofs.ShownSteps.{next-le, next-live, rest-live, rest-rises}
 use Rattle.ft_interval_store.proofs.all.shown_behind.Goals as goal

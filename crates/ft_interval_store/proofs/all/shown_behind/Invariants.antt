@@ -1,8 +1,8 @@
-use Rattle.std.proofs.Common.{◌≡◌, ◌≤◌, ℕ, List, drop, map}
+use Rattle.std.proofs.Common.{◌≡◌, ◌≤◌, ℕ, List, drop}
 use Rattle.ft_interval_store.specs.declared.intervals.Interval.{Interval}
-use Rattle.ft_interval_store.specs.Shown.{last, settled_interval, shown_from}
+use Rattle.ft_interval_store.specs.Shown.{last, shown_from}
 use Rattle.ft_interval_store.specs.Standing.{ShowsAll}
-use Rattle.ft_interval_store.specs.State.{AreLiveOperations, StagesRise, placed_intervals, placed_operations, text_elements}
+use Rattle.ft_interval_store.specs.State.{AreLiveOperations, StagesRise, placed_operations, text_elements}
 use Rattle.ft_interval_store.proofs.all.shown_behind.Given as goal
 
 -- what the intervals at the present stage show in the end is what those at stage 0 show

@@ -16,7 +16,7 @@ returns-clause-shown c = λ is h.
     let ends = map_ends (settled_end xs k) (places_of_ends c.args.tree.now.refs c.args.t.now.ends) in
     let was = carried xs c.args.from k is in
     let shows = carried-all c.args.tree.now c.args.from k is c.args.all.now c.carry_all.new.all h c.carry_all.ensures in
-    on_ok_weaker c.apply.result
+    on_ok_weaker c.follow.result
     (λ e. subst (λ js. ShowsAll c.args.tree.now k (after_operation op ends was) js) (sym e)
     (after-shown c.args.tree.now k op ends c.settled.result c.settled.ensures was c.carry_all.new.all shows))
-    c.apply.ensures.ok
+    c.follow.ensures.ok

@@ -1,4 +1,4 @@
-use Rattle.std.proofs.Common.{Some, rules, w64, sym, ◌∙◌, ap}
+use Rattle.std.proofs.Common.{Some, rules, w64, ◌∙◌, ap}
 use Rattle.std.proofs.lemmas.Int.{to_z-of_z}
 use Rattle.ft_interval_store.specs.Ends.{place_of_end}
 use Rattle.ft_interval_store.specs.Numbers.{number_or_none}
