@@ -1,6 +1,7 @@
 -- The indexes beside an operation that takes effect: they are out of step with its interval alone, whose ends are within the list.
-use Rattle.std.proofs.Common.{◌≡◌, ℕ, Bool, true, false, List, [], ◌∷◌, Some, Result, Ok, Err, length, refl, sym, ◌∙◌, ap, subst}
-use Rattle.std.specs.Prelude.{OnOk}
+use Rattle.std.proofs.Common.{◌≡◌, ℕ, Bool, true, false, is_some, List, [], ◌∷◌, Option, None, Some, Result, Ok, Err, length, refl, sym, ◌∙◌, ap, subst}
+use Rattle.std.specs.Prelude.{IfSome, OnOk}
+use Rattle.std.specs.Option.{unwrap_or}
 use Rattle.ft_op.specs.declared.operations.TextOp.{TextOp}
 use Rattle.ft_tree_leaves.specs.declared.text.TextContent.{TextContent}
 use Rattle.ft_tree.specs.State.{TreeState}
@@ -9,7 +10,7 @@ use Rattle.ft_interval_store.specs.declared.intervals.Interval.{Interval}
 use Rattle.ft_interval_store.specs.declared.pending.Operation.{Operation}
 use Rattle.ft_interval_store.specs.Ends.{References, map_ends, places_of_ends, slid_end}
 use Rattle.ft_interval_store.specs.Intervals.{NamesRise, after_operation}
-use Rattle.ft_interval_store.specs.State.{CollectionsState, IsAfter, IsAfterFirst, IsLive, KeepsReferences, ends_of_name, first_operation, placed, placed_intervals, text_elements, with_effect, with_first_acked}
+use Rattle.ft_interval_store.specs.State.{AreOwnEnds, CollectionsState, IsAfter, IsAfterFirst, IsLive, KeepsReferences, ends_of_name, first_operation, placed, placed_intervals, text_elements, with_effect, with_first_acked}
 use Rattle.ft_interval.specs.declared.indexes.LabelIndex.{LabelIndex}
 use Rattle.ft_interval.specs.Indexes.{AreEndsWithin, AreListed, ends_but}
 use Rattle.ft_interval.proofs.Listed.{some-is}
@@ -68,6 +69,12 @@ module _ (tree new : TreeState TextContent) (c d : CollectionsState) (op : TextO
             (subst (λ (x : CollectionsState). AreEndsWithin (length (text_elements tree)) tree.refs op x.acked) (sym (misfit e).0)
             (ends-listed (length (text_elements tree)) tree.refs op c.acked idx listed))
 
+-- the ends of its interval are what it told, or where it changed nothing those from before
+pub own-applied : (tree new : TreeState TextContent) (c d : CollectionsState) (op : TextOp) (now : Option (EndPair ℕ)) (had : EndPair ℕ)
+    → IfSome now (AreOwnEnds op d.acked) → (is_some now ≡ false → (d ≡ c) × (new ≡ tree)) → AreOwnEnds op c.acked had → AreOwnEnds op d.acked (unwrap_or now had)
+own-applied tree new c d op None had told misfit own = subst (λ (x : CollectionsState). AreOwnEnds op x.acked had) (sym (misfit refl).0) own
+own-applied tree new c d op (Some ends) had told misfit own = told
+
 -- ---- the first pending operation
 
 -- what it makes of the acknowledged intervals
@@ -94,3 +101,7 @@ module _ (op : TextOp) (g : EndPair ℕ → EndPair ℕ) (before after : Referen
 pub takes-first : (op : TextOp) (g : EndPair ℕ → EndPair ℕ) (before after : References) (c d : CollectionsState) → first_operation c.pending ≡ Some op
     → IsAfterFirst c.pending c.acked d.acked → placed after d ≡ with_first_acked g (placed before c) → TakesFirst op g before after c.acked d.acked
 takes-first op g before after c d h a e = takes-of op g before after c.acked d c.pending h a e
+
+-- it is one alone
+pub same-first : (ts : List Operation) (a b : TextOp) → first_operation ts ≡ Some a → first_operation ts ≡ Some b → a ≡ b
+same-first ts a b p q = some-is (sym p ∙ q)

@@ -179,9 +179,11 @@ impl Collections {
     {
         // That names rise is read off its contract.
         let _first = self.store.first_stage();
-        unlist_changed(&mut self.indexes, &self.store, tree, op);
-        let fits = self.store.apply(tree, op, at)?;
-        let Ok(()) = enlist_changed(&mut self.indexes, &self.store, tree, op) else {
+        let had = unlist_changed(&mut self.indexes, &self.store, tree, op);
+        let now = self.store.apply(tree, op, at)?;
+        let fits = now.is_some();
+        let ends = now.unwrap_or(had);
+        let Ok(()) = enlist_changed(&mut self.indexes, &self.store, tree, op, ends) else {
             tree.spoil();
             return Err(OutOfMemory);
         };
@@ -205,13 +207,14 @@ impl Collections {
     {
         // That names rise is read off its contract.
         let _first = self.store.first_stage();
-        let Ok(op) = self.store.first_operation() else {
+        let Some(op) = self.store.first_operation() else {
             tree.spoil();
             return Err(OutOfMemory);
         };
-        unlist_changed(&mut self.indexes, &self.store, tree, &op);
-        self.store.ack(tree, stage)?;
-        let Ok(()) = enlist_changed(&mut self.indexes, &self.store, tree, &op) else {
+        let _had = unlist_changed(&mut self.indexes, &self.store, tree, op);
+        let acked = self.store.ack(tree, stage)?;
+        let Ok(()) = enlist_changed(&mut self.indexes, &self.store, tree, &acked.op, acked.ends)
+        else {
             tree.spoil();
             return Err(OutOfMemory);
         };

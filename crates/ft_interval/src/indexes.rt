@@ -168,11 +168,11 @@ pub fn unlist(
     indexes: &mut Vec<LabelIndex>,
     tree: &Tree<TextContent>,
     label: &Text,
-    ends: EndPair<RefId>,
+    ends: &EndPair<RefId>,
 )
     requires known { AreKnown (IsPlaced tree.now) (list_in (index_of label.now indexes.old.items)).items }
     requires order { IsInOrder (list_place tree.now.refs) (list_in (index_of label.now indexes.old.items)) }
-    ensures label { Unlists tree.now.refs ends (index_of label.now indexes.old.items) (index_of label.now indexes.new.items) }
+    ensures label { Unlists tree.now.refs ends.now (index_of label.now indexes.old.items) (index_of label.now indexes.new.items) }
     ensures others { KeepsOtherLabels label.now indexes.old.items indexes.new.items }
 {
     let Some(start) = ends.start else {

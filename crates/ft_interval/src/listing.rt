@@ -2,92 +2,104 @@
 
 ghost use Rattle.std.specs.Prelude.{◌≡◌, ℕ, IsTrue, OnOk, length};
 ghost use Rattle.ft_interval.specs.Indexes.{AreEndsWithin, AreListed, AreNamedEndsWithin, ends_but, ends_without};
-ghost use Rattle.ft_interval_store.specs.State.{IsLive, ends_of_name, text_elements};
+ghost use Rattle.ft_interval_store.specs.State.{AreOwnEnds, IsLive, ends_of_name, text_elements};
 
 use crate::indexes::{LabelIndex, enlist, unlist};
 use ft_base::{OutOfMemory, Text};
 use ft_interval_store::Store;
+use ft_interval_store::intervals::EndPair;
 use ft_op::TextOp;
+use ft_refs::RefId;
 use ft_tree::{TextContent, Tree};
 
-// Takes the interval of that label and id out of the index of its label.
+// Takes the interval of that label and id out of the index of its label, and returns its ends.
 fn unlist_named(
     indexes: &mut Vec<LabelIndex>,
     store: &Store,
     tree: &Tree<TextContent>,
     label: &Text,
     id: &Text,
-)
+) -> EndPair<RefId>
     requires usable { IsTrue tree.now.usable }
     requires live { IsLive tree.now.refs store.now }
     requires listed { AreListed (length (text_elements tree.now)) tree.now.refs (λ n. ends_of_name n store.now.acked) indexes.old.items }
-    ensures { AreListed (length (text_elements tree.now)) tree.now.refs (ends_without (label.now, id.now) store.now.acked) indexes.new.items }
+    ensures listed { AreListed (length (text_elements tree.now)) tree.now.refs (ends_without (label.now, id.now) store.now.acked) indexes.new.items }
+    ensures ends { result ≡ ends_of_name (label.now, id.now) store.now.acked }
 {
     // That no end is kept twice, and that there are few elements, is read off their contracts.
     let _first = store.first_stage();
     let _made = tree.made();
     let ends = store.ends(label, id);
-    unlist(indexes, tree, label, ends);
+    unlist(indexes, tree, label, &ends);
+    ends
 }
 
-// Puts the interval of that label and id into the index of its label, if it is there with both ends attached.
+// Puts the interval of that label and id, which has these ends, into the index of its label, if both are attached.
 fn enlist_named(
     indexes: &mut Vec<LabelIndex>,
     store: &Store,
     tree: &Tree<TextContent>,
     label: &Text,
     id: &Text,
+    ends: EndPair<RefId>,
 ) -> Result<(), OutOfMemory>
     requires usable { IsTrue tree.now.usable }
     requires live { IsLive tree.now.refs store.now }
     requires listed { AreListed (length (text_elements tree.now)) tree.now.refs (ends_without (label.now, id.now) store.now.acked) indexes.old.items }
     requires within { AreNamedEndsWithin (length (text_elements tree.now)) tree.now.refs (label.now, id.now) store.now.acked }
+    requires ends { ends ≡ ends_of_name (label.now, id.now) store.now.acked }
     ensures { OnOk result (AreListed (length (text_elements tree.now)) tree.now.refs (λ n. ends_of_name n store.now.acked) indexes.new.items) }
 {
     let _first = store.first_stage();
     let _made = tree.made();
-    let ends = store.ends(label, id);
     enlist(indexes, tree, label, id, ends)
 }
 
-/// Takes the interval that the operation is on out of the index of its label.
+/// Takes the interval that the operation is on out of the index of its label, and returns its ends, none where it isn't there.
 pub fn unlist_changed(
     indexes: &mut Vec<LabelIndex>,
     store: &Store,
     tree: &Tree<TextContent>,
     op: &TextOp,
-)
+) -> EndPair<RefId>
     requires usable { IsTrue tree.now.usable }
     requires live { IsLive tree.now.refs store.now }
     requires listed { AreListed (length (text_elements tree.now)) tree.now.refs (λ n. ends_of_name n store.now.acked) indexes.old.items }
-    ensures { AreListed (length (text_elements tree.now)) tree.now.refs (ends_but op.now store.now.acked) indexes.new.items }
+    ensures listed { AreListed (length (text_elements tree.now)) tree.now.refs (ends_but op.now store.now.acked) indexes.new.items }
+    ensures ends { AreOwnEnds op.now store.now.acked result }
 {
     match op {
         TextOp::IntervalAdd { label, id, .. } => unlist_named(indexes, store, tree, label, id),
         TextOp::IntervalChange { label, id, .. } => unlist_named(indexes, store, tree, label, id),
         TextOp::IntervalDelete { label, id } => unlist_named(indexes, store, tree, label, id),
-        TextOp::One(_) => {}
-        TextOp::Group(_) => {}
+        TextOp::One(_) => EndPair::none(),
+        TextOp::Group(_) => EndPair::none(),
     }
 }
 
-/// Puts the interval that the operation is on into the index of its label, if it is there with both ends attached.
+/// Puts the interval that the operation is on, which has these ends, into the index of its label, if both are attached.
 pub fn enlist_changed(
     indexes: &mut Vec<LabelIndex>,
     store: &Store,
     tree: &Tree<TextContent>,
     op: &TextOp,
+    ends: EndPair<RefId>,
 ) -> Result<(), OutOfMemory>
     requires usable { IsTrue tree.now.usable }
     requires live { IsLive tree.now.refs store.now }
     requires listed { AreListed (length (text_elements tree.now)) tree.now.refs (ends_but op.now store.now.acked) indexes.old.items }
     requires within { AreEndsWithin (length (text_elements tree.now)) tree.now.refs op.now store.now.acked }
+    requires ends { AreOwnEnds op.now store.now.acked ends }
     ensures { OnOk result (AreListed (length (text_elements tree.now)) tree.now.refs (λ n. ends_of_name n store.now.acked) indexes.new.items) }
 {
     match op {
-        TextOp::IntervalAdd { label, id, .. } => enlist_named(indexes, store, tree, label, id),
-        TextOp::IntervalChange { label, id, .. } => enlist_named(indexes, store, tree, label, id),
-        TextOp::IntervalDelete { label, id } => enlist_named(indexes, store, tree, label, id),
+        TextOp::IntervalAdd { label, id, .. } => enlist_named(
+            indexes, store, tree, label, id, ends,
+        ),
+        TextOp::IntervalChange { label, id, .. } => enlist_named(
+            indexes, store, tree, label, id, ends,
+        ),
+        TextOp::IntervalDelete { label, id } => enlist_named(indexes, store, tree, label, id, ends),
         TextOp::One(_) => Ok(()),
         TextOp::Group(_) => Ok(()),
     }

@@ -16,7 +16,7 @@ returns-in_default-label_place-clause-label c =
     let xs = c.args.indexes.now.items in
     let p : LabelIndex → Bool = λ (x : LabelIndex). is_eq (text_cmp label x.label) in
     let none : position p xs ≡ None = ap (position p) (sym c.deref.ensures.value) ∙ sym c.label_place.ensures ∙ c.in_default-label_place.is in
-    none-unlists c.args.tree.now.refs c.args.ends (index_of label xs) (label-none label xs none)
+    none-unlists c.args.tree.now.refs c.args.ends.now (index_of label xs) (label-none label xs none)
 
 pub take_item-requires-clause-known : goal.take_item-requires-clause-known
 take_item-requires-clause-known c =
@@ -49,7 +49,7 @@ returns-clause-label c =
     let now : List LabelIndex = set xs c.in-Some-label_place.i v in
     let taken : TakesItem refs c.in-Some.start (Some c.index_mut.result.now) (Some v) =
     subst (λ (s : ℕ). TakesItem refs s (Some c.index_mut.result.now) (Some v)) c.start.view_is c.take_item.ensures.takes in
-    unlists-by refs c.args.ends c.in-Some.start (index_of label xs) (index_of label now) c.in-Some.is
+    unlists-by refs c.args.ends.now c.in-Some.start (index_of label xs) (index_of label now) c.in-Some.is
     (subst (λ x. TakesItem refs c.in-Some.start x (index_of label now)) (sym old) (subst (λ y. TakesItem refs c.in-Some.start (Some c.index_mut.result.now) y) (sym new) taken))
 
 pub returns-clause-others : goal.returns-clause-others

@@ -17,6 +17,11 @@ enlist_named-requires-clause-within c =
     let n : Name = (c.in-IntervalAdd.label, c.in-IntervalAdd.id) in
     c.requires.within n (ap (is_on n) c.in-IntervalAdd.is ∙ ap is_eq (name_cmp-self n))
 
+pub enlist_named-requires-clause-ends : goal.enlist_named-requires-clause-ends
+enlist_named-requires-clause-ends c =
+    let n : Name = (c.in-IntervalAdd.label, c.in-IntervalAdd.id) in
+    c.requires.ends n (ap (is_on n) c.in-IntervalAdd.is ∙ ap is_eq (name_cmp-self n))
+
 pub enlist_named-requires-in-IntervalChange-clause-listed : goal.enlist_named-requires-in-IntervalChange-clause-listed
 enlist_named-requires-in-IntervalChange-clause-listed c =
     let tree = c.args.tree.now in
@@ -27,6 +32,11 @@ enlist_named-requires-in-IntervalChange-clause-within c =
     let n : Name = (c.in-IntervalChange.label, c.in-IntervalChange.id) in
     c.requires.within n (ap (is_on n) c.in-IntervalChange.is ∙ ap is_eq (name_cmp-self n))
 
+pub enlist_named-requires-in-IntervalChange-clause-ends : goal.enlist_named-requires-in-IntervalChange-clause-ends
+enlist_named-requires-in-IntervalChange-clause-ends c =
+    let n : Name = (c.in-IntervalChange.label, c.in-IntervalChange.id) in
+    c.requires.ends n (ap (is_on n) c.in-IntervalChange.is ∙ ap is_eq (name_cmp-self n))
+
 pub enlist_named-requires-in-IntervalDelete-clause-listed : goal.enlist_named-requires-in-IntervalDelete-clause-listed
 enlist_named-requires-in-IntervalDelete-clause-listed c =
     let tree = c.args.tree.now in
@@ -36,6 +46,11 @@ pub enlist_named-requires-in-IntervalDelete-clause-within : goal.enlist_named-re
 enlist_named-requires-in-IntervalDelete-clause-within c =
     let n : Name = (c.in-IntervalDelete.label, c.in-IntervalDelete.id) in
     c.requires.within n (ap (is_on n) c.in-IntervalDelete.is ∙ ap is_eq (name_cmp-self n))
+
+pub enlist_named-requires-in-IntervalDelete-clause-ends : goal.enlist_named-requires-in-IntervalDelete-clause-ends
+enlist_named-requires-in-IntervalDelete-clause-ends c =
+    let n : Name = (c.in-IntervalDelete.label, c.in-IntervalDelete.id) in
+    c.requires.ends n (ap (is_on n) c.in-IntervalDelete.is ∙ ap is_eq (name_cmp-self n))
 
 pub returns-in-One : goal.returns-in-One
 returns-in-One c =

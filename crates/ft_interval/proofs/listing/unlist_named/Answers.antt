@@ -18,8 +18,8 @@ unlist-requires-clause-known c =
 pub unlist-requires-clause-order : goal.unlist-requires-clause-order
 unlist-requires-clause-order c = (c.requires.listed c.args.label.now).order
 
-pub returns : goal.returns
-returns c =
+pub returns-clause-listed : goal.returns-clause-listed
+returns-clause-listed c =
     let tree = c.args.tree.now in
     let label = c.args.label.now in
     let is = c.args.store.now.acked in
