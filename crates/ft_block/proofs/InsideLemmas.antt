@@ -1,5 +1,5 @@
 -- What the fields of `Blocks` say of the value that callers see.
-use Rattle.std.proofs.Common.{All, ◌≡◌, ◌≢◌, ℕ, ◌+◌, ◌^◌, ◌<◌, ◌≤◌, List, length, Option, Some, None, IsSome, IsSomeAnd, IsTrue, sym, ap, subst, ◌∙◌, arith, eqb, ◌∷◌, [], refl}
+use Rattle.std.proofs.Common.{All, ◌≡◌, ◌≢◌, ℕ, ◌+◌, ◌^◌, ◌<◌, ◌≤◌, List, length, nat_lt, Option, Some, None, IsSome, IsSomeAnd, IsTrue, sym, ap, subst, ◌∙◌, arith, eqb, ◌∷◌, [], refl}
 use Rattle.std.proofs.lemmas.Bool.{cond-false, ne_eqb}
 use Rattle.std.proofs.lemmas.List.Elements.{All-nil, All-cons}
 use Rattle.ft_base.specs.declared.elements.Element.{Element}
@@ -103,6 +103,18 @@ module _ {L Change : Type 0} (size : L → ℕ) (element : L → Element) (a : I
   in_position measure id =
       ap (λ ps. length_by measure.leaf (left_of ps id)) in_leaves ∙ ap (length_by measure.leaf) (left_of-pairs a.arena a.arena.leaves id in_live)
       ∙ length_by-pairs measure a.arena (numbers_before a.arena.leaves id) (λ x m. in_live x (omega (arith, m, times-before_le a.arena.leaves id x)))
+
+  -- as many leaves stand before a leaf as nodes before its node
+  in_left : (id : ℕ) → length (left_of v.leaves id) ≡ length (numbers_before a.arena.leaves id)
+  in_left id =
+      ap (λ ps. length (left_of ps id)) in_leaves ∙ ap length (left_of-pairs a.arena a.arena.leaves id in_live)
+      ∙ length-pairs a.arena (numbers_before a.arena.leaves id) (λ x m. in_live x (omega (arith, m, times-before_le a.arena.leaves id x)))
+
+  -- one leaf stands before another as its node does
+  pub in_before : (x y : ℕ) → nat_lt (length (left_of v.leaves x)) (length (left_of v.leaves y))
+      ≡ nat_lt (length (numbers_before a.arena.leaves x)) (length (numbers_before a.arena.leaves y))
+  in_before x y =
+      ap (λ (n : ℕ). nat_lt n (length (left_of v.leaves y))) (in_left x) ∙ ap (λ (n : ℕ). nat_lt (length (numbers_before a.arena.leaves x)) n) (in_left y)
 
   pub in_found : (measure : Measure L Summary) (p x q : ℕ) → 1 ≤ p → seek (length_of measure a.arena) a.arena.leaves p ≡ Some (x, q)
       → place_by measure.leaf v.leaves p ≡ Some record { leaf = Some x; offset = q }

@@ -9,3 +9,4 @@ pub mod InsideLemmas
 pub mod CallerLemmas
 pub mod Floors
 pub mod NearerEnd
+pub mod OrderLemmas

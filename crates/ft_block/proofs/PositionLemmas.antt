@@ -50,7 +50,7 @@ before-append_out (z ∷ zs) ys x m =
     before_later z (zs ++ ys) x d ∙ ap (λ ws. z ∷ ws) (before-append_out zs ys x (omega arith))
 
 -- before a child on its level stand the children of the blocks before its block, then those before it in its block
-before-flat_map : (k : ℕ → List ℕ) (xs : List ℕ) (p x : ℕ) → 1 ≤ times xs p → 1 ≤ times (k p) x → ((y : ℕ) → y ≢ p → times (k y) x ≡ 0)
+pub before-flat_map : (k : ℕ → List ℕ) (xs : List ℕ) (p x : ℕ) → 1 ≤ times xs p → 1 ≤ times (k p) x → ((y : ℕ) → y ≢ p → times (k y) x ≡ 0)
     → numbers_before (flat_map k xs) x ≡ flat_map k (numbers_before xs p) ++ numbers_before (k p) x
 before-flat_map k [] p x m n o = absurd (omega arith)
 before-flat_map k (y ∷ ys) p x m n o = elim (cases_eq y p) [

@@ -1,12 +1,12 @@
 //! The tree as its callers see it: leaves in order, each under the number of its node.
 
-ghost use Rattle.std.specs.Prelude.{◌≡◌, ◌≢◌, ℕ, ◌+◌, ◌*◌, ◌^◌, ◌<◌, ◌≤◌, Some, IsTrue, IfOk, IfErr, OnOk, OnErr, MatchOption, All, IsSomeAnd, true, false, length, []};
+ghost use Rattle.std.specs.Prelude.{◌≡◌, ◌≢◌, ℕ, ◌+◌, ◌*◌, ◌^◌, ◌<◌, ◌≤◌, Some, IsTrue, IfOk, IfErr, OnOk, OnErr, MatchOption, All, IsSomeAnd, true, false, length, nat_lt, []};
 ghost use Rattle.ft_arena.specs.Ids.{first, after};
 
 use crate::change::change_in;
 use crate::counted::{
-    find_in_stage, insert_in, join_in, leaf_in, length_in, move_in, position_in, set_stamps_in,
-    split_in, take_in,
+    find_in_stage, insert_in, is_before_in, join_in, leaf_in, length_in, move_in, position_in,
+    set_stamps_in, split_in, take_in,
 };
 use crate::find::find_from;
 use crate::leaves::{Leaf, LenView, View};
@@ -309,6 +309,19 @@ impl<L: Leaf> Blocks<L> {
             view,
             Blank::new(1),
         )
+    }
+
+    /// Whether the first leaf stands before the second.
+    ///
+    /// It goes up from both to the nearest block above both: it reads one block of each level for each of the two, and of
+    /// these only the last one's children.
+    pub fn is_before(&self, first: NodeId, second: NodeId) -> bool
+        requires usable { IsTrue self.now.usable }
+        requires first { IsLeafIn self.now.leaves first }
+        requires second { IsLeafIn self.now.leaves second }
+        ensures { result ≡ nat_lt (length (left_of self.now.leaves first)) (length (left_of self.now.leaves second)) }
+    {
+        is_before_in::<L, Brand>(&self.arena, self.root, first, second, Blank::new(1))
     }
 
     /// How many elements the view sees.

@@ -1,6 +1,6 @@
 //! The calls that are given no counter of steps: each makes one of its own.
 
-ghost use Rattle.std.specs.Prelude.{◌≡◌, ◌≢◌, ◌+◌, ◌^◌, ◌<◌, ◌≤◌, Some, IsSome, IsSomeAnd, IsTrue, IfOk, IfErr, OnOk};
+ghost use Rattle.std.specs.Prelude.{◌≡◌, ◌≢◌, ◌+◌, ◌^◌, ◌<◌, ◌≤◌, Some, IsSome, IsSomeAnd, IsTrue, IfOk, IfErr, OnOk, length, nat_lt};
 ghost use Rattle.ft_arena.specs.Forest.{IsPlace, leaf_value};
 ghost use Rattle.ft_arena.specs.Ids.{put_after};
 ghost use Rattle.ft_shape.specs.Tree.{length_of, total, numbers_before, seek};
@@ -9,12 +9,13 @@ ghost use Rattle.ft_shape.specs.Steps.{InsertsLeaf, SplitsLeaf, ChangesLeaf, Tak
 ghost use Rattle.ft_block.specs.declared.leaves.LenView.TheVariants.{Stage};
 ghost use Rattle.ft_block.specs.declared.leaves.View.TheVariants.{Of};
 ghost use Rattle.ft_block.specs.Leaves.{IsFromFloor};
-ghost use Rattle.ft_block.specs.Inside.{IsSound};
+ghost use Rattle.ft_block.specs.Inside.{IsRooted, IsSound};
 
 use crate::change::{join_at, set_stamps_at, split_at};
 use crate::find::find_from;
 use crate::grow::{insert_at, insert_first, insert_front};
 use crate::leaves::{Leaf, LenView, View, kept_view};
+use crate::order::is_leaf_before;
 use crate::position::{kept_before, kept_in_all, leaf_at};
 use crate::shrink::{move_at, stands_there, take_at};
 use crate::summaries::Summary;
@@ -64,6 +65,29 @@ pub(crate) fn position_in<L: Leaf, G: Ledger>(
     let root = NodeId(root);
     let view = kept_view(view, floor);
     kept_before(arena, root, leaf, floor, view, &mut steps)
+}
+
+// Whether the first of two leaves stands before the second.
+pub(crate) fn is_before_in<L: Leaf, G: Ledger>(
+    arena: &Arena<L, Headed<Summary>>,
+    root: Option<usize>,
+    first: NodeId,
+    second: NodeId,
+    blank: Blank,
+) -> bool
+    requires name { blank.name ≡ G.name }
+    requires parts { blank.parts ≡ G.parts }
+    requires one { 0 < blank.parts }
+    requires rooted { IsRooted arena.now root }
+    requires first { IsSome (leaf_value arena.now first) }
+    requires second { IsSome (leaf_value arena.now second) }
+    ensures { result ≡ nat_lt (length (numbers_before arena.now.leaves first)) (length (numbers_before arena.now.leaves second)) }
+{
+    let mut steps = Steps::<G>::new(blank);
+    let Some(root) = root else {
+        unreachable!();
+    };
+    is_leaf_before(arena, NodeId(root), first, second, &mut steps)
 }
 
 // The length of all leaves in a view.

@@ -11,6 +11,7 @@ mod counted;
 mod find;
 mod grow;
 pub mod leaves;
+mod order;
 mod position;
 mod refresh;
 mod shrink;
