@@ -205,13 +205,13 @@ pub fn is_half_old(entries: &[Entry], floor: u64) -> bool
 }
 
 /// Takes out the entries up to the floor, which nobody counts from there on, and those of nothing, and gives
-/// back room where most is spare then.
+/// back room where most is spare then; that of a few stays, since a list that was filled once is filled again.
 pub fn drop_old(entries: &mut Vec<Entry>, floor: u64)
     requires { IsRising entries.old.items }
     ensures { DropsOld entries.old.items entries.new.items floor }
 {
     entries.retain(|x| x.seq > floor && x.by != 0);
-    entries.shrink_to(entries.len().saturating_mul(2));
+    entries.shrink_to(entries.len().saturating_mul(2).max(FEW));
 }
 
 /// Takes out the entries of nothing, once the last one is of nothing or there is no more room.
