@@ -1,9 +1,7 @@
 -- The lists that the summary of an idle client gives are those of its trimmed document, but for names.
-use Rattle.std.proofs.Common.{◌≡◌, ℕ, zero, suc, ◌+◌, Bool, true, false, cond, not, ◌&&◌, nat_eq, nat_le, List, [], ◌∷◌, ◌++◌, append_assoc, add-one, ◌%◌, ◌==◌, bytes_eq, map, flat_map, length, replicate, Option, Some, None, refl, sym, ◌∙◌, ap, arith}
+use Rattle.std.proofs.Common.{◌≡◌, ℕ, zero, suc, ◌+◌, Bool, true, false, cond, not, ◌&&◌, nat_le, List, [], ◌∷◌, ◌++◌, append_assoc, add-one, ◌%◌, ◌==◌, map, flat_map, length, replicate, Option, Some, None, refl, sym, ◌∙◌, ap}
 use Rattle.std.specs.List.{list_all}
 use Rattle.std.proofs.lemmas.List.{map-append}
-use Rattle.std.proofs.lemmas.Bool.Decides.{nat_tests}
-use Rattle.std.proofs.lemmas.Slice.Eq.{bytes_eq-Decides}
 use Rattle.ft_base.proofs.Booleans.{all_four, all_three, both}
 use Rattle.ft_base.specs.declared.stamps.Stamp.{Stamp}
 use Rattle.ft_base.specs.declared.stamps.Stamp.TheVariants.{Acked, Local}
@@ -33,12 +31,12 @@ use Rattle.ft_msg.specs.declared.messages.Entry.{Entry}
 use Rattle.ft_msg.specs.Agreed.{agreed, body_effect, reference_number, take_entries, take_entry}
 use Rattle.ft_msg.specs.Summary.{trim}
 use Rattle.ft_laws_agreement.proofs.HeldNames.{all-append, all-put, all-range}
-use Rattle.ft_op.specs.Same.{same_list}
 use Rattle.ft_msg.specs.Summary.{run_items, segment_bodies, segment_items, stamp_of}
 use Rattle.ft_sumdoc.specs.Chunks.{chunk_length}
 use Rattle.ft_sumdoc.specs.Stamps.{same_mark}
 use Rattle.ft_sumdoc.specs.WellFormed.{same_props, same_stamps}
 use Rattle.ft_msg.specs.SummaryOf.{author_mark, element_body, extended_unit_runs, extended_segments, mark_of, segment_of, segments_from, unit_runs}
+use Rattle.ft_msg.proofs.SameStamps.{same_mark-Decides, same_props-Decides, stamps_are_same}
 
 -- ---- what segments hold
 
@@ -64,35 +62,6 @@ segments-hold n (s ∷ segs) =
     (new-bare n (stamp_of s.ins) (map stamp_of s.dels) (Some (stamp_of s.by)) s.props (segment_bodies s.body))
     ∙ ap (λ es. held_by s ++ es) (segments-hold (n + length (segment_bodies s.body)) segs))
 
--- equal marks and properties
-marks-same : (a b : Mark) → same_mark a b ≡ true → a ≡ b
-marks-same a b h =
-    let p = both (nat_eq a.seq b.seq) (nat_eq a.conn b.conn) h in
-    let s : a.seq ≡ b.seq = number a.seq b.seq p.0 in
-    let c : a.conn ≡ b.conn = number a.conn b.conn p.1 in
-    ap (λ (i : ℕ). record a { seq = i }) s ∙ ap (λ (i : ℕ). record b { conn = i }) c
-  where
-    number : (m n : ℕ) → nat_eq m n ≡ true → m ≡ n
-    number m n e = grind (arith, nat_tests)
-
-pub all-marks-same : (us vs : List Mark) → same_list same_mark us vs ≡ true → us ≡ vs
-all-marks-same [] [] h = refl
-all-marks-same [] (b ∷ vs) h = (cc)
-all-marks-same (a ∷ us) [] h = (cc)
-all-marks-same (a ∷ us) (b ∷ vs) h =
-    let p = both (same_mark a b) (same_list same_mark us vs) h in
-    ap (λ m. m ∷ us) (marks-same a b p.0) ∙ ap (λ ms. b ∷ ms) (all-marks-same us vs p.1)
-
-props-same : (ps qs : PropertyList) → same_props ps qs ≡ true → ps ≡ qs
-props-same [] [] h = refl
-props-same [] (q ∷ qs) h = (cc)
-props-same (p ∷ ps) [] h = (cc)
-props-same ((k, v) ∷ ps) ((l, w) ∷ qs) h =
-    let p = both (bytes_eq k l && bytes_eq v w) (same_props ps qs) h in
-    let e = both (bytes_eq k l) (bytes_eq v w) p.0 in
-    ap (λ (i : List ℕ). (i, v) ∷ ps) ((bytes_eq-Decides k l).0 e.0) ∙ (ap (λ (i : List ℕ). (l, i) ∷ ps) ((bytes_eq-Decides v w).0 e.1)
-    ∙ ap (λ rest. (l, w) ∷ rest) (props-same ps qs p.1))
-
 -- whether two segments differ in nothing but what they hold
 abbrev alike_beside : SegRec → SegRec → Bool
 alike_beside a b = same_props a.props b.props && same_mark a.by b.by && same_stamps a.ins a.dels b.ins b.dels
@@ -101,15 +70,13 @@ alike_beside a b = same_props a.props b.props && same_mark a.by b.by && same_sta
 alike-hold : (a b : SegRec) (c : Seg) → alike_beside a b ≡ true → held_by (record a { body = c }) ≡ held_by (record b { body = c })
 alike-hold a b c h =
     let p = all_three (same_props a.props b.props) (same_mark a.by b.by) (same_stamps a.ins a.dels b.ins b.dels) h in
-    let q = both (same_mark a.ins b.ins) (same_list same_mark a.dels b.dels) p.2 in
-    let props = props-same a.props b.props p.0 in
-    let by = marks-same a.by b.by p.1 in
-    let ins = marks-same a.ins b.ins q.0 in
-    let dels = all-marks-same a.dels b.dels q.1 in
+    let stamps = stamps_are_same a.ins b.ins a.dels b.dels p.2 in
+    let props = (same_props-Decides a.props b.props).0 p.0 in
+    let by = (same_mark-Decides a.by b.by).0 p.1 in
     ap (λ (z : PropertyList). held_by (record { body = c; props = z; by = a.by; ins = a.ins; dels = a.dels })) props
     ∙ (ap (λ (z : Mark). held_by (record { body = c; props = b.props; by = z; ins = a.ins; dels = a.dels })) by
-    ∙ (ap (λ (z : Mark). held_by (record { body = c; props = b.props; by = b.by; ins = z; dels = a.dels })) ins
-    ∙ ap (λ (z : List Mark). held_by (record { body = c; props = b.props; by = b.by; ins = b.ins; dels = z })) dels))
+    ∙ (ap (λ (z : Mark). held_by (record { body = c; props = b.props; by = b.by; ins = z; dels = a.dels })) stamps.0
+    ∙ ap (λ (z : List Mark). held_by (record { body = c; props = b.props; by = b.by; ins = b.ins; dels = z })) stamps.1))
 
 -- a segment put before others adds what it holds
 extended-hold : (ends : Bool) (s : SegRec) (segs : List SegRec) → flat_map held_by (extended_segments ends s segs) ≡ held_by s ++ flat_map held_by segs
@@ -244,10 +211,10 @@ extended-units ins dels (r ∷ runs) = by (same_stamps ins dels r.ins r.dels) re
         ≡ unit ins dels ∷ (units_of r ++ flat_map units_of runs)
     by false e = refl
     by true e =
-        let p = both (same_mark ins r.ins) (same_list same_mark dels r.dels) e in
+        let p = stamps_are_same ins r.ins dels r.dels e in
         ap (λ es. es ++ flat_map units_of runs) (more-units r)
-        ∙ (ap (λ (m : Mark). unit m r.dels ∷ (units_of r ++ flat_map units_of runs)) (sym (marks-same ins r.ins p.0))
-        ∙ ap (λ (ms : List Mark). unit ins ms ∷ (units_of r ++ flat_map units_of runs)) (sym (all-marks-same dels r.dels p.1)))
+        ∙ (ap (λ (m : Mark). unit m r.dels ∷ (units_of r ++ flat_map units_of runs)) (sym p.0)
+        ∙ ap (λ (ms : List Mark). unit ins ms ∷ (units_of r ++ flat_map units_of runs)) (sym p.1))
 
 plain-unit : (e : ListElement) → is_plain_unit e ≡ true → unit (mark_of e.ins) (map mark_of e.dels) ≡ nameless e
 plain-unit e h =

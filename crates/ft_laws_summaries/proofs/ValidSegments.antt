@@ -10,7 +10,6 @@ use Rattle.ft_base.specs.Scan.{len, one_more_if, retain_map}
 use Rattle.ft_base.specs.Visibility.{is_acked}
 use Rattle.ft_props.specs.Compaction.{has_collectable_removal, is_collectable, is_insertion_at_or_below, trim_element, with_universal_insertion}
 use Rattle.ft_props.specs.Element.{ListElement, is_unremoved, removal_stamp}
-use Rattle.ft_op.specs.Same.{same_list}
 use Rattle.ft_sumdoc.specs.declared.summary.Mark.{Mark}
 use Rattle.ft_sumdoc.specs.declared.summary.RunRec.{RunRec}
 use Rattle.ft_sumdoc.specs.declared.summary.Seg.{Seg}
@@ -23,9 +22,10 @@ use Rattle.ft_sumdoc.specs.Stamps.{Bounds, is_old, is_recent, is_universal, remo
 use Rattle.ft_sumdoc.specs.Valid.{HasValues, IsSegment, are_stamps, is_author, is_segment_body, is_run}
 use Rattle.ft_sumdoc.specs.WellFormed.{are_alike, are_characters, same_props, same_stamps}
 use Rattle.ft_msg.specs.SummaryOf.{author_mark, element_body, extended_unit_runs, extended_segments, joined_bodies, mark_of, segment_of, segments_from, unit_runs}
+use Rattle.ft_msg.proofs.SameStamps.{stamps_are_same}
 use Rattle.ft_laws_agreement.specs.Sequencing.{Each}
 use Rattle.ft_laws_summaries.proofs.SummaryCuts.{one-element}
-use Rattle.ft_laws_summaries.proofs.SummaryLists.{all-marks-same, is_authored, is_empty, is_none, is_of_text, is_plain, is_plain_unit, is_settled}
+use Rattle.ft_laws_summaries.proofs.SummaryLists.{is_authored, is_empty, is_none, is_of_text, is_plain, is_plain_unit, is_settled}
 use Rattle.ft_laws_summaries.proofs.ValidDocuments.{HasAuthor, IsValidText, is_old_author, old, own}
 use Rattle.ft_laws_summaries.proofs.ValidElements.{IsDated, is_dated, is_dated_insertion}
 
@@ -244,7 +244,7 @@ alike-unremoved : (s next : SegRec) → are_alike s next ≡ true
     → unless_removed next.dels (body_length (joined_bodies s.body next.body)) ≡ unless_removed s.dels (body_length s.body) + unless_removed next.dels (body_length next.body)
 alike-unremoved s next h =
     let p = all_four (are_characters s.body next.body) (same_props s.props next.props) (same_mark s.by next.by) (same_stamps s.ins s.dels next.ins next.dels) h in
-    let same = all-marks-same s.dels next.dels (both (same_mark s.ins next.ins) (same_list same_mark s.dels next.dels) p.3).1 in
+    let same = (stamps_are_same s.ins next.ins s.dels next.dels p.3).1 in
     ap (unless_removed next.dels) (alike-length s next h)
     ∙ (unless-adds next.dels (body_length s.body) (body_length next.body)
     ∙ ap (λ ms. unless_removed ms (body_length s.body) + unless_removed next.dels (body_length next.body)) (sym same))
@@ -350,7 +350,7 @@ extended-units ins dels (run ∷ runs) = by (same_stamps ins dels run.ins run.de
         → unremoved_units (cond t (record run { count = run.count + 1 } ∷ runs) (record { count = 1; ins = ins; dels = dels } ∷ run ∷ runs))
         ≡ unless_removed dels 1 + (unless_removed run.dels run.count + unremoved_units runs)
     by true e =
-        let same = all-marks-same dels run.dels (both (same_mark ins run.ins) (same_list same_mark dels run.dels) e).1 in
+        let same = (stamps_are_same ins run.ins dels run.dels e).1 in
         let more = unless-adds run.dels run.count 1 in
         let one = ap (λ ms. unless_removed ms 1) same in
         omega (arith, more, one)

@@ -19,8 +19,9 @@ use Rattle.ft_op.specs.Cells.{Cell, cell_value, is_cell, is_null}
 use Rattle.ft_op.specs.Document.{Document}
 use Rattle.ft_msg.specs.Content.{all_cells, shown, stage_view}
 use Rattle.ft_msg.specs.Summary.{trim}
-use Rattle.ft_msg.specs.SummaryOf.{extended_unit_runs, mark_of, unit_runs}
-use Rattle.ft_sumdoc.specs.declared.summary.Mark.{Mark}
+use Rattle.ft_msg.specs.JoinedRuns.{with_run}
+use Rattle.ft_msg.specs.SummaryOf.{mark_of, unit_runs}
+use Rattle.ft_msg.proofs.JoinedRuns.{extended-with}
 use Rattle.ft_sumdoc.specs.declared.summary.RunRec.{RunRec}
 use Rattle.ft_sumdoc.specs.declared.summary.CellRec.{CellRec}
 use Rattle.ft_sumdoc.specs.declared.summary.SumDoc.{SumDoc}
@@ -37,8 +38,8 @@ use Rattle.ft_matrix.specs.declared.stages.GridStage.{GridStage}
 use Rattle.ft_matrix.specs.Conditions.{IsAboveAll}
 use Rattle.ft_matrix.specs.GridStates.{grid_state, shown_stage}
 use Rattle.ft_matrix.specs.HoldsGrid.{HoldsGrid}
-use Rattle.ft_named.specs.SavedStamps.{insertion_mark}
-use Rattle.ft_matrix.specs.SavedUnits.{saved_runs, unit_run, with_run}
+use Rattle.ft_msg.specs.SavedStamps.{insertion_mark}
+use Rattle.ft_matrix.specs.SavedUnits.{saved_runs, unit_run}
 use Rattle.ft_matrix.specs.Seen.{shown_at, shown_cells}
 use Rattle.ft_matrix.specs.Shown.{with_units}
 use Rattle.ft_matrix.specs.Sound.{IsSound, writes_to}
@@ -109,10 +110,6 @@ module _ (x : ListElement) (e : TreeElement ℕ) (s : Settled x e) where
       step false = refl
 
 -- ---- the runs
-
-extended-with : (ins : Mark) (dels : List Mark) (runs : List RunRec) → extended_unit_runs ins dels runs ≡ with_run (record { count = 1; ins = ins; dels = dels }) runs
-extended-with ins dels [] = refl
-extended-with ins dels (r ∷ runs) = refl
 
 abbrev kept_items : ℕ → List ListElement → List ListElement
 kept_items min xs = retain_map (λ e. not (is_collectable min e)) (trim_element min) xs

@@ -10,64 +10,15 @@ use Rattle.ft_tree_leaves.specs.declared.leaves.TreeLeaf.{TreeLeaf}
 use Rattle.ft_tree_leaves.specs.Elements.{TreeElement, elements_with}
 use Rattle.ft_tree_leaves.specs.LeafLists.{elements}
 use Rattle.ft_named.proofs.LeafWalks.{stands-next}
-use Rattle.ft_named.proofs.SameStamps.{same_mark-Decides, same_marks-Decides, stamps_are_same}
+use Rattle.ft_msg.specs.JoinedRuns.{with_run}
+use Rattle.ft_msg.proofs.JoinedRuns.{run-alike, with_run-apart, with_run-joined}
 use Rattle.ft_perm.specs.Handles.{HandleRun, handles_of}
 use Rattle.ft_perm.proofs.SeenRuns.{Leaves}
 use Rattle.ft_props.specs.Compaction.{has_collectable_removal}
 use Rattle.ft_props.specs.Overlay.{OverlayState}
-use Rattle.ft_sumdoc.specs.declared.summary.Mark.{Mark}
 use Rattle.ft_sumdoc.specs.declared.summary.RunRec.{RunRec}
 use Rattle.ft_sumdoc.specs.WellFormed.{same_stamps}
-use Rattle.ft_matrix.specs.SavedUnits.{AddsLeaf, continued, saved_runs, unit_run, with_run}
-
--- ---- equal stamps
-
-itself : (ins : Mark) (dels : List Mark) → same_stamps ins dels ins dels ≡ true
-itself ins dels = rw ((same_mark-Decides ins ins).1 refl, (same_marks-Decides dels dels).1 refl) refl
-
--- ---- a run before others
-
-abbrev run : ℕ → Mark → List Mark → RunRec
-run n ins dels = record { count = n; ins = ins; dels = dels }
-
--- two runs side by side with equal stamps are one
-joined : (a b : ℕ) (ins : Mark) (dels : List Mark) (rest : List RunRec) → with_run (run a ins dels) (with_run (run b ins dels) rest) ≡ with_run (run (b + a) ins dels) rest
-joined a b ins dels [] = ap (λ t. cond t (run (b + a) ins dels ∷ []) (run a ins dels ∷ run b ins dels ∷ [])) (itself ins dels)
-joined a b ins dels (s ∷ runs) = step (same_stamps ins dels s.ins s.dels) refl
-  where
-    step : (t : Bool) → same_stamps ins dels s.ins s.dels ≡ t
-        → with_run (run a ins dels) (cond t (record s { count = s.count + b } ∷ runs) (run b ins dels ∷ s ∷ runs))
-        ≡ cond t (record s { count = s.count + (b + a) } ∷ runs) (run (b + a) ins dels ∷ s ∷ runs)
-    step true h =
-        let sum : s.count + b + a ≡ s.count + (b + a) = omega arith in
-        ap (λ t. cond t (record s { count = s.count + b + a } ∷ runs) (run a ins dels ∷ record s { count = s.count + b } ∷ runs)) h
-        ∙ ap (λ n. record s { count = n } ∷ runs) sum
-    step false h = ap (λ t. cond t (run (b + a) ins dels ∷ s ∷ runs) (run a ins dels ∷ run b ins dels ∷ s ∷ runs)) (itself ins dels)
-
--- the first run has the stamps of the one that was put before
-record BeginsWith (r : RunRec) (all : List RunRec) : Type 0 where
-  head : RunRec
-  tail : List RunRec
-  is : all ≡ head ∷ tail
-  ins : head.ins ≡ r.ins
-  dels : head.dels ≡ r.dels
-
-begins : (r : RunRec) (rest : List RunRec) → BeginsWith r (with_run r rest)
-begins r [] = record { head = r; tail = []; is = refl; ins = refl; dels = refl }
-begins r (s ∷ runs) = step (same_stamps r.ins r.dels s.ins s.dels) refl
-  where
-    step : (t : Bool) → same_stamps r.ins r.dels s.ins s.dels ≡ t → BeginsWith r (cond t (record s { count = s.count + r.count } ∷ runs) (r ∷ s ∷ runs))
-    step true h =
-        let p = stamps_are_same r.ins s.ins r.dels s.dels h in
-        record { head = record s { count = s.count + r.count }; tail = runs; is = refl; ins = sym p.0; dels = sym p.1 }
-    step false h = record { head = r; tail = s ∷ runs; is = refl; ins = refl; dels = refl }
-
-apart : (r s : RunRec) (rest : List RunRec) → same_stamps r.ins r.dels s.ins s.dels ≡ false → with_run r (with_run s rest) ≡ r ∷ with_run s rest
-apart r s rest h =
-    let b = begins s rest in
-    let differs : same_stamps r.ins r.dels b.head.ins b.head.dels ≡ false =
-    ap (λ i. same_stamps r.ins r.dels i b.head.dels) b.ins ∙ ap (λ d. same_stamps r.ins r.dels s.ins d) b.dels ∙ h in
-    ap (with_run r) b.is ∙ ap (λ t. cond t (record b.head { count = b.head.count + r.count } ∷ b.tail) (r ∷ b.head ∷ b.tail)) differs ∙ ap (λ rs. r ∷ rs) (sym b.is)
+use Rattle.ft_matrix.specs.SavedUnits.{AddsLeaf, continued, saved_runs, unit_run}
 
 -- ---- runs of which the last one goes on
 
@@ -87,17 +38,15 @@ first-run old new r e f rest = ap (λ us. continued us rest) f ∙ sym (ap (λ u
 pub joined-run : (front old new : List RunRec) (last r : RunRec) → old ≡ front ++ last ∷ [] → same_stamps last.ins last.dels r.ins r.dels ≡ true
     → new ≡ front ++ record r { count = r.count + last.count } ∷ [] → (rest : List RunRec) → continued new rest ≡ continued old (with_run r rest)
 joined-run front old new last r e s f rest =
-    let p = stamps_are_same last.ins r.ins last.dels r.dels s in
-    let same : last ≡ run last.count r.ins r.dels = ap (λ i. run last.count i last.dels) p.0 ∙ ap (λ d. run last.count r.ins d) p.1 in
     ap (λ us. continued us rest) f ∙ continued-last front (record r { count = r.count + last.count }) rest
-    ∙ ap (λ us. front ++ us) (sym (ap (λ q. with_run q (with_run r rest)) same ∙ joined last.count r.count r.ins r.dels rest))
+    ∙ ap (λ us. front ++ us) (sym (ap (λ q. with_run q (with_run r rest)) (run-alike last r.ins r.dels s) ∙ with_run-joined last.count r.count r.ins r.dels rest))
     ∙ sym (ap (λ us. continued us (with_run r rest)) e ∙ continued-last front last (with_run r rest))
 
 pub apart-run : (front old new : List RunRec) (last r : RunRec) → old ≡ front ++ last ∷ [] → same_stamps last.ins last.dels r.ins r.dels ≡ false
     → new ≡ (front ++ last ∷ []) ++ r ∷ [] → (rest : List RunRec) → continued new rest ≡ continued old (with_run r rest)
 apart-run front old new last r e s f rest =
     ap (λ us. continued us rest) f ∙ continued-last (front ++ last ∷ []) r rest ∙ append_assoc front (last ∷ []) (with_run r rest)
-    ∙ ap (λ us. front ++ us) (sym (apart last r rest s))
+    ∙ ap (λ us. front ++ us) (sym (with_run-apart last r rest s))
     ∙ sym (ap (λ us. continued us (with_run r rest)) e ∙ continued-last front last (with_run r rest))
 
 -- ---- the units of a leaf
@@ -112,7 +61,7 @@ module _ (min : ℕ) where
       ap (λ b. cond b (saved_runs min (elements_with stamps None overlay (v ∷ us) ++ es))
       (with_run (unit_run min stamps 1) (saved_runs min (elements_with stamps None overlay (v ∷ us) ++ es)))) h
       ∙ ap (with_run (unit_run min stamps 1)) (same-units stamps overlay v us es h)
-      ∙ joined 1 (suc (length us)) (unit_run min stamps 1).ins (unit_run min stamps 1).dels (saved_runs min es)
+      ∙ with_run-joined 1 (suc (length us)) (unit_run min stamps 1).ins (unit_run min stamps 1).dels (saved_runs min es)
       ∙ ap (λ n. with_run (unit_run min stamps n) (saved_runs min es)) count
 
   no-units : (stamps : ElementStamps) (overlay : OverlayState) (us : List ℕ) (es : List (TreeElement ℕ)) → has_collectable_removal min stamps.dels ≡ true

@@ -1,25 +1,20 @@
 -- The units of a vector as the runs of a summary. No public clause cites this module.
-use Rattle.std.specs.Prelude.{◌≡◌, ◌≤◌, ℕ, ◌+◌, cond, List, [], ◌∷◌, length, map}
+use Rattle.std.specs.Prelude.{◌≡◌, ◌≤◌, ℕ, cond, List, [], ◌∷◌, length, map}
 use Rattle.ft_base.specs.declared.elements.Element.{Element as ElementStamps}
 use Rattle.ft_tree_leaves.specs.declared.leaves.TreeLeaf.{TreeLeaf}
 use Rattle.ft_tree_leaves.specs.Elements.{TreeElement}
+use Rattle.ft_msg.specs.JoinedRuns.{with_run}
+use Rattle.ft_msg.specs.SavedStamps.{insertion_mark}
 use Rattle.ft_msg.specs.SummaryOf.{mark_of}
-use Rattle.ft_named.specs.SavedStamps.{insertion_mark}
 use Rattle.ft_perm.specs.Handles.{HandleRun, handles_of}
 use Rattle.ft_props.specs.Compaction.{has_collectable_removal}
 use Rattle.ft_sumdoc.specs.declared.summary.RunRec.{RunRec}
-use Rattle.ft_sumdoc.specs.WellFormed.{same_stamps}
 
 -- a run of so many units with these stamps
 abbrev pub unit_run : ℕ → ElementStamps → ℕ → RunRec
 unit_run min stamps count = record { count = count; ins = insertion_mark min stamps.ins; dels = map mark_of stamps.dels }
 
--- runs with a run before them, joined to the first one where their stamps are equal
-abbrev pub with_run : RunRec → List RunRec → List RunRec
-with_run r [] = r ∷ []
-with_run r (next ∷ runs) = cond (same_stamps r.ins r.dels next.ins next.dels) (record next { count = next.count + r.count } ∷ runs) (r ∷ next ∷ runs)
-
--- the same of runs, of which the last one may be joined
+-- runs with others behind them, of which the last one may be joined to the first of these
 abbrev pub continued : List RunRec → List RunRec → List RunRec
 continued [] rest = rest
 continued (r ∷ []) rest = with_run r rest

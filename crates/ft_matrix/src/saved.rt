@@ -6,13 +6,14 @@ ghost use Rattle.ft_tree_leaves.specs.declared.leaves.TreeLeaf.{TreeLeaf};
 ghost use Rattle.ft_perm.specs.Handles.{HandleRun};
 ghost use Rattle.ft_perm.specs.Vectors.{vector_elements};
 ghost use Rattle.ft_sumdoc.specs.declared.summary.RunRec.{RunRec};
-ghost use Rattle.ft_matrix.specs.SavedUnits.{AddsLeaf, continued, saved_runs, unit_run, with_run};
+ghost use Rattle.ft_msg.specs.JoinedRuns.{with_run};
+ghost use Rattle.ft_matrix.specs.SavedUnits.{AddsLeaf, continued, saved_runs, unit_run};
 ghost use Rattle.ft_matrix.specs.Units.{units_of};
 
 use crate::messages::more;
 use ft_arena::NodeId;
 use ft_base::{Element, OutOfMemory};
-use ft_named::marks::{insertion_of, is_collectable, marks_of, same_stamps};
+use ft_msg::marks::{insertion_of, is_collectable, marks_of, same_stamps};
 use ft_perm::{Handles, Vector};
 use ft_sumdoc::{RunRec, RunRecs};
 use ft_tree::Tree;

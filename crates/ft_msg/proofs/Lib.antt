@@ -8,3 +8,7 @@ pub mod ReplicaSteps
 pub mod ReachedSteps
 pub mod LinkSteps
 pub mod ReplicaStarts
+pub mod SameStamps
+pub mod AlikeSegments
+pub mod FrontSegments
+pub mod JoinedRuns

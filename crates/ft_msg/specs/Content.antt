@@ -1,5 +1,5 @@
 -- What a client shows: the view of its last stage, with its pending changes and writes on top of the acknowledged ones.
-use Rattle.std.specs.Prelude.{ℕ, ◌+◌, Bool, true, false, cond, ◌&&◌, nat_eq, List, [], ◌∷◌, ◌++◌, Option, Some, None, map, filter, length, flat_map}
+use Rattle.std.specs.Prelude.{ℕ, ◌+◌, cond, ◌&&◌, nat_eq, List, [], ◌∷◌, ◌++◌, Option, Some, None, map, filter, length, flat_map}
 use Rattle.ft_msg.specs.declared.views.Spot.{Spot}
 use Rattle.ft_msg.specs.declared.views.Run.{Run}
 use Rattle.ft_sumdoc.specs.declared.summary.IntervalRec.{IntervalRec}

@@ -10,6 +10,9 @@ pub mod Indexed
 pub mod Compacted
 pub mod Summary
 pub mod SummaryOf
+pub mod SavedStamps
+pub mod OpenSegments
+pub mod JoinedRuns
 pub mod ClientSteps
 pub mod Reached
 pub mod Overlap

@@ -11,7 +11,6 @@ use Rattle.ft_sumdoc.specs.declared.summary.IntervalRec.{IntervalRec}
 use Rattle.ft_sumdoc.specs.declared.summary.CellRec.{CellRec}
 use Rattle.ft_sumdoc.specs.declared.summary.SumDoc.{SumDoc}
 use Rattle.ft_base.specs.Scan.{at}
-use Rattle.ft_props.specs.Properties.{Characters}
 use Rattle.ft_props.specs.Element.{GridUnit, Character, ListElement, ElementContent, MarkerOf, has_sequenced_removal, id, new_elements, is_unremoved}
 use Rattle.ft_props.specs.Compaction.{trim_list}
 use Rattle.ft_props.specs.Steps.{Sequence}

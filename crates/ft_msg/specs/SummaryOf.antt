@@ -42,11 +42,15 @@ abbrev pub joined_bodies : Seg → Seg → Seg
 joined_bodies (Chars front) (Chars text) = Chars (front ++ text)
 joined_bodies _ body = body
 
+-- both as one segment
+abbrev pub joined : SegRec → SegRec → SegRec
+joined last seg = record seg { body = joined_bodies last.body seg.body }
+
 -- segments with the segment of an element before them, joined to the first one where both are characters, nothing else
 -- differs, and no chunk ends between them
 abbrev pub extended_segments : Bool → SegRec → List SegRec → List SegRec
 extended_segments ends seg [] = seg ∷ []
-extended_segments ends seg (next ∷ segs) = cond (not ends && are_alike seg next) (record next { body = joined_bodies seg.body next.body } ∷ segs) (seg ∷ next ∷ segs)
+extended_segments ends seg (next ∷ segs) = cond (not ends && are_alike seg next) (joined seg next ∷ segs) (seg ∷ next ∷ segs)
 
 -- the segments of elements, the first of which has the place i in the text
 abbrev pub segments_from : ℕ → List ListElement → List SegRec

@@ -13,4 +13,3 @@ pub mod CompactedSteps
 pub mod RebuiltSteps
 pub mod PieceSteps
 pub mod LeafWalks
-pub mod SameStamps

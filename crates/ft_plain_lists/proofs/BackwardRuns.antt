@@ -1,37 +1,20 @@
 -- The runs of equal properties as a loop makes them that goes through the elements from the last to the first.
 use Rattle.std.proofs.Common.{◌≡◌, ℕ, suc, ◌+◌, Bool, true, false, cond, ◌&&◌, nat_eq, List, []}
-use Rattle.std.proofs.Common.{◌∷◌, ◌++◌, IsTrue, ◌↔◌, length, reverse, bytes_eq, refl, sym, ◌∙◌, ap, subst, arith}
+use Rattle.std.proofs.Common.{◌∷◌, ◌++◌, IsTrue, ◌↔◌, length, reverse, refl, sym, ◌∙◌, ap, arith}
 use Rattle.std.proofs.lemmas.List.{reverse-append}
-use Rattle.std.proofs.lemmas.Slice.Eq.{bytes_eq-Decides}
 use Rattle.ft_msg.specs.declared.views.Run.{Run}
 use Rattle.ft_msg.specs.Content.{extended_property_runs, property_runs_from}
+use Rattle.ft_msg.proofs.SameStamps.{same_props-Decides}
 use Rattle.ft_sumdoc.specs.WellFormed.{same_props}
 use Rattle.ft_props.specs.Element.{ListElement}
 use Rattle.ft_props.specs.Properties.{PropertyList}
 use Rattle.std.proofs.lemmas.Bool.Decides.{same_from_decides}
-use Rattle.ft_base.proofs.Booleans.{all_three}
 use Rattle.ft_plain_lists.specs.PropertyRuns.{all_shown_props, runs_before}
-
--- the test of equal properties decides equality
-same_props-itself : (ps : PropertyList) → same_props ps ps ≡ true
-same_props-itself [] = refl
-same_props-itself (p ∷ ps) = grind (arith, (bytes_eq-Decides p.0 p.0).1 refl, (bytes_eq-Decides p.1 p.1).1 refl, same_props-itself ps)
-
-same_from_same_props : (ps qs : PropertyList) → same_props ps qs ≡ true → ps ≡ qs
-same_from_same_props [] [] h = refl
-same_from_same_props [] (q ∷ qs) h = absurd cc
-same_from_same_props (p ∷ ps) [] h = absurd cc
-same_from_same_props ((k, v) ∷ ps) ((l, w) ∷ qs) h =
-    let parts = all_three (bytes_eq k l) (bytes_eq v w) (same_props ps qs) h in
-    let keys = (bytes_eq-Decides k l).0 parts.0 in
-    let values = (bytes_eq-Decides v w).0 parts.1 in
-    let rest = same_from_same_props ps qs parts.2 in
-    cc
 
 -- what a comparison of properties answers is that test
 pub same_props-is : (r : Bool) (ps qs : PropertyList) → IsTrue r ↔ (ps ≡ qs) → same_props ps qs ≡ r
 same_props-is r ps qs h =
-    same_from_decides (same_props ps qs) r (same_from_same_props ps qs, λ e. subst (λ xs. same_props ps xs ≡ true) e (same_props-itself ps)) h
+    same_from_decides (same_props ps qs) r (same_props-Decides ps qs) h
 
 -- the run of one element
 abbrev pub one_run : ℕ → PropertyList → Run

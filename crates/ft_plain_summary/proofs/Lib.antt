@@ -1,4 +1,3 @@
-pub mod AlikeSegments
 pub mod FrontRuns
 pub mod FrontSegments
 pub mod MadeSegments

@@ -4,6 +4,7 @@ use Rattle.ft_sumdoc.specs.declared.summary.Mark.{Mark}
 use Rattle.ft_sumdoc.specs.declared.summary.RunRec.{RunRec}
 use Rattle.ft_sumdoc.specs.WellFormed.{same_stamps}
 use Rattle.ft_props.specs.Element.{ListElement}
+use Rattle.ft_msg.specs.JoinedRuns.{with_run}
 use Rattle.ft_msg.specs.SummaryOf.{unit_runs}
 
 -- the open run, if a unit with these stamps ends it
@@ -16,12 +17,6 @@ abbrev pub open_run : Option RunRec → Mark → List Mark → RunRec
 open_run None ins dels = record { count = 1; ins = ins; dels = dels }
 open_run (Some run) ins dels =
     cond (same_stamps run.ins run.dels ins dels) (record { count = run.count + 1; ins = ins; dels = dels }) (record { count = 1; ins = ins; dels = dels })
-
--- runs with a run before them, joined to the first one where their stamps are equal
-abbrev pub with_run : RunRec → List RunRec → List RunRec
-with_run run [] = run ∷ []
-with_run run (next ∷ runs) =
-    cond (same_stamps run.ins run.dels next.ins next.dels) (record next { count = run.count + next.count } ∷ runs) (run ∷ next ∷ runs)
 
 -- the runs of units, where this one is open before them
 abbrev pub runs_behind : Option RunRec → List ListElement → List RunRec

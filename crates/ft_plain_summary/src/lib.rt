@@ -4,7 +4,6 @@
 #![tactic(auto)]
 
 mod lists;
-mod marks;
 mod named;
 pub mod reading;
 mod segments;

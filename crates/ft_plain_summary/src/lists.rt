@@ -5,8 +5,8 @@ ghost use Rattle.ft_props.specs.Element.{GridUnit, new_elements};
 ghost use Rattle.ft_msg.specs.Summary.{list_of, run_items, segment_bodies, segment_items, stamp_of};
 ghost use Rattle.ft_plain_lists.specs.Contents.{content_of};
 
-use crate::marks::{stamp_of, stamps_of};
 use ft_base::OutOfMemory;
+use ft_msg::marks::{stamp_of, stamps_of};
 use ft_plain_lists::{Content, PlainList, characters, units};
 use ft_props::Props;
 use ft_sumdoc::{RunRec, Seg, SegRec};

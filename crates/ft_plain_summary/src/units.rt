@@ -5,8 +5,8 @@ ghost use Rattle.std.specs.Prelude.{◌≡◌, ◌++◌, IfOk, OnOk, map};
 ghost use Rattle.ft_msg.specs.SummaryOf.{mark_of, unit_runs};
 ghost use Rattle.ft_plain_summary.specs.OpenRuns.{ended_runs, open_run};
 
-use crate::marks::{mark_of, marks_of, same_stamps};
 use ft_base::OutOfMemory;
+use ft_msg::marks::{mark_of, marks_of, same_stamps};
 use ft_plain_lists::PlainElement;
 use ft_sumdoc::{RunRec, RunRecs};
 use std::alloc::Global;

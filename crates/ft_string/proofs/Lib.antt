@@ -32,8 +32,6 @@ pub mod Reconnected
 pub mod SentSoFar
 pub mod ShownElements
 pub mod ShownOrigins
-pub mod SameTests
-pub mod AlikeSegments
 pub mod FrontSegments
 pub mod SavedLeaves
 pub mod SavedTexts

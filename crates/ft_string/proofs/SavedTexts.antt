@@ -20,7 +20,7 @@ use Rattle.ft_named.proofs.Bares.{AreElements, IsElement}
 use Rattle.ft_string.specs.Bare.{text_content}
 use Rattle.ft_string.specs.Parts.{TextElements}
 use Rattle.ft_string.specs.Saved.{element_segment, joined_from, kept_segments}
-use Rattle.ft_named.specs.SavedStamps.{insertion_mark}
+use Rattle.ft_msg.specs.SavedStamps.{insertion_mark}
 
 -- whether nothing is pending on the element
 abbrev pub is_settled : ListElement → Bool

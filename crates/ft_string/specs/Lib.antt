@@ -9,6 +9,5 @@ pub mod Rejoins
 pub mod Shows
 pub mod Calls
 pub mod Inside
-pub mod Bodies
 pub mod Saved
 pub mod Loads

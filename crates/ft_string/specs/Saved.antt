@@ -1,6 +1,6 @@
 -- The segments of a summary, as they are made from the leaves of a text in order: one is open, and the segment of the next
 -- element joins it or ends it. No public clause cites this module.
-use Rattle.std.specs.Prelude.{◌≡◌, ℕ, ◌+◌, ◌%◌, ◌==◌, Bool, cond, not, ◌&&◌, List, [], ◌∷◌, ◌++◌, Option, Some, None, filter, map}
+use Rattle.std.specs.Prelude.{◌≡◌, ℕ, ◌+◌, ◌%◌, ◌==◌, cond, not, List, [], ◌∷◌, ◌++◌, Option, Some, None, filter, map}
 use Rattle.ft_base.specs.declared.stamps.Stamp.{Stamp}
 use Rattle.ft_base.specs.declared.elements.Element.{Element as ElementStamps}
 use Rattle.ft_tree_leaves.specs.declared.leaves.TreeLeaf.{TreeLeaf}
@@ -14,9 +14,8 @@ use Rattle.ft_props.specs.Overlay.{OverlayState}
 use Rattle.ft_sumdoc.specs.declared.summary.Seg.{Seg}
 use Rattle.ft_sumdoc.specs.declared.summary.SegRec.{SegRec}
 use Rattle.ft_sumdoc.specs.Chunks.{chunk_length}
-use Rattle.ft_sumdoc.specs.WellFormed.{are_alike}
-use Rattle.ft_named.specs.SavedStamps.{insertion_mark}
-use Rattle.ft_msg.specs.SummaryOf.{author_mark, element_body, extended_segments, joined_bodies, mark_of}
+use Rattle.ft_msg.specs.SavedStamps.{insertion_mark}
+use Rattle.ft_msg.specs.SummaryOf.{author_mark, element_body, extended_segments, mark_of}
 use Rattle.ft_string.specs.Parts.{TextElements}
 use Rattle.ft_string.specs.Shows.{TextLeaves}
 use Rattle.ft_string.specs.declared.segments.Head.{Head}
@@ -52,20 +51,6 @@ leaf_segments min x =
     cond (has_collectable_removal min x.stamps.dels) [] (map (unit_segment (head_of min x.stamps x.content.by x.overlay)) (text_units x.content))
 
 -- ---- joined segments
-
--- both as one segment
-abbrev pub joined : SegRec → SegRec → SegRec
-joined last seg = record seg { body = joined_bodies last.body seg.body }
-
--- the open segment, if this one ends it; a chunk begins with this one or doesn't
-abbrev pub ended_segments : Bool → Option SegRec → SegRec → List SegRec
-ended_segments begins None seg = []
-ended_segments begins (Some last) seg = cond (not begins && are_alike last seg) [] (last ∷ [])
-
--- the segment that is open then
-abbrev pub open_segment : Bool → Option SegRec → SegRec → SegRec
-open_segment begins None seg = seg
-open_segment begins (Some last) seg = cond (not begins && are_alike last seg) (joined last seg) seg
 
 -- segments of one element each, the first of which has place i, joined as a summary has them
 abbrev pub joined_from : ℕ → List SegRec → List SegRec

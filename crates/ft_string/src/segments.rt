@@ -6,20 +6,21 @@ ghost use Rattle.ft_block.specs.Leaves.{IsLeafIn, value_at};
 ghost use Rattle.ft_tree_leaves.specs.declared.leaves.TreeLeaf.{TreeLeaf};
 ghost use Rattle.ft_tree_leaves.specs.declared.text.TextContent.{TextContent};
 ghost use Rattle.ft_tree_leaves.specs.TextLeaves.{text_units};
+ghost use Rattle.ft_msg.specs.OpenSegments.{body_of_parts, ended_segments, open_segment};
 ghost use Rattle.ft_msg.specs.SummaryOf.{joined_bodies};
 ghost use Rattle.ft_props.specs.Element.{Character, MarkerOf};
 ghost use Rattle.ft_sumdoc.specs.declared.summary.SegRec.{SegRec};
 ghost use Rattle.ft_sumdoc.specs.declared.summary.Seg.TheVariants.{Chars as characters_of};
-ghost use Rattle.ft_sumdoc.specs.Stamps.{same_mark};
-ghost use Rattle.ft_sumdoc.specs.WellFormed.{are_alike, are_characters, same_props, same_stamps};
-ghost use Rattle.ft_string.specs.Saved.{Adds, ended_segments, head_of, headed, joined_from, leaf_segments, open_segment, segments_in, unit_segment, whole};
-ghost use Rattle.ft_string.specs.Bodies.{body_of_parts};
+ghost use Rattle.ft_sumdoc.specs.WellFormed.{are_alike, are_characters};
+ghost use Rattle.ft_string.specs.Saved.{Adds, head_of, headed, joined_from, leaf_segments, segments_in, unit_segment, whole};
 
 use crate::contents::{characters, push_character};
 use crate::lengths::sum;
 use ft_arena::NodeId;
 use ft_base::{Datum, OutOfMemory, Text};
-use ft_named::marks::{author_of, insertion_of, is_collectable, marks_of, same_mark, same_stamps};
+use ft_msg::marks::{
+    author_of, insertion_of, is_collectable, marks_of, same_mark, same_props, same_stamps,
+};
 use ft_props::Props;
 use ft_sumdoc::{CHUNK_LENGTH, Mark, Marks, Seg, SegRec, SegRecs};
 use ft_tree::{TextContent, Tree};
@@ -50,7 +51,7 @@ struct OpenSegment {
 impl Model for OpenSegment {
     ghost use Rattle.std.specs.Prelude.{chars, string_bytes};
     ghost use Rattle.ft_sumdoc.specs.declared.summary.SegRec.{SegRec};
-    ghost use Rattle.ft_string.specs.Bodies.{body_of_parts};
+    ghost use Rattle.ft_msg.specs.OpenSegments.{body_of_parts};
 
     ghost Value = { SegRec };
 
@@ -63,13 +64,6 @@ pub(crate) struct Segments {
     list: SegRecs,
     last: Option<OpenSegment>,
     count: u64,
-}
-
-// Whether the properties are equal.
-fn same_props(a: &Props, b: &Props) -> bool
-    ensures { result ≡ same_props a.now b.now }
-{
-    a.same(b)
 }
 
 // The head of the segment of a leaf.

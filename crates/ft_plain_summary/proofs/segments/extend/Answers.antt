@@ -1,9 +1,9 @@
 use Rattle.std.proofs.Common.{◌≡◌, ◌∙◌, ap, sym}
 use Rattle.std.proofs.lemmas.Result.{IfOk-weaker}
+use Rattle.ft_msg.specs.OpenSegments.{open_segment}
 use Rattle.ft_msg.specs.SummaryOf.{element_body, joined_bodies, segment_of}
+use Rattle.ft_msg.proofs.FrontSegments.{segment-joined}
 use Rattle.ft_plain_lists.specs.Contents.{content_of}
-use Rattle.ft_plain_summary.specs.OpenSegments.{open_segment}
-use Rattle.ft_plain_summary.proofs.MadeSegments.{segment-joined}
 use Rattle.ft_plain_summary.proofs.segments.extend.Goals as goal
 
 pub returns-then-is_alike-clause-last : goal.returns-then-is_alike-clause-last

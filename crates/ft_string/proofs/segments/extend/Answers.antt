@@ -1,11 +1,13 @@
 use Rattle.std.proofs.Common.{◌≡◌, ◌∙◌, ◌∷◌, [], sym}
 use Rattle.std.proofs.lemmas.Result.{IfOk-weaker}
+use Rattle.ft_msg.specs.OpenSegments.{open_segment}
 use Rattle.ft_msg.specs.SummaryOf.{joined_bodies}
+use Rattle.ft_msg.proofs.AlikeSegments.{alike}
+use Rattle.ft_msg.proofs.FrontSegments.{segment-joined}
 use Rattle.ft_props.specs.Element.{Character}
 use Rattle.ft_sumdoc.specs.declared.summary.Seg.TheVariants.{Chars}
-use Rattle.ft_string.specs.Saved.{open_segment, unit_segment}
-use Rattle.ft_string.proofs.AlikeSegments.{alike}
-use Rattle.ft_string.proofs.FrontSegments.{any-characters, segment-joined}
+use Rattle.ft_string.specs.Saved.{unit_segment}
+use Rattle.ft_string.proofs.FrontSegments.{any-characters}
 use Rattle.ft_string.proofs.segments.extend.Goals as goal
 
 pub joined-requires : goal.joined-requires

@@ -3,7 +3,7 @@ use Rattle.std.proofs.lemmas.Result.{IfOk-weaker}
 use Rattle.std.proofs.lemmas.Str.{chars-nil}
 use Rattle.ft_props.specs.Element.{Character}
 use Rattle.ft_sumdoc.specs.declared.summary.Seg.TheVariants.{Chars}
-use Rattle.ft_string.specs.Bodies.{body_of_parts}
+use Rattle.ft_msg.specs.OpenSegments.{body_of_parts}
 use Rattle.ft_string.specs.Saved.{headed, unit_segment}
 use Rattle.ft_string.proofs.segments.OpenSegment.of_character.Goals as goal
 

@@ -1,14 +1,15 @@
-//! Stamps as the marks of a summary, and marks as stamps.
+//! Stamps as the marks of a summary, and marks as stamps; and the tests by which a summary joins elements.
 
 ghost use Rattle.std.specs.Prelude.{◌≡◌, IfOk, map};
 ghost use Rattle.ft_msg.specs.Summary.{stamp_of};
 ghost use Rattle.ft_msg.specs.SummaryOf.{author_mark, mark_of};
 ghost use Rattle.ft_props.specs.Compaction.{has_collectable_removal};
 ghost use Rattle.ft_sumdoc.specs.Stamps.{same_mark};
-ghost use Rattle.ft_sumdoc.specs.WellFormed.{same_stamps};
-ghost use Rattle.ft_named.specs.SavedStamps.{insertion_mark, marked_stamps};
+ghost use Rattle.ft_sumdoc.specs.WellFormed.{same_props, same_stamps};
+ghost use Rattle.ft_msg.specs.SavedStamps.{insertion_mark, marked_stamps};
 
 use ft_base::{Datum, Element, OutOfMemory, Stamp, Stamps};
+use ft_props::Props;
 use ft_sumdoc::{Mark, Marks};
 use std::alloc::Global;
 
@@ -75,6 +76,13 @@ pub fn is_collectable(dels: &[Stamp], min: u64) -> bool
     }
 }
 
+/// Whether the properties are equal.
+pub fn same_props(a: &Props, b: &Props) -> bool
+    ensures { result ≡ same_props a.now b.now }
+{
+    a.same(b)
+}
+
 /// Whether the marks are equal.
 pub fn same_mark(a: Mark, b: Mark) -> bool
     ensures { result ≡ same_mark a b }
@@ -99,8 +107,8 @@ pub fn stamp_of(mark: Mark) -> Stamp
     }
 }
 
-// The marks as stamps.
-fn stamps_of(alloc: Global, marks: &[Mark]) -> Result<Stamps, OutOfMemory>
+/// The marks as stamps.
+pub fn stamps_of(alloc: Global, marks: &[Mark]) -> Result<Stamps, OutOfMemory>
     ensures { IfOk result (λ stamps. stamps ≡ map stamp_of marks.now) }
 {
     let mut stamps = Stamps::new(alloc);

@@ -1,57 +1,13 @@
 -- Whether two segments are one run: the test decides that all but what they hold is equal.
-use Rattle.std.proofs.Common.{◌≡◌, ℕ, Bool, true, ◌&&◌, nat_eq, bytes_eq, List, refl, sym, ◌∙◌, ap, append_assoc}
-use Rattle.std.specs.Bool.{Decides}
-use Rattle.std.proofs.Math.Path.{ap₂}
-use Rattle.std.proofs.lemmas.Bool.Decides.{Decides-eqb}
-use Rattle.std.proofs.lemmas.Slice.Eq.{bytes_eq-Decides}
-use Rattle.ft_base.proofs.Booleans.{all_four, both}
-use Rattle.ft_props.specs.Properties.{Characters, PropertyList, ValueBytes}
-use Rattle.ft_op.specs.Same.{same_list}
-use Rattle.ft_op.proofs.SameOperations.{same_list-Decides}
-use Rattle.ft_sumdoc.specs.declared.summary.Mark.{Mark}
+use Rattle.std.proofs.Common.{◌≡◌, true, ◌&&◌, refl, sym, ◌∙◌, ap, append_assoc}
+use Rattle.ft_base.proofs.Booleans.{all_four}
 use Rattle.ft_sumdoc.specs.declared.summary.Seg.{Seg}
 use Rattle.ft_sumdoc.specs.declared.summary.Seg.TheVariants.{Chars, Marker}
 use Rattle.ft_sumdoc.specs.declared.summary.SegRec.{SegRec}
 use Rattle.ft_sumdoc.specs.Stamps.{same_mark}
 use Rattle.ft_sumdoc.specs.WellFormed.{are_alike, are_characters, same_props, same_stamps}
-use Rattle.ft_msg.specs.SummaryOf.{joined_bodies}
-use Rattle.ft_plain_summary.specs.OpenSegments.{joined}
-
--- ---- tests that decide equality
-
-two : (a b : Bool) (A B C : Type 0) → Decides a A → Decides b B → (A → B → C) → (C → A × B) → Decides (a && b) C
-two a b A B C d e join split =
-    (λ h. let parts = both a b h in join (d.0 parts.0) (e.0 parts.1), λ c. let parts = split c in rw (d.1 parts.0, e.1 parts.1))
-
-abbrev mark : ℕ → ℕ → Mark
-mark seq conn = record { seq = seq; conn = conn }
-
-same_mark-Decides : (a b : Mark) → Decides (same_mark a b) (a ≡ b)
-same_mark-Decides a b =
-    two (nat_eq a.seq b.seq) (nat_eq a.conn b.conn) (a.seq ≡ b.seq) (a.conn ≡ b.conn) (a ≡ b) (Decides-eqb a.seq b.seq) (Decides-eqb a.conn b.conn)
-    (λ e f. ap₂ mark e f) (λ e. (ap (λ x. x.seq) e, ap (λ x. x.conn) e))
-
-abbrev pair : Characters → ValueBytes → Characters × ValueBytes
-pair key value = (key, value)
-
-same_property-Decides : (p q : Characters × ValueBytes) → Decides (bytes_eq p.0 q.0 && bytes_eq p.1 q.1) (p ≡ q)
-same_property-Decides p q =
-    two (bytes_eq p.0 q.0) (bytes_eq p.1 q.1) (p.0 ≡ q.0) (p.1 ≡ q.1) (p ≡ q) (bytes_eq-Decides p.0 q.0) (bytes_eq-Decides p.1 q.1)
-    (λ e f. ap₂ pair e f) (λ e. (ap (λ x. x.0) e, ap (λ x. x.1) e))
-
-pub same_props-Decides : (p q : PropertyList) → Decides (same_props p q) (p ≡ q)
-same_props-Decides p q = same_list-Decides _ same_property-Decides p q
-
-pub same_marks-Decides : (a b : List Mark) → Decides (same_list same_mark a b) (a ≡ b)
-same_marks-Decides a b = same_list-Decides same_mark same_mark-Decides a b
-
--- two stamps that the test holds equal are equal
-pub stamps_are_same : (ins other : Mark) (dels others : List Mark) → same_stamps ins dels other others ≡ true → (ins ≡ other) × (dels ≡ others)
-stamps_are_same ins other dels others h =
-    let parts = both (same_mark ins other) (same_list same_mark dels others) h in
-    ((same_mark-Decides ins other).0 parts.0, (same_marks-Decides dels others).0 parts.1)
-
--- ---- segments
+use Rattle.ft_msg.specs.SummaryOf.{joined, joined_bodies}
+use Rattle.ft_msg.proofs.SameStamps.{same_mark-Decides, same_props-Decides, stamps_are_same}
 
 -- two segments that differ in their characters at most
 pub record Alike (a b : SegRec) : Type 0 where

@@ -1,7 +1,0 @@
-use Rattle.std.proofs.Common.{◌≡◌, ◌++◌, drop, map}
-use Rattle.ft_msg.specs.Summary.{stamp_of}
-use Rattle.ft_plain_summary.proofs.marks.stamps_of.Given as goal
-
--- the stamps so far, and those of the rest, are all
-abbrev pub invariant-loop-mark : goal.invariant-loop-mark
-invariant-loop-mark l = l.stamps ++ map stamp_of (drop l.mark-index l.marks) ≡ map stamp_of l.marks
