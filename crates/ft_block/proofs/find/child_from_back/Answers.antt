@@ -21,23 +21,23 @@ back-init g c =
 pub read-requires : goal.read-requires
 read-requires g c = c.requires.live c.in-Some.kid (times_at c.args.kids.now (c.back.i - 1) c.in-Some.kid (sym c.get.ensures ∙ c.in-Some.is))
 
-pub length_at-n-requires-clause-node : goal.length_at-n-requires-clause-node
-length_at-n-requires-clause-node g c = node_from c.args.floor c.args.arena.now c.in-Some.kid c.read.result.now _ c.requires.floors c.read.ensures.node
+pub length_at-length-requires-clause-node : goal.length_at-length-requires-clause-node
+length_at-length-requires-clause-node g c = node_from c.args.floor c.args.arena.now c.in-Some.kid c.read.result.now _ c.requires.floors c.read.ensures.node
 
-pub returns-then-behind-n-clause-found : goal.returns-then-behind-n-clause-found
-returns-then-behind-n-clause-found g c =
+pub returns-then-behind-length-clause-found : goal.returns-then-behind-length-clause-found
+returns-then-behind-length-clause-found g c =
     let measure = by_view g.L.Leaf.size g.L.Leaf.element c.args.view in
     let f = length_of measure c.args.arena.now in
     let ks = c.args.kids.now in
     let i : ℕ = c.back.i - 1 in
     let kid = c.in-Some.kid in
     let here : slice_get ks i ≡ Some kid = sym c.get.ensures ∙ c.in-Some.is in
-    let n : f kid ≡ c.length_at-n.result = ap (length_of_entry measure) c.read.ensures.node ∙ sym c.length_at-n.ensures in
+    let n : f kid ≡ c.length_at-length.result = ap (length_of_entry measure) c.read.ensures.node ∙ sym c.length_at-length.ensures in
     let next : i + 1 ≡ c.back.i = omega (arith, c.back-test.true) in
     let more : total f (take c.back.i ks) ≡ total f (take i ks) + f kid = ap (λ (k : ℕ). total f (take k ks)) (sym next) ∙ total-take_more f ks i kid here in
-    let low : total f (take i ks) < c.args.p = omega (arith, more, n, c.back.invariant.passed, c.if-behind-n.true) in
+    let low : total f (take i ks) < c.args.p = omega (arith, more, n, c.back.invariant.passed, c.if-behind-length.true) in
     let high : c.args.p ≤ total f (take i ks) + f kid = omega (arith, more, c.back.invariant.passed) in
-    let in_it : c.args.p - total f (take i ks) ≡ c.length_at-n.result - c.back.behind = omega (arith, more, n, c.back.invariant.passed, c.if-behind-n.true) in
+    let in_it : c.args.p - total f (take i ks) ≡ c.length_at-length.result - c.back.behind = omega (arith, more, n, c.back.invariant.passed, c.if-behind-length.true) in
     seek-at f ks i kid c.args.p here low high ∙ ap (λ (q : ℕ). Some (kid, q)) in_it
 
 pub back-preserved : goal.back-preserved
@@ -48,12 +48,12 @@ back-preserved g c =
     let i : ℕ = c.back.i - 1 in
     let kid = c.in-Some.kid in
     let here : slice_get ks i ≡ Some kid = sym c.get.ensures ∙ c.in-Some.is in
-    let n : f kid ≡ c.length_at-n.result = ap (length_of_entry measure) c.read.ensures.node ∙ sym c.length_at-n.ensures in
+    let n : f kid ≡ c.length_at-length.result = ap (length_of_entry measure) c.read.ensures.node ∙ sym c.length_at-length.ensures in
     let next : i + 1 ≡ c.back.i = omega (arith, c.back-test.true) in
     let more : total f (take c.back.i ks) ≡ total f (take i ks) + f kid = ap (λ (k : ℕ). total f (take k ks)) (sym next) ∙ total-take_more f ks i kid here in
     record {
       few = c.back.invariant.few;
       inside = omega (arith, c.back.invariant.inside);
-      passed = omega (arith, more, n, c.back.invariant.passed, c.if-behind-n.false);
+      passed = omega (arith, more, n, c.back.invariant.passed, c.if-behind-length.false);
       cost = omega (arith, c.read.ensures.tick, c.back.invariant.cost, c.back-test.true);
     }

@@ -9,31 +9,31 @@ use Rattle.ft_block.proofs.find.child_from_front.Goals as goal
 pub read-requires : goal.read-requires
 read-requires g c = c.requires.live c.in-Some.kid (times_at c.args.kids.now c.loop-kid.i c.in-Some.kid (sym c.get.ensures ∙ c.in-Some.is))
 
-pub length_at-n-requires-clause-node : goal.length_at-n-requires-clause-node
-length_at-n-requires-clause-node g c = node_from c.args.floor c.args.arena.now c.in-Some.kid c.read.result.now _ c.requires.floors c.read.ensures.node
+pub length_at-length-requires-clause-node : goal.length_at-length-requires-clause-node
+length_at-length-requires-clause-node g c = node_from c.args.floor c.args.arena.now c.in-Some.kid c.read.result.now _ c.requires.floors c.read.ensures.node
 
-pub returns-then-rest-n-clause-found : goal.returns-then-rest-n-clause-found
-returns-then-rest-n-clause-found g c =
+pub returns-then-rest-length-clause-found : goal.returns-then-rest-length-clause-found
+returns-then-rest-length-clause-found g c =
     let measure = by_view g.L.Leaf.size g.L.Leaf.element c.args.view in
     let f = length_of measure c.args.arena.now in
     let here = sym c.get.ensures ∙ c.in-Some.is in
-    let n : f c.in-Some.kid ≡ c.length_at-n.result = ap (length_of_entry measure) c.read.ensures.node ∙ sym c.length_at-n.ensures in
+    let n : f c.in-Some.kid ≡ c.length_at-length.result = ap (length_of_entry measure) c.read.ensures.node ∙ sym c.length_at-length.ensures in
     c.loop-kid.invariant.same
     ∙ ap (λ (zs : List ℕ). seek f zs c.loop-kid.rest) (drop_at c.args.kids.now c.loop-kid.i c.in-Some.kid here)
-    ∙ seek_here f c.in-Some.kid _ c.loop-kid.rest (omega (arith, n, c.if-rest-n.true))
+    ∙ seek_here f c.in-Some.kid _ c.loop-kid.rest (omega (arith, n, c.if-rest-length.true))
 
 pub loop-kid-preserved : goal.loop-kid-preserved
 loop-kid-preserved g c =
     let measure = by_view g.L.Leaf.size g.L.Leaf.element c.args.view in
     let f = length_of measure c.args.arena.now in
     let here = sym c.get.ensures ∙ c.in-Some.is in
-    let n : f c.in-Some.kid ≡ c.length_at-n.result = ap (length_of_entry measure) c.read.ensures.node ∙ sym c.length_at-n.ensures in
+    let n : f c.in-Some.kid ≡ c.length_at-length.result = ap (length_of_entry measure) c.read.ensures.node ∙ sym c.length_at-length.ensures in
     let after : List ℕ = drop (c.loop-kid.i + 1) c.args.kids.now in
     let e : drop c.loop-kid.i c.args.kids.now ≡ c.in-Some.kid ∷ after = drop_at c.args.kids.now c.loop-kid.i c.in-Some.kid here in
     let t : total f (drop c.loop-kid.i c.args.kids.now) ≡ f c.in-Some.kid + total f after = ap (total f) e in
-    let more : f c.in-Some.kid < c.loop-kid.rest = omega (arith, n, c.if-rest-n.false) in
+    let more : f c.in-Some.kid < c.loop-kid.rest = omega (arith, n, c.if-rest-length.false) in
     record {
-      low = omega (arith, c.if-rest-n.false);
+      low = omega (arith, c.if-rest-length.false);
       few = c.loop-kid.invariant.few;
       inside = omega (arith, slice_get_within c.args.kids.now c.loop-kid.i c.in-Some.kid here);
       passed = omega (arith, t, n, more, c.loop-kid.invariant.passed);
