@@ -1,6 +1,6 @@
 //! An item of the index, and where its ends stand.
 
-ghost use Rattle.std.specs.Prelude.{◌≡◌, ℕ, ℤ};
+ghost use Rattle.std.specs.Prelude.{◌≡◌, ℕ, ℤ, int_lt};
 
 /// An item: its key, and the numbers of its two ends.
 #[derive(Clone, Copy, Debug, PartialEq, Eq)]
@@ -23,4 +23,10 @@ pub trait Places {
     fn place(&self, end: u64) -> i64
         requires { Knows self.now end }
         ensures { result ≡ end_place self.now end };
+
+    /// Whether the place of the first end is below that of the second. It knows both ends.
+    fn is_before(&self, x: u64, y: u64) -> bool
+        requires first { Knows self.now x }
+        requires second { Knows self.now y }
+        ensures { result ≡ int_lt (end_place self.now x) (end_place self.now y) };
 }
