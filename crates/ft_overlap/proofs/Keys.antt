@@ -20,6 +20,12 @@ lt_false x y h = by (int_lt x y) refl
     by false e = e
     by true e = absurd (omega (arith, ints))
 
+pub true_lt : (x y : ℤ) → int_lt x y ≡ true → x <ℤ y
+true_lt x y h = omega (arith, ints, h)
+
+pub false_lt : (x y : ℤ) → int_lt x y ≡ false → y ≤ℤ x
+false_lt x y h = omega (arith, ints, h)
+
 and_false : (s : Bool) → s && false ≡ false
 and_false true = refl
 and_false false = refl

@@ -24,32 +24,15 @@ fn named(node: &Node<Item, Headed<Item>>) -> Item
     }
 }
 
-// An item, and the place of its end.
-#[derive(Clone, Copy)]
-struct Ending {
-    item: Item,
-    place: i64,
-}
-
-// The item with the place of its end.
-fn end_of<P: Places>(item: Item, at: &P) -> Ending
-    requires { P.Knows at.now item.end }
-    ensures item { result.item ≡ item }
-    ensures place { result.place ≡ P.end_place at.now item.end }
-{
-    Ending {
-        item,
-        place: at.place(item.end),
-    }
-}
-
 // Which of the two ends behind the other; the first where both end at one place.
-fn later(x: Ending, y: Ending) -> Ending
+fn later<P: Places>(x: Item, y: Item, at: &P) -> Item
+    requires first { P.Knows at.now x.end }
+    requires second { P.Knows at.now y.end }
     ensures one { (result ≡ x) ⊎ (result ≡ y) }
-    ensures first { x.place ≤ℤ result.place }
-    ensures second { y.place ≤ℤ result.place }
+    ensures first { P.end_place at.now x.end ≤ℤ P.end_place at.now result.end }
+    ensures second { P.end_place at.now y.end ≤ℤ P.end_place at.now result.end }
 {
-    if x.place < y.place { y } else { x }
+    if at.is_before(x.end, y.end) { y } else { x }
 }
 
 // Of the items that the children name, the one that ends last.
@@ -70,13 +53,13 @@ fn last_named<P: Places, G: Ledger>(
     let Some(first) = kids.get(0) else {
         unreachable!();
     };
-    let mut last = end_of(named(arena.read(first, steps)), at);
+    let mut last = named(arena.read(first, steps));
     let mut i = 1;
     while let Some(kid) = kids.get(i) {
-        last = later(last, end_of(named(arena.read(kid, steps)), at));
+        last = later(last, named(arena.read(kid, steps)), at);
         i += 1;
     }
-    last.item
+    last
 }
 
 // Has the block name the item that ends last, and tells whether it named another one before.

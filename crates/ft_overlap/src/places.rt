@@ -44,22 +44,23 @@ fn first_below<G: Ledger>(
     }
 }
 
-// Of the children of a block whose first item starts by a place, the last of which that holds: by halves.
+// Of the children of a block whose first item starts by an end's place, the last of which that holds: by halves.
 fn child_by<P: Places, G: Ledger>(
     arena: &Arena<Item, Headed<Item>>,
     _root: NodeId,
     _block: NodeId,
     kids: &Kids,
-    start: i64,
+    start: u64,
     at: &P,
     steps: &mut Steps<G>,
 ) -> NodeId
     requires tree { IsTree arena.now _root }
     requires block { IsSome (block_value arena.now _block) }
     requires kids { kids_of arena.now _block ≡ kids.now }
-    requires first { IsStartedBy (P.end_place at.now) start arena.now _block }
+    requires start { P.Knows at.now start }
+    requires first { IsStartedBy (P.end_place at.now) (P.end_place at.now start) arena.now _block }
     requires known { (id : ℕ) (x : Item) → leaf_value arena.now id ≡ Some x → P.Knows at.now x.start }
-    ensures { IsChildBy (P.end_place at.now) start arena.now _block kids.now result }
+    ensures { IsChildBy (P.end_place at.now) (P.end_place at.now start) arena.now _block kids.now result }
 {
     let Some(first) = kids.get(0) else {
         unreachable!();
@@ -72,7 +73,8 @@ fn child_by<P: Places, G: Ledger>(
         let Some(kid) = kids.get(middle) else {
             unreachable!();
         };
-        if at.place(first_below(arena, _root, kid, steps).start) > start {
+        let first = first_below(arena, _root, kid, steps);
+        if at.is_before(start, first.start) {
             high = middle;
         } else {
             child = kid;
@@ -97,13 +99,12 @@ pub(crate) fn place_for<P: Places, G: Ledger>(
     ensures { IsPlaceFor (P.end_place at.now) (P.end_place at.now item.now.start) arena.now result }
 {
     let first = first_below(arena, root, root, steps);
-    let start = at.place(item.start);
-    if at.place(first.start) > start {
+    if at.is_before(item.start, first.start) {
         return None;
     }
     let mut node = root;
     'levels: while let Node::Block { kids, .. } = arena.read(node, steps) {
-        node = child_by(arena, root, node, kids, start, at, steps);
+        node = child_by(arena, root, node, kids, item.start, at, steps);
     }
     Some(node)
 }

@@ -1,42 +1,40 @@
-use Rattle.std.proofs.Common.{◌≡◌, ◌≤ℤ◌, ℤ, Some, None, slice_get, map, inl, inr, sym, ap, subst, ◌∙◌, arith}
+use Rattle.std.proofs.Common.{◌≡◌, Some, None, slice_get, map, inl, inr, sym, subst, ◌∙◌, arith}
 use Rattle.std.proofs.lemmas.Option.{slice_get_within}
 use Rattle.ft_shape.specs.Told.{told}
 use Rattle.ft_shape.proofs.Lists.{times_at}
 use Rattle.ft_overlap.specs.declared.items.Item.{Item}
-use Rattle.ft_overlap.specs.declared.names.Ending.{Ending}
 use Rattle.ft_overlap.specs.Inside.{NamesOne, named_by}
 use Rattle.ft_overlap.proofs.Last.{named_of, names_one, last_more, last_first, last_all}
+use Rattle.ft_overlap.proofs.Renamed.{one_known}
 use Rattle.ft_overlap.proofs.names.last_named.Goals as goal
 
 pub read-requires : goal.read-requires
 read-requires g c = c.requires.live c.in-Some.first (times_at c.args.kids.now 0 c.in-Some.first (sym c.get.ensures ∙ c.in-Some.is))
-
-pub end_of-last-requires : goal.end_of-last-requires
-end_of-last-requires g c =
-    c.requires.known c.in-Some.first c.named.result (named_of c.args.arena.now c.in-Some.first _ c.named.result c.read.ensures.node c.named.ensures)
 
 pub loop-kid-init : goal.loop-kid-init
 loop-kid-init g c =
     let s = c.args.arena.now in
     let first = c.in-Some.first in
     let there : slice_get c.args.kids.now 0 ≡ Some first = sym c.get.ensures ∙ c.in-Some.is in
-    let names : named_by (told s first) ≡ Some c.end_of-last.result.item =
-    named_of s first _ c.named.result c.read.ensures.node c.named.ensures ∙ ap Some (sym c.end_of-last.ensures.item) in
+    let names : named_by (told s first) ≡ Some c.named-last.result = named_of s first _ c.named-last.result c.read.ensures.node c.named-last.ensures in
     record {
       few = omega (arith, c.len-few.ensures.value, c.len-few.ensures.few);
       inside = c.requires.some;
-      place = c.end_of-last.ensures.place ∙ ap (λ (z : Item). g.P.Places.end_place c.args.at.now z.end) (sym c.end_of-last.ensures.item);
-      one = names_one s c.args.kids.now 0 first c.end_of-last.result.item there names;
-      last = last_first s (g.P.Places.end_place c.args.at.now) c.args.kids.now first c.end_of-last.result.item there names;
+      one = names_one s c.args.kids.now 0 first c.named-last.result there names;
+      last = last_first s (g.P.Places.end_place c.args.at.now) c.args.kids.now first c.named-last.result there names;
     }
 
 pub read-requires-in-Some-get : goal.read-requires-in-Some-get
 read-requires-in-Some-get g c = c.requires.live c.in-Some-get.kid (times_at c.args.kids.now c.loop-kid.i c.in-Some-get.kid (sym c.get-in-loop-kid.ensures ∙ c.in-Some-get.is))
 
-pub end_of-requires : goal.end_of-requires
-end_of-requires g c =
-    c.requires.known c.in-Some-get.kid c.named-in-Some-get.result
-    (named_of c.args.arena.now c.in-Some-get.kid _ c.named-in-Some-get.result c.read-in-Some-get.ensures.node c.named-in-Some-get.ensures)
+pub later-last-requires-clause-first : goal.later-last-requires-clause-first
+later-last-requires-clause-first g c =
+    one_known (g.P.Places.Knows c.args.at.now) c.args.arena.now c.requires.known c.args.kids.now c.loop-kid.last c.loop-kid.invariant.one
+
+pub later-last-requires-clause-second : goal.later-last-requires-clause-second
+later-last-requires-clause-second g c =
+    c.requires.known c.in-Some-get.kid c.named.result
+    (named_of c.args.arena.now c.in-Some-get.kid _ c.named.result c.read-in-Some-get.ensures.node c.named.ensures)
 
 pub loop-kid-smaller : goal.loop-kid-smaller
 loop-kid-smaller g c = let w = slice_get_within c.args.kids.now c.loop-kid.i c.in-Some-get.kid (sym c.get-in-loop-kid.ensures ∙ c.in-Some-get.is) in omega (arith, w)
@@ -49,34 +47,23 @@ loop-kid-preserved g c =
     let i = c.loop-kid.i in
     let kid = c.in-Some-get.kid in
     let last = c.loop-kid.last in
-    let next = c.end_of.result in
+    let next = c.named.result in
     let both = c.later-last.result in
     let there : slice_get kids i ≡ Some kid = sym c.get-in-loop-kid.ensures ∙ c.in-Some-get.is in
-    let names : named_by (told s kid) ≡ Some next.item =
-    named_of s kid _ c.named-in-Some-get.result c.read-in-Some-get.ensures.node c.named-in-Some-get.ensures ∙ ap Some (sym c.end_of.ensures.item) in
-    let here : next.place ≡ place next.item.end = c.end_of.ensures.place ∙ ap (λ (z : Item). place z.end) (sym c.end_of.ensures.item) in
-    let ends : both.place ≡ place both.item.end = elim c.later-last.ensures.one [
-      | inl e ↦ subst (λ (z : Ending). z.place ≡ place z.item.end) (sym e) c.loop-kid.invariant.place
-      | inr e ↦ subst (λ (z : Ending). z.place ≡ place z.item.end) (sym e) here
+    let names : named_by (told s kid) ≡ Some next = named_of s kid _ next c.read-in-Some-get.ensures.node c.named.ensures in
+    let one : NamesOne both (map (told s) kids) = elim c.later-last.ensures.one [
+      | inl e ↦ subst (λ (z : Item). NamesOne z (map (told s) kids)) (sym e) c.loop-kid.invariant.one
+      | inr e ↦ subst (λ (z : Item). NamesOne z (map (told s) kids)) (sym e) (names_one s kids i kid next there names)
     ] in
-    let one : NamesOne both.item (map (told s) kids) = elim c.later-last.ensures.one [
-      | inl e ↦ subst (λ (z : Ending). NamesOne z.item (map (told s) kids)) (sym e) c.loop-kid.invariant.one
-      | inr e ↦ subst (λ (z : Ending). NamesOne z.item (map (told s) kids)) (sym e) (names_one s kids i kid next.item there names)
-    ] in
-    let low : place last.item.end ≤ℤ place both.item.end =
-    subst (λ (z : ℤ). z ≤ℤ place both.item.end) c.loop-kid.invariant.place (subst (λ (z : ℤ). last.place ≤ℤ z) ends c.later-last.ensures.first) in
-    let low' : place next.item.end ≤ℤ place both.item.end =
-    subst (λ (z : ℤ). z ≤ℤ place both.item.end) here (subst (λ (z : ℤ). next.place ≤ℤ z) ends c.later-last.ensures.second) in
     record {
       few = c.loop-kid.invariant.few;
       inside = omega (arith, slice_get_within kids i kid there);
-      place = ends;
       one = one;
-      last = last_more s place kids i kid last.item next.item both.item there names c.loop-kid.invariant.last low low';
+      last = last_more s place kids i kid last next both there names c.loop-kid.invariant.last c.later-last.ensures.first c.later-last.ensures.second;
     }
 
 pub returns-clause-last : goal.returns-clause-last
 returns-clause-last g c =
     let place = g.P.Places.end_place c.args.at.now in
     let none : slice_get c.args.kids.now c.loop-kid.i ≡ None = sym c.get-in-loop-kid.ensures ∙ c.in_default-get.is in
-    last_all c.args.arena.now place c.args.kids.now c.loop-kid.i c.loop-kid.last.item none c.loop-kid.invariant.last
+    last_all c.args.arena.now place c.args.kids.now c.loop-kid.i c.loop-kid.last none c.loop-kid.invariant.last

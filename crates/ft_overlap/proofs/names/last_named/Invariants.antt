@@ -1,4 +1,4 @@
-use Rattle.std.proofs.Common.{◌≡◌, ◌≤◌, ◌-◌, length, take, map}
+use Rattle.std.proofs.Common.{◌≤◌, ◌-◌, length, take, map}
 use Rattle.ft_shape.specs.Told.{told}
 use Rattle.ft_overlap.specs.Inside.{NamesOne}
 use Rattle.ft_overlap.proofs.Last.{IsLastOf}
@@ -9,9 +9,8 @@ invariant-loop-kid g l =
     record {
       few : length l.kids ≤ 8;
       inside : l.i ≤ length l.kids;
-      place : l.last.place ≡ g.P.Places.end_place l.at l.last.item.end;
-      one : NamesOne l.last.item (map (told l.arena) l.kids);
-      last : IsLastOf l.arena (g.P.Places.end_place l.at) l.last.item (take l.i l.kids);
+      one : NamesOne l.last (map (told l.arena) l.kids);
+      last : IsLastOf l.arena (g.P.Places.end_place l.at) l.last (take l.i l.kids);
     }
 
 abbrev pub decreases-loop-kid : goal.decreases-loop-kid

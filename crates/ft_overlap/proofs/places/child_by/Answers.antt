@@ -1,11 +1,10 @@
-use Rattle.std.proofs.Common.{◌≡◌, ◌<ℤ◌, ◌≤ℤ◌, ◌+◌, ◌-◌, ◌/◌, ℕ, ℤ, Some, drop, length, refl, slice_get, sym, ap, subst, ◌∙◌, arith, to_z, of_z, w64}
-use Rattle.std.proofs.lemmas.Int.{ints, to_z-of_z}
+use Rattle.std.proofs.Common.{◌≡◌, ◌<ℤ◌, ◌+◌, ◌-◌, ◌/◌, ℕ, Some, drop, length, refl, slice_get, sym, ap, subst, ◌∙◌, arith}
 use Rattle.std.proofs.lemmas.List.{length-drop}
 use Rattle.ft_shape.specs.Tree.{height_of, below}
 use Rattle.ft_shape.proofs.Lists.{drop_none}
 use Rattle.ft_overlap.specs.Inside.{IsBehind, items_of}
-use Rattle.ft_overlap.specs.Search.{IsStartedBy, IsChildBy}
 use Rattle.ft_overlap.proofs.Descent.{d_filled, d_kid_live, first_below_node, down_first, child_behind, none_behind, child_at_end}
+use Rattle.ft_overlap.proofs.Keys.{true_lt, false_lt}
 use Rattle.ft_overlap.proofs.places.child_by.Goals as goal
 
 pub unreachable-requires : goal.unreachable-requires
@@ -20,8 +19,7 @@ halves-init g c =
     let n = c.args._block in
     let kids = c.args.kids.now in
     let place = g.P.Places.end_place c.args.at.now in
-    let b = to_z w64 (of_z w64 c.args.start) in
-    let is : b ≡ c.args.start = to_z-of_z w64 c.args.start c.ranges.start in
+    let b = place c.args.start in
     let there : slice_get kids 0 ≡ Some c.in-Some.first = sym c.get.ensures ∙ c.in-Some.is in
     let live = d_kid_live s c.args._root n c.requires.tree c.requires.block kids c.requires.kids 0 c.in-Some.first there in
     let head = first_below_node s c.args._root c.requires.tree (height_of s c.in-Some.first) c.in-Some.first refl live in
@@ -31,7 +29,7 @@ halves-init g c =
       inside = omega (arith, c.len-high.ensures.value);
       there = there;
       first = down_first s c.args._root n c.requires.tree c.requires.block kids c.requires.kids place b c.in-Some.first head.0 there head.1
-          (subst (λ (z : ℤ). IsStartedBy place z s n) (sym is) c.requires.first);
+          c.requires.first;
       behind = subst (λ (k : ℕ). IsBehind place b (items_of s (below s (height_of s n - 1) (drop k kids)))) (sym c.len-high.ensures.value)
           (none_behind s c.args._root n c.requires.tree c.requires.block kids c.requires.kids place b);
     }
@@ -50,8 +48,8 @@ unreachable-requires-in_default-get g c =
       ap length (drop_none c.args.kids.now middle (sym c.get-in-halves.ensures ∙ c.in_default-get.is)),
     )
 
-pub first_below-requires-clause-live : goal.first_below-requires-clause-live
-first_below-requires-clause-live g c =
+pub first_below-first-requires-clause-live : goal.first_below-first-requires-clause-live
+first_below-first-requires-clause-live g c =
     let middle = c.halves.low + (c.halves.high - c.halves.low) / 2 in
     d_kid_live c.args.arena.now c.args._root c.args._block c.requires.tree c.requires.block c.args.kids.now c.requires.kids middle c.in-Some-get.kid
     (sym c.get-in-halves.ensures ∙ c.in-Some-get.is)
@@ -59,21 +57,18 @@ first_below-requires-clause-live g c =
 pub halves-smaller : goal.halves-smaller
 halves-smaller g c = omega (arith, c.halves.invariant.order)
 
-pub halves-smaller-then-place-start : goal.halves-smaller-then-place-start
-halves-smaller-then-place-start g c = omega (arith, c.halves.invariant.order)
+pub halves-smaller-then-is_before : goal.halves-smaller-then-is_before
+halves-smaller-then-is_before g c = omega (arith, c.halves.invariant.order)
 
-pub halves-preserved-then-place-start : goal.halves-preserved-then-place-start
-halves-preserved-then-place-start g c =
+pub halves-preserved-then-is_before : goal.halves-preserved-then-is_before
+halves-preserved-then-is_before g c =
     let s = c.args.arena.now in
     let kids = c.args.kids.now in
     let place = g.P.Places.end_place c.args.at.now in
-    let b = to_z w64 (of_z w64 c.args.start) in
-    let is : b ≡ c.args.start = to_z-of_z w64 c.args.start c.ranges.start in
+    let b = place c.args.start in
     let middle = c.halves.low + (c.halves.high - c.halves.low) / 2 in
     let there : slice_get kids middle ≡ Some c.in-Some-get.kid = sym c.get-in-halves.ensures ∙ c.in-Some-get.is in
-    let less : c.args.start <ℤ c.place.result = omega (arith, ints) in
-    let behind : b <ℤ place c.first_below.result.start =
-    subst (λ (z : ℤ). z <ℤ place c.first_below.result.start) (sym is) (subst (λ (z : ℤ). c.args.start <ℤ z) c.place.ensures less) in
+    let behind : b <ℤ place c.first_below-first.result.start = true_lt b (place c.first_below-first.result.start) (sym c.is_before.ensures ∙ c.if-is_before.true) in
     record {
       few = c.halves.invariant.few;
       order = omega (arith, c.halves.invariant.order);
@@ -81,26 +76,24 @@ halves-preserved-then-place-start g c =
       there = c.halves.invariant.there;
       first = c.halves.invariant.first;
       behind = child_behind s c.args._root c.args._block c.requires.tree c.requires.block kids c.requires.kids place b middle c.in-Some-get.kid
-          c.first_below.result there c.first_below.ensures behind;
+          c.first_below-first.result there c.first_below-first.ensures behind;
     }
 
 pub halves-preserved : goal.halves-preserved
 halves-preserved g c =
     let place = g.P.Places.end_place c.args.at.now in
-    let b = to_z w64 (of_z w64 c.args.start) in
-    let is : b ≡ c.args.start = to_z-of_z w64 c.args.start c.ranges.start in
-    let f = c.first_below.ensures in
-    let low : c.place.result ≤ℤ c.args.start = omega (arith, ints) in
+    let b = place c.args.start in
+    let f = c.first_below-first.ensures in
     record {
       few = c.halves.invariant.few;
       order = omega (arith, c.halves.invariant.order);
       inside = c.halves.invariant.inside;
       there = sym c.get-in-halves.ensures ∙ c.in-Some-get.is;
       first = record {
-        item = c.first_below.result;
+        item = c.first_below-first.result;
         rest = f.rest;
         items = f.items;
-        by = subst (λ (z : ℤ). z ≤ℤ b) c.place.ensures (subst (λ (z : ℤ). c.place.result ≤ℤ z) (sym is) low);
+        by = false_lt b (place c.first_below-first.result.start) (sym c.is_before.ensures ∙ c.if-is_before.false);
       };
       behind = c.halves.invariant.behind;
     }
@@ -111,10 +104,8 @@ returns g c =
     let n = c.args._block in
     let kids = c.args.kids.now in
     let place = g.P.Places.end_place c.args.at.now in
-    let b = to_z w64 (of_z w64 c.args.start) in
-    let is : b ≡ c.args.start = to_z-of_z w64 c.args.start c.ranges.start in
+    let b = place c.args.start in
     let last : c.halves.high ≡ c.halves.low + 1 = omega (arith, c.halves.invariant.order) in
-    subst (λ (z : ℤ). IsChildBy place z s n kids c.halves.child) is
-    (child_at_end s c.args._root n c.requires.tree c.requires.block kids c.requires.kids place b c.halves.low c.halves.child
+    child_at_end s c.args._root n c.requires.tree c.requires.block kids c.requires.kids place b c.halves.low c.halves.child
     c.halves.invariant.there c.halves.invariant.first
-    (subst (λ (k : ℕ). IsBehind place b (items_of s (below s (height_of s n - 1) (drop k kids)))) last c.halves.invariant.behind))
+    (subst (λ (k : ℕ). IsBehind place b (items_of s (below s (height_of s n - 1) (drop k kids)))) last c.halves.invariant.behind)

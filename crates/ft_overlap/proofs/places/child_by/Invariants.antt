@@ -11,8 +11,8 @@ invariant-halves g l =
       order : l.low < l.high;
       inside : l.high ≤ length l.kids;
       there : slice_get l.kids l.low ≡ Some l.child;
-      first : IsStartedBy (g.P.Places.end_place l.at) l.start l.arena l.child;
-      behind : IsBehind (g.P.Places.end_place l.at) l.start
+      first : IsStartedBy (g.P.Places.end_place l.at) (g.P.Places.end_place l.at l.start) l.arena l.child;
+      behind : IsBehind (g.P.Places.end_place l.at) (g.P.Places.end_place l.at l.start)
           (items_of l.arena (below l.arena (height_of l.arena l.fn._block - 1) (drop l.high l.kids)));
     }
 

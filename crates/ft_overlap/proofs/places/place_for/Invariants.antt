@@ -8,7 +8,7 @@ use Rattle.ft_overlap.proofs.places.place_for.Given as goal
 abbrev pub invariant-levels : goal.invariant-levels
 invariant-levels g l = record {
   live : IsSome (entry l.arena l.node);
-  reached : IsReached (g.P.Places.end_place l.at) l.start l.arena l.node;
+  reached : IsReached (g.P.Places.end_place l.at) (g.P.Places.end_place l.at l.item.start) l.arena l.node;
 }
 
 abbrev pub decreases-levels : goal.decreases-levels
