@@ -20,7 +20,7 @@ module _ (s : Nodes) where
       → named_by (told s x) ≡ Some v
   named_of x e v read h = ap (λ (o : Option (Entry Item (Headed Item))). either_named (leaf_of_entry o) (sum_of (block_of_entry o))) read ∙ h
 
-  told_in : (xs : List ℕ) (x : ℕ) → 1 ≤ times xs x → Contains (map (told s) xs) (told s x)
+  pub told_in : (xs : List ℕ) (x : ℕ) → 1 ≤ times xs x → Contains (map (told s) xs) (told s x)
   told_in [] x m = absurd (omega arith)
   told_in (y ∷ ys) x m = elim (cases_eq y x) [
     | inl e ↦ subst (λ (z : ℕ). Contains (map (told s) (y ∷ ys)) (told s z)) e (0, omega arith, refl)
@@ -62,7 +62,7 @@ module _ (s : Nodes) where
           | inr d ↦ absurd (omega (arith, m, same_other kid x d, ap (λ (z : ℕ). times (z ∷ []) x) q))
         ]
 
-    all_last : (v : Item) (xs : List ℕ) → IsLastOf v xs → NamesLast place v (map (told s) xs)
+    pub all_last : (v : Item) (xs : List ℕ) → IsLastOf v xs → NamesLast place v (map (told s) xs)
     all_last v [] h = All-nil (λ t. (x : Item) → named_by t ≡ Some x → place x.end ≤ℤ place v.end)
     all_last v (x ∷ xs) h = All-cons (λ t. (x : Item) → named_by t ≡ Some x → place x.end ≤ℤ place v.end) (told s x) (map (told s) xs)
         (λ y e. h x y (omega (arith, same_refl x)) e) (all_last v xs (λ y z m e. h y z (omega arith) e))

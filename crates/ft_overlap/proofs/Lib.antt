@@ -8,6 +8,7 @@ pub mod Law
 pub mod Parts
 pub mod Last
 pub mod Renamed
+pub mod Raised
 pub mod Upward
 pub mod Halved
 pub mod Rooted

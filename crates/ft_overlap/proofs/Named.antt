@@ -40,7 +40,7 @@ all_told : {X : Type 0} (P : X → Type 0) (f : ℕ → X) (xs : List ℕ) → (
 all_told P f [] h = All-nil P
 all_told P f (x ∷ xs) h = All-cons P (f x) (map f xs) (h x (omega (arith, same_refl x))) (all_told P f xs (λ y m. h y (omega arith)))
 
-told_each : {X : Type 0} (P : X → Type 0) (f : ℕ → X) (xs : List ℕ) → All P (map f xs) → (x : ℕ) → 1 ≤ times xs x → P (f x)
+pub told_each : {X : Type 0} (P : X → Type 0) (f : ℕ → X) (xs : List ℕ) → All P (map f xs) → (x : ℕ) → 1 ≤ times xs x → P (f x)
 told_each P f [] h x m = absurd (omega arith)
 told_each P f (y ∷ ys) h x m = elim (cases_eq y x) [
   | inl e ↦ subst (λ (z : ℕ). P (f z)) e (All-head P (f y) (map f ys) h)

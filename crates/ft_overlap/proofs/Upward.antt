@@ -11,6 +11,13 @@ use Rattle.ft_shape.proofs.KindLemmas.{kind_height, kind_block, block_live}
 use Rattle.ft_shape.proofs.RefreshLemmas.{SameShape-shape}
 
 module _ {L S : Type 0} where
+  -- no block is its own child
+  pub apart_from_own : (s : Forest L (Headed S)) (root : ℕ) (extra short : Option ℕ) → IsShape s root extra short → (b : ℕ) → times (kids_of s b) b ≡ 0
+  apart_from_own s root extra short t b = elim (cases_lt 0 (times (kids_of s b) b)) [
+    | inl l ↦ absurd (omega (arith, steps_down s root extra t b b (omega arith)))
+    | inr z ↦ omega arith
+  ]
+
   -- how many levels there are from here up
   abbrev pub levels_left : Forest L (Headed S) → ℕ → Option ℕ → ℕ
   levels_left s root None = 0
@@ -18,10 +25,7 @@ module _ {L S : Type 0} where
 
   module _ (s : Forest L (Headed S)) (root : ℕ) (extra short : Option ℕ) (t : IsPartTree s root extra short) (b : ℕ) where
     pub no_own_child : times (kids_of s b) b ≡ 0
-    no_own_child = elim (cases_lt 0 (times (kids_of s b) b)) [
-      | inl l ↦ absurd (omega (arith, steps_down s root extra t.shape b b (omega arith)))
-      | inr z ↦ omega arith
-    ]
+    no_own_child = apart_from_own s root extra short t.shape b
 
     module _ (s' : Forest L (Headed S)) (r : SameShape s s') (block : IsSome (block_value s b)) where
       up_shape : IsShape s' root extra short

@@ -1,11 +1,11 @@
 -- How an `Index` keeps its items. No public clause cites this module.
-use Rattle.std.specs.Prelude.{◌≡◌, ℕ, ℤ, zero, suc, ◌-◌, ◌<◌, ◌≤ℤ◌, ◌<ℤ◌, List, [], ◌∷◌, ◌++◌, Option, Some, None, All, Contains}
+use Rattle.std.specs.Prelude.{◌≡◌, ◌⊎◌, ℕ, ℤ, zero, suc, ◌-◌, ◌<◌, ◌≤◌, ◌≤ℤ◌, ◌<ℤ◌, List, [], ◌∷◌, ◌++◌, length, map, insert, Option, Some, None, All, Contains}
 use Rattle.std.specs.List.{flat_map}
-use Rattle.ft_arena.specs.Forest.{Forest, leaf_value, block_value, kids_of}
-use Rattle.ft_arena.specs.Ids.{without}
+use Rattle.ft_arena.specs.Forest.{Forest, leaf_value, block_value, kids_of, parent_of}
+use Rattle.ft_arena.specs.Ids.{times, without}
 use Rattle.ft_shape.specs.declared.headed.Headed.{Headed}
-use Rattle.ft_shape.specs.Tree.{IsTree, IsBare, height_of, below}
-use Rattle.ft_shape.specs.Told.{told, KeepsBut}
+use Rattle.ft_shape.specs.Tree.{IsTree, IsGrowing, IsEdit, IsBare, height_of, below}
+use Rattle.ft_shape.specs.Told.{sum_of, told, KeepsBut}
 use Rattle.ft_overlap.specs.declared.items.Item.{Item}
 use Rattle.ft_overlap.specs.declared.index.Index.TheInside.{Inside}
 use Rattle.ft_overlap.specs.Items.{Below, ItemList, IsGreatest, item_at, without_key}
@@ -79,6 +79,35 @@ NamesLast place v ts = All (λ t. (x : Item) → named_by t ≡ Some x → place
 -- the end of each item that a node names is known
 abbrev pub EndsKnown : (ℕ → Type 0) → Nodes → Type 0
 EndsKnown Knows s = (id : ℕ) (x : Item) → named_by (told s id) ≡ Some x → Knows x.end
+
+-- one child of the block names the new item, and no other names one that ends behind v; where the new one doesn't either, a child names v
+pub record MayRise (place : ℕ → ℤ) (item : Item) (s : Nodes) (b : ℕ) (v : Item) : Type 0 where
+  pub there : NamesOne item (map (told s) (kids_of s b))
+  pub one : place item.end ≤ℤ place v.end → NamesOne v (map (told s) (kids_of s b))
+  pub others : (x : ℕ) (y : Item) → 1 ≤ times (kids_of s b) x → named_by (told s x) ≡ Some y → (y ≡ item) ⊎ (place y.end ≤ℤ place v.end)
+
+-- this block, if there is one, names what it did before one of its children named the new item
+abbrev pub IsUnraised : (ℕ → ℤ) → Item → Nodes → Option ℕ → Type 0
+IsUnraised place item s stale = (b : ℕ) (v : Item) → stale ≡ Some b → sum_of (block_value s b) ≡ Some v → MayRise place item s b v
+
+-- the block named an item that ends before the new one, and names the new one
+pub record Rises (place : ℕ → ℤ) (item : Item) (old new : Nodes) (b : ℕ) : Type 0 where
+  pub before : Item
+  pub was : named_by (told old b) ≡ Some before
+  pub now : named_by (told new b) ≡ Some item
+  pub ends : place before.end <ℤ place item.end
+
+-- the leaf with this item is to be put at this place among the block's children, beside one of them
+pub record IsLeafPlace (s : Nodes) (root block place id : ℕ) (item : Item) : Type 0 where
+  pub at : ℕ
+  pub step : ℕ
+  pub edit : List ℕ → List ℕ
+  pub is_edit : IsEdit step edit at id
+  pub growing : IsGrowing s root at id edit
+  pub up : parent_of s at ≡ Some block
+  pub beside : insert (kids_of s block) place id ≡ edit (kids_of s block)
+  pub inside : place ≤ length (kids_of s block)
+  pub leaf : leaf_value s id ≡ Some item
 
 -- each block names an item below it
 abbrev pub AreNamed : Nodes → Type 0

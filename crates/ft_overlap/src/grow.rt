@@ -3,16 +3,17 @@
 ghost use Rattle.std.specs.Prelude.{◌≡◌, ◌≢◌, ℕ, ℤ, ◌+◌, ◌-◌, ◌^◌, ◌<◌, ◌≤◌, Some, None, IsSome, length, ◌∷◌};
 ghost use Rattle.ft_arena.specs.Forest.{IsForest, entry, block_value, kids_of, parent_of, leaf_value};
 ghost use Rattle.ft_arena.specs.Ids.{times, insert_after};
-ghost use Rattle.ft_shape.specs.Tree.{IsTree, IsGrowing, IsBare, height_of, insert_before};
+ghost use Rattle.ft_shape.specs.Tree.{IsTree, IsGrowing, IsBare, height_of};
 ghost use Rattle.ft_shape.specs.Steps.{SplitsAt, RootsOver, InsertsLeaf};
 ghost use Rattle.ft_shape.specs.Told.{KeepsBut, Retells, RetellsBoth};
-ghost use Rattle.ft_overlap.specs.Inside.{NamesOne, NamesLast, EndsKnown};
+ghost use Rattle.ft_overlap.specs.Inside.{NamesOne, NamesLast, EndsKnown, IsLeafPlace};
 
 use crate::items::{Item, Places};
 use crate::names::{rename, rename_up};
+use crate::raise::raise_up;
 use ft_arena::{Arena, NodeId};
 use ft_base::Steps;
-use ft_shape::{Headed, child_place, height_at, move_half, put_in_half};
+use ft_shape::{Headed, child_place, count_of, height_at, move_half, put_in_half};
 use std::sync::ledger::Ledger;
 
 // Splits a full block, and puts a node at this place among its children. Tells the new block.
@@ -124,42 +125,39 @@ fn grow<P: Places, G: Ledger>(
     (top, None)
 }
 
-// Puts a node into the tree, directly before a leaf. Tells the same.
-fn grow_front<P: Places, G: Ledger>(
+// Puts a linked leaf at this place among the block's children; a full block is split. Tells the root.
+fn put_leaf<P: Places, G: Ledger>(
     arena: &mut Arena<Item, Headed<Item>>,
     root: NodeId,
-    at: NodeId,
+    block: NodeId,
+    place: usize,
     id: NodeId,
     item: Item,
     places: &P,
     steps: &mut Steps<G>,
-) -> (NodeId, Option<NodeId>)
-    requires growing { IsGrowing arena.old root at id (λ xs. insert_before xs at id) }
-    requires one { KeepsBut NamesOne arena.old (parent_of arena.old at) }
-    requires last { KeepsBut (NamesLast (P.end_place places.now)) arena.old (parent_of arena.old at) }
-    requires apart { at ≢ root }
-    requires spare { height_of arena.old root - height_of arena.old at + 1 ≤ arena.old.spare }
+) -> NodeId
+    requires place { IsLeafPlace arena.old root block place id item }
+    requires one { KeepsBut NamesOne arena.old None }
+    requires last { KeepsBut (NamesLast (P.end_place places.now)) arena.old None }
+    requires spare { height_of arena.old root + 1 ≤ arena.old.spare }
     requires tall { height_of arena.old root + 1 < 2 ^ 64 }
     requires item { P.Knows places.now item.end }
     requires known { EndsKnown (P.Knows places.now) arena.old }
-    ensures tree { IsTree arena.new result.0 }
-    ensures stale { (b : ℕ) → result.1 ≡ Some b → IsSome (block_value arena.new b) }
-    ensures one { KeepsBut NamesOne arena.new result.1 }
-    ensures last { KeepsBut (NamesLast (P.end_place places.now)) arena.new result.1 }
-    ensures known { EndsKnown (P.Knows places.now) arena.new }
+    ensures tree { IsTree arena.new result }
+    ensures one { KeepsBut NamesOne arena.new None }
+    ensures last { KeepsBut (NamesLast (P.end_place places.now)) arena.new None }
     ensures leaves { arena.new.leaves ≡ arena.old.leaves }
     ensures leaf_values { (x : ℕ) → leaf_value arena.new x ≡ leaf_value arena.old x }
 {
-    let Some(block) = arena.parent(at) else {
-        unreachable!();
-    };
-    let (place, count) = child_place(arena, block, at, steps);
-    if count < 8 {
+    if count_of(arena, block, steps) < 8 {
         arena.put_child(block, place, id);
-        return (root, Some(block));
+        raise_up(arena, root, Some(block), item, places, steps);
+        return root;
     }
     let rear = split_put(arena, block, place, id, item, places, steps);
-    grow(arena, root, block, rear, item, places, steps)
+    let (top, stale) = grow(arena, root, block, rear, item, places, steps);
+    rename_up(arena, top, None, None, stale, places, steps);
+    top
 }
 
 // Puts a new item directly after another. Tells the root.
@@ -186,9 +184,11 @@ pub(crate) fn insert_at<P: Places, G: Ledger>(
     // There are fewer items than numbers of nodes, so the tree is far lower than that.
     let _first = arena.first();
     let id = arena.link_after(Some(at), item);
-    let (top, stale) = grow(arena, root, at, id, item, places, steps);
-    rename_up(arena, top, None, None, stale, places, steps);
-    top
+    let Some(block) = arena.parent(at) else {
+        unreachable!();
+    };
+    let (place, _) = child_place(arena, block, at, steps);
+    put_leaf(arena, root, block, place + 1, id, item, places, steps)
 }
 
 // Puts a new item before all others. Tells the root.
@@ -214,9 +214,11 @@ pub(crate) fn insert_front<P: Places, G: Ledger>(
         unreachable!();
     };
     let id = arena.link_after(None, item);
-    let (top, stale) = grow_front(arena, root, first, id, item, places, steps);
-    rename_up(arena, top, None, None, stale, places, steps);
-    top
+    let Some(block) = arena.parent(first) else {
+        unreachable!();
+    };
+    let (place, _) = child_place(arena, block, first, steps);
+    put_leaf(arena, root, block, place, id, item, places, steps)
 }
 
 // Puts the first item of all, under a new root. Tells the root.

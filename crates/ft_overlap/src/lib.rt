@@ -11,6 +11,7 @@ pub mod index;
 pub mod items;
 mod names;
 mod places;
+mod raise;
 mod search;
 mod shrink;
 
