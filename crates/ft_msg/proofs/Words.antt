@@ -1,5 +1,5 @@
 -- The words of messages are characters; the code compares their bytes, which is the same.
-use Rattle.std.proofs.Common.{◌≡◌, Bool, true, false, List, ℕ, Ok, codes, bytes_eq, refl, sym, ap, ◌∙◌}
+use Rattle.std.proofs.Common.{◌≡◌, false, List, ℕ, Ok, codes, bytes_eq, refl, sym, ap, ◌∙◌}
 use Rattle.std.proofs.lemmas.Slice.Eq.{bytes_eq-Decides}
 use Rattle.std.proofs.lemmas.Str.{encodes-chars}
 use Rattle.std.proofs.Math.Utf8.{encodes}

@@ -1,4 +1,4 @@
-use Rattle.std.proofs.Common.{◌≡◌, ℕ, zero, suc, ◌+◌, List, [], ◌∷◌, ◌++◌, take, refl, sym, ◌∙◌, ap, append_assoc, arith}
+use Rattle.std.proofs.Common.{◌≡◌, ℕ, zero, suc, ◌+◌, List, [], ◌∷◌, ◌++◌, take, sym, ◌∙◌, ap, append_assoc, arith}
 use Rattle.ft_msg.proofs.names.Names.first.Goals as goal
 
 next-taken : (n m : ℕ) (name : List ℕ) (names : List (List ℕ)) → m + 1 ≡ n → take n (name ∷ names) ≡ name ∷ take m names
