@@ -1,5 +1,5 @@
 -- Names of a table stand once, and so do the first of them.
-use Rattle.std.proofs.Common.{◌≡◌, ℕ, zero, suc, Bool, true, false, not, ◌&&◌, ◌||◌, bytes_eq, List, [], ◌∷◌, take, refl}
+use Rattle.std.proofs.Common.{◌≡◌, ℕ, zero, suc, Bool, true, false, not, ◌||◌, bytes_eq, List, [], ◌∷◌, take, refl}
 use Rattle.std.specs.List.{list_any}
 use Rattle.ft_base.proofs.Booleans.{both}
 use Rattle.ft_props.specs.Properties.{Characters}
