@@ -1,10 +1,9 @@
 -- The document that a valid summary gives is one of which a summary can be written.
-use Rattle.std.proofs.Common.{◌≡◌, ℕ, zero, suc, ◌+◌, ◌≤◌, Bool, true, false, cond, ◌&&◌, ◌||◌, nat_eq, nat_le, nat_lt, ℤ, pos, negsuc, List, [], ◌∷◌, ◌++◌, length, map, replicate, Option, Some, None, refl, ◌∙◌, ap, arith}
+use Rattle.std.proofs.Common.{◌≡◌, ℕ, zero, suc, ◌+◌, ◌≤◌, Bool, true, false, cond, ◌&&◌, ◌||◌, nat_le, nat_lt, ℤ, pos, negsuc, List, [], ◌∷◌, ◌++◌, length, map, replicate, Option, Some, None, refl, ◌∙◌, ap, arith}
 use Rattle.std.specs.List.{AllByRecursion, list_all}
 use Rattle.std.proofs.lemmas.Bool.Decides.{nat_tests}
 use Rattle.ft_base.proofs.Booleans.{both}
 use Rattle.ft_base.specs.declared.stamps.Stamp.{Stamp}
-use Rattle.ft_base.specs.declared.stamps.Stamp.TheVariants.{Acked}
 use Rattle.ft_base.specs.Scan.{len, one_more_if}
 use Rattle.ft_base.specs.Visibility.{is_acked}
 use Rattle.ft_props.specs.Properties.{PropertyList}
@@ -22,10 +21,11 @@ use Rattle.ft_sumdoc.specs.declared.summary.SegRec.{SegRec}
 use Rattle.ft_sumdoc.specs.declared.summary.SumDoc.{SumDoc}
 use Rattle.ft_sumdoc.specs.Intervals.{are_shown_ends}
 use Rattle.ft_sumdoc.specs.Segments.{body_length, unless_removed, unremoved_text}
-use Rattle.ft_sumdoc.specs.Stamps.{Bounds, are_removals, is_old, is_recent, is_universal, removals_rise, same_mark}
+use Rattle.ft_sumdoc.specs.Stamps.{Bounds, are_removals, is_old, is_recent, is_universal, removals_rise, same_mark, universal}
 use Rattle.ft_sumdoc.specs.Valid.{IsCell, IsInterval, IsSegment, IsValidSummary, IsValue, are_stamps, bounds, is_author, is_interval_before, is_run, is_segment_body}
 use Rattle.ft_msg.specs.Summary.{cell_at, cells_of, doc_of, interval_of, run_items, segment_bodies, segment_items, stamp_of}
 use Rattle.ft_msg.specs.SummaryOf.{element_body, mark_of}
+use Rattle.ft_msg.proofs.SameStamps.{same_mark-Decides}
 use Rattle.ft_laws_agreement.specs.Sequencing.{Each, are_ends_in}
 use Rattle.ft_laws_agreement.specs.Trimming.{are_distinct_elements}
 use Rattle.ft_laws_agreement.proofs.SummaryStarts.{summary-sound}
@@ -80,30 +80,15 @@ module _ (n : ℕ) (b : Bounds) (known : b.conns ≤ n) where
   old-author : (m : Mark) → is_universal m || is_old b m ≡ true → is_old_author b.min n (stamp_of m) ≡ true
   old-author m h = let k = known in grind (arith, nat_tests, k, h)
 
-  universal-stamp : (m : Mark) → is_universal m ≡ true → stamp_of m ≡ Acked 0 0
-  universal-stamp m h = zeros m.seq m.conn (both (nat_eq m.seq 0) (nat_eq m.conn 0) h)
-    where
-      zeros : (s c : ℕ) → (nat_eq s 0 ≡ true) × (nat_eq c 0 ≡ true) → Acked s c ≡ Acked 0 0
-      zeros s c g = let p : s ≡ 0 = zero-of s g.0 in let q : c ≡ 0 = zero-of c g.1 in ap (λ i. Acked i c) p ∙ ap (Acked 0) q
-        where
-          zero-of : (i : ℕ) → nat_eq i 0 ≡ true → i ≡ 0
-          zero-of i g = grind (arith, nat_tests)
-
   same-stamps : (a m : Mark) → same_mark a m ≡ true → stamp_of a ≡ stamp_of m
-  same-stamps a m h = parts a.seq a.conn m.seq m.conn (both (nat_eq a.seq m.seq) (nat_eq a.conn m.conn) h)
-    where
-      parts : (s c t d : ℕ) → (nat_eq s t ≡ true) × (nat_eq c d ≡ true) → Acked s c ≡ Acked t d
-      parts s c t d g = let p : s ≡ t = equal s t g.0 in let q : c ≡ d = equal c d g.1 in ap (λ i. Acked i c) p ∙ ap (Acked t) q
-        where
-          equal : (i j : ℕ) → nat_eq i j ≡ true → i ≡ j
-          equal i j g = grind (arith, nat_tests)
+  same-stamps a m h = ap stamp_of ((same_mark-Decides a m).0 h)
 
   authored : (ins by : Mark) → is_universal ins || is_recent b ins ≡ true → is_author b ins by ≡ true → HasAuthor (b.seq + 1) 0 n b.min (stamp_of ins) (Some (stamp_of by))
   authored ins by h a = choose (is_universal ins) refl a h
     where
       choose : (u : Bool) → is_universal ins ≡ u → cond u (is_universal by || is_old b by) (same_mark by ins) ≡ true → u || is_recent b ins ≡ true
           → HasAuthor (b.seq + 1) 0 n b.min (stamp_of ins) (Some (stamp_of by))
-      choose true e f g = old (stamp_of by) (universal-stamp ins e) refl (old-author by f)
+      choose true e f g = old (stamp_of by) (same-stamps ins universal e) refl (old-author by f)
       choose false e f g = own (ap Some (same-stamps by ins f)) (recent-dated ins g)
 
   -- ---- elements of segments and runs

@@ -22,7 +22,7 @@ use Rattle.ft_sumdoc.specs.Stamps.{Bounds, is_old, is_recent, is_universal, remo
 use Rattle.ft_sumdoc.specs.Valid.{HasValues, IsSegment, are_stamps, is_author, is_segment_body, is_run}
 use Rattle.ft_sumdoc.specs.WellFormed.{are_alike, are_characters, same_props, same_stamps}
 use Rattle.ft_msg.specs.SummaryOf.{author_mark, element_body, extended_unit_runs, extended_segments, joined_bodies, mark_of, segment_of, segments_from, unit_runs}
-use Rattle.ft_msg.proofs.SameStamps.{stamps_are_same}
+use Rattle.ft_msg.proofs.SameStamps.{same_mark-Decides, stamps_are_same}
 use Rattle.ft_laws_agreement.specs.Sequencing.{Each}
 use Rattle.ft_laws_summaries.proofs.SummaryCuts.{one-element}
 use Rattle.ft_laws_summaries.proofs.SummaryLists.{is_authored, is_empty, is_none, is_of_text, is_plain, is_plain_unit, is_settled}
@@ -154,15 +154,9 @@ module _ (min seq conns : ℕ) where
       known : (o : Option Stamp) → o ≡ Some e.ins → author_mark o ≡ mark_of e.ins
       known o q = ap author_mark q
 
-      number-same : (i : ℕ) → nat_eq i i ≡ true
-      number-same i = grind (arith, nat_tests)
-
-      mark-same : (m : Mark) → same_mark m m ≡ true
-      mark-same m = rw (number-same m.seq, number-same m.conn) refl
-
       itself : (m : Mark) (u : Bool) → is_universal m ≡ u → cond u (is_universal m || is_old tested m) (same_mark m m) ≡ true
       itself m true q = ap (λ b. b || is_old tested m) q
-      itself m false q = mark-same m
+      itself m false q = (same_mark-Decides m m).1 refl
 
       either : (b c : Bool) → c ≡ true → b || c ≡ true
       either true c g = refl
