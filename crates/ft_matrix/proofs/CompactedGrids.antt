@@ -1,5 +1,6 @@
 -- A grid of which compaction takes rows and columns out: it stays sound, and holds what is kept of each document whose part it held.
-use Rattle.std.proofs.Common.{◌≡◌, ℕ, suc, ◌+◌, ◌≤◌, All, Bool, true, false, cond, not, ◌&&◌, ◌||◌, nat_eq, List, [], ◌∷◌, ◌++◌, Option, Some, None, refl, sym, ◌∙◌, ap, subst, map, arith}
+use Rattle.std.proofs.Common.{◌≡◌, ℕ, suc, ◌+◌, ◌≤◌, All, Bool, true, false, cond, not, ◌&&◌, ◌||◌, nat_eq}
+use Rattle.std.proofs.Common.{List, [], ◌∷◌, ◌++◌, Option, Some, None, refl, sym, ◌∙◌, ap, subst, map, arith}
 use Rattle.std.specs.List.{AllByRecursion, list_any}
 use Rattle.std.proofs.lemmas.Bool.Decides.{nat_tests}
 use Rattle.std.proofs.lemmas.List.Elements.{All-from_recursion, recursion_from_All}
@@ -111,13 +112,16 @@ unnamed xs a (Some b) h = step (same_id a b) refl
         cc (sym (same-number (rank (has_id a) (λ _. true) xs)) ∙ ap (λ d. nat_eq (rank (has_id a) (λ _. true) xs) (rank (has_id d) (λ _. true) xs)) same ∙ h)
 
 row-unheld : (doc : Document) (a : ElementId) (ts : List Stage)
-    → list_any (is_place (rank (has_id a) (λ _. true) doc.rows.items)) (map (λ (t : IndexedStage). t.places.first) (grid_stages doc ts)) ≡ false → list_any (stage_holds_row a) ts ≡ false
+    → list_any (is_place (rank (has_id a) (λ _. true) doc.rows.items)) (map (λ (t : IndexedStage). t.places.first) (grid_stages doc ts)) ≡ false
+    → list_any (stage_holds_row a) ts ≡ false
 row-unheld doc a [] h = refl
 row-unheld doc a (t ∷ ts) h = step t.stage t.sub_operation t.names h (λ g. row-unheld doc a ts g)
   where
     step : (k : ℕ) (o : SubOperation) (n : NamedElements)
-        → list_any (is_place (rank (has_id a) (λ _. true) doc.rows.items)) (map (λ (u : IndexedStage). u.places.first) (grid_stages doc (record { stage = k; sub_operation = o; names = n } ∷ ts))) ≡ false
-        → (list_any (is_place (rank (has_id a) (λ _. true) doc.rows.items)) (map (λ (u : IndexedStage). u.places.first) (grid_stages doc ts)) ≡ false → list_any (stage_holds_row a) ts ≡ false)
+        → list_any (is_place (rank (has_id a) (λ _. true) doc.rows.items))
+        (map (λ (u : IndexedStage). u.places.first) (grid_stages doc (record { stage = k; sub_operation = o; names = n } ∷ ts))) ≡ false
+        → (list_any (is_place (rank (has_id a) (λ _. true) doc.rows.items)) (map (λ (u : IndexedStage). u.places.first) (grid_stages doc ts)) ≡ false
+        → list_any (stage_holds_row a) ts ≡ false)
         → stage_holds_row a (record { stage = k; sub_operation = o; names = n }) || list_any (stage_holds_row a) ts ≡ false
     step k (OnText op) n g ih = ih g
     step k (OnIntervals op) n g ih = ih g
@@ -127,13 +131,16 @@ row-unheld doc a (t ∷ ts) h = step t.stage t.sub_operation t.names h (λ g. ro
         ap (λ b. b || list_any (stage_holds_row a) ts) (unnamed doc.rows.items a n.first (none-left _ _ g)) ∙ ih (none-right _ _ g)
 
 col-unheld : (doc : Document) (a : ElementId) (ts : List Stage)
-    → list_any (is_place (rank (has_id a) (λ _. true) doc.cols.items)) (map (λ (t : IndexedStage). t.places.second) (grid_stages doc ts)) ≡ false → list_any (stage_holds_col a) ts ≡ false
+    → list_any (is_place (rank (has_id a) (λ _. true) doc.cols.items)) (map (λ (t : IndexedStage). t.places.second) (grid_stages doc ts)) ≡ false
+    → list_any (stage_holds_col a) ts ≡ false
 col-unheld doc a [] h = refl
 col-unheld doc a (t ∷ ts) h = step t.stage t.sub_operation t.names h (λ g. col-unheld doc a ts g)
   where
     step : (k : ℕ) (o : SubOperation) (n : NamedElements)
-        → list_any (is_place (rank (has_id a) (λ _. true) doc.cols.items)) (map (λ (u : IndexedStage). u.places.second) (grid_stages doc (record { stage = k; sub_operation = o; names = n } ∷ ts))) ≡ false
-        → (list_any (is_place (rank (has_id a) (λ _. true) doc.cols.items)) (map (λ (u : IndexedStage). u.places.second) (grid_stages doc ts)) ≡ false → list_any (stage_holds_col a) ts ≡ false)
+        → list_any (is_place (rank (has_id a) (λ _. true) doc.cols.items))
+        (map (λ (u : IndexedStage). u.places.second) (grid_stages doc (record { stage = k; sub_operation = o; names = n } ∷ ts))) ≡ false
+        → (list_any (is_place (rank (has_id a) (λ _. true) doc.cols.items)) (map (λ (u : IndexedStage). u.places.second) (grid_stages doc ts)) ≡ false
+        → list_any (stage_holds_col a) ts ≡ false)
         → stage_holds_col a (record { stage = k; sub_operation = o; names = n }) || list_any (stage_holds_col a) ts ≡ false
     step k (OnText op) n g ih = ih g
     step k (OnIntervals op) n g ih = ih g
@@ -185,7 +192,8 @@ module _ (floor last : ℕ) (runs : List HandleRun) (old new : VectorState) (s :
 
 -- ---- stages that name no handle that goes
 
-handle-unplaced : (v : VectorState) (h : ℕ) (o : Option ℕ) → is_place (rank (has_handle h) (λ _. true) (units_of v)) (place_of_handle v o) ≡ false → is_handle h o ≡ false
+handle-unplaced : (v : VectorState) (h : ℕ) (o : Option ℕ)
+    → is_place (rank (has_handle h) (λ _. true) (units_of v)) (place_of_handle v o) ≡ false → is_handle h o ≡ false
 handle-unplaced v h None e = refl
 handle-unplaced v h (Some x) e = step (nat_eq h x) refl
   where
@@ -198,7 +206,8 @@ handle-unplaced v h (Some x) e = step (nat_eq h x) refl
 
 module _ (rows cols : VectorState) (h g : ℕ) where
   row-unwritten : (ts : List GridStage)
-      → list_any (is_place (rank (has_handle h) (λ _. true) (units_of rows))) (map (λ (t : IndexedStage). t.places.first) (map (shown_stage rows cols) ts)) ≡ false → writes_to h g ts ≡ []
+      → list_any (is_place (rank (has_handle h) (λ _. true) (units_of rows))) (map (λ (t : IndexedStage). t.places.first) (map (shown_stage rows cols) ts)) ≡ false
+      → writes_to h g ts ≡ []
   row-unwritten [] e = refl
   row-unwritten (t ∷ ts) e =
       ap (λ ws. ws ++ writes_to h g ts) (by t.op (handle-unplaced rows h t.row (none-left _ _ e))) ∙ row-unwritten ts (none-right _ _ e)
@@ -209,7 +218,8 @@ module _ (rows cols : VectorState) (h g : ℕ) where
       by (Set i j value) f = ap (λ b. cond (b && is_handle g t.col) ((t.stage, value) ∷ []) []) f
 
   col-unwritten : (ts : List GridStage)
-      → list_any (is_place (rank (has_handle g) (λ _. true) (units_of cols))) (map (λ (t : IndexedStage). t.places.second) (map (shown_stage rows cols) ts)) ≡ false → writes_to h g ts ≡ []
+      → list_any (is_place (rank (has_handle g) (λ _. true) (units_of cols))) (map (λ (t : IndexedStage). t.places.second) (map (shown_stage rows cols) ts)) ≡ false
+      → writes_to h g ts ≡ []
   col-unwritten [] e = refl
   col-unwritten (t ∷ ts) e =
       ap (λ ws. ws ++ writes_to h g ts) (by t.op (handle-unplaced cols g t.col (none-left _ _ e))) ∙ col-unwritten ts (none-right _ _ e)
@@ -239,7 +249,8 @@ sound-again v w s tree after p = record {
     fresh e l = omega (arith, e, l, after)
 
 -- each second element has it too
-beside-also : {A B : Type 0} {Q : A → B → Type 0} (P : B → Type 0) {xs : List A} {ys : List B} → AllByRecursion P ys → Beside A B Q xs ys → Beside A B (λ x y. Q x y × P y) xs ys
+beside-also : {A B : Type 0} {Q : A → B → Type 0} (P : B → Type 0) {xs : List A} {ys : List B} → AllByRecursion P ys → Beside A B Q xs ys
+    → Beside A B (λ x y. Q x y × P y) xs ys
 beside-also P a ends = ends
 beside-also P a (next q qs) = next (q, a.0) (beside-also P a.1 qs)
 
@@ -261,7 +272,8 @@ pending-by r true cell ws e f g = sym (g refl)
 pending-by true false cell ws e f g = sym (f refl)
 pending-by false false cell ws e f g = e
 
-map-all : {A B : Type 0} (P : A → Type 0) (Q : B → Type 0) (f : A → B) → ((x : A) → P x → Q (f x)) → (xs : List A) → AllByRecursion P xs → AllByRecursion Q (map f xs)
+map-all : {A B : Type 0} (P : A → Type 0) (Q : B → Type 0) (f : A → B) → ((x : A) → P x → Q (f x))
+    → (xs : List A) → AllByRecursion P xs → AllByRecursion Q (map f xs)
 map-all P Q f h [] a = a
 map-all P Q f h (x ∷ xs) a = (h x a.0, map-all P Q f h xs a.1)
 
@@ -302,7 +314,8 @@ module _ (floor : ℕ) (rr rc : List HandleRun) (old mid half new : Grid) (sound
       named : List (Option ℕ)
       named = map (λ (t : IndexedStage). t.places.first) (map (shown_stage old.rows old.cols) old.stages.items)
 
-      at-list : (ms : List (Bool × TreeElement ℕ)) (es : List (TreeElement ℕ)) → map second ms ≡ es → rank (has_handle r) (λ _. true) es ≡ 0 + rank (has_handle r) (λ _. true) (map second ms)
+      at-list : (ms : List (Bool × TreeElement ℕ)) (es : List (TreeElement ℕ)) → map second ms ≡ es
+          → rank (has_handle r) (λ _. true) es ≡ 0 + rank (has_handle r) (λ _. true) (map second ms)
       at-list ms es g = ap (rank (has_handle r) (λ _. true)) (sym g) ∙ plus-none (rank (has_handle r) (λ _. true) (map second ms))
         where
           plus-none : (m : ℕ) → m ≡ 0 + m
@@ -316,7 +329,8 @@ module _ (floor : ℕ) (rr rc : List HandleRun) (old mid half new : Grid) (sound
       named : List (Option ℕ)
       named = map (λ (t : IndexedStage). t.places.second) (map (shown_stage old.rows old.cols) old.stages.items)
 
-      at-list : (ms : List (Bool × TreeElement ℕ)) (es : List (TreeElement ℕ)) → map second ms ≡ es → rank (has_handle c) (λ _. true) es ≡ 0 + rank (has_handle c) (λ _. true) (map second ms)
+      at-list : (ms : List (Bool × TreeElement ℕ)) (es : List (TreeElement ℕ)) → map second ms ≡ es
+          → rank (has_handle c) (λ _. true) es ≡ 0 + rank (has_handle c) (λ _. true) (map second ms)
       at-list ms es g = ap (rank (has_handle c) (λ _. true)) (sym g) ∙ plus-none (rank (has_handle c) (λ _. true) (map second ms))
         where
           plus-none : (m : ℕ) → m ≡ 0 + m
@@ -341,37 +355,48 @@ module _ (floor : ℕ) (rr rc : List HandleRun) (old mid half new : Grid) (sound
   compacted-floor = ap (λ (t : TreeState HandleRun). t.floor) rows-tree ∙ sr.floor
 
   -- none left that was removed at or below the floor
-  pub compacted-none : All (λ (e : TreeElement ℕ). is_collectable floor e.stamps ≡ false) (units_of mid.rows) → All (λ (e : TreeElement ℕ). is_collectable floor e.stamps ≡ false) (units_of mid.cols)
+  pub compacted-none : All (λ (e : TreeElement ℕ). is_collectable floor e.stamps ≡ false) (units_of mid.rows)
+      → All (λ (e : TreeElement ℕ). is_collectable floor e.stamps ≡ false) (units_of mid.cols)
       → HasNoTombstone floor (grid_state new 0 true)
   compacted-none a b = record { rows = shown mid.rows new.rows rows-tree a; cols = shown mid.cols new.cols cols-tree b }
     where
       shown : (v w : VectorState) → w.tree ≡ v.tree → All (λ (e : TreeElement ℕ). is_collectable floor e.stamps ≡ false) (units_of v)
           → All (λ (e : NamelessElement). has_collectable_removal floor e.stamps.dels ≡ false) (map shown_unit (units_of w))
       shown v w t h = All-from_recursion (λ (e : NamelessElement). has_collectable_removal floor e.stamps.dels ≡ false) (map shown_unit (units_of w))
-          (map-all (λ (e : TreeElement ℕ). is_collectable floor e.stamps ≡ false) (λ (e : NamelessElement). has_collectable_removal floor e.stamps.dels ≡ false) shown_unit (λ e g. g) (units_of w)
+          (map-all (λ (e : TreeElement ℕ). is_collectable floor e.stamps ≡ false) (λ (e : NamelessElement). has_collectable_removal floor e.stamps.dels ≡ false)
+          shown_unit (λ e g. g) (units_of w)
           (subst (λ (x : TreeState HandleRun). AllByRecursion (λ (e : TreeElement ℕ). is_collectable floor e.stamps ≡ false) (vector_elements x)) (sym t)
           (recursion_from_All (λ (e : TreeElement ℕ). is_collectable floor e.stamps ≡ false) (units_of v) h)))
 
   module _ (last : ℕ) (doc : Document) (stages : List Stage) (h : Holds last old doc stages)
-      (gone-rows : All (λ (e : TreeElement ℕ). is_in_runs rr e.unit ≡ false) (units_of mid.rows)) (gone-cols : All (λ (e : TreeElement ℕ). is_in_runs rc e.unit ≡ false) (units_of mid.cols)) where
+      (gone-rows : All (λ (e : TreeElement ℕ). is_in_runs rr e.unit ≡ false) (units_of mid.rows))
+      (gone-cols : All (λ (e : TreeElement ℕ). is_in_runs rc e.unit ≡ false) (units_of mid.cols)) where
     hu : HoldsUnits doc.rows.items doc.cols.items doc.cells (units_of old.rows) (units_of old.cols) old.cells
     hu = units last old doc stages sound h
 
-    unheld-row : (a : ElementId) → list_any (is_place (rank (has_id a) (λ _. true) doc.rows.items)) (map (λ (t : IndexedStage). t.places.first) (map (shown_stage old.rows old.cols) old.stages.items)) ≡ false
+    unheld-row : (a : ElementId)
+        → list_any (is_place (rank (has_id a) (λ _. true) doc.rows.items))
+        (map (λ (t : IndexedStage). t.places.first) (map (shown_stage old.rows old.cols) old.stages.items)) ≡ false
         → list_any (stage_holds_row a) stages ≡ false
-    unheld-row a e = row-unheld doc a stages (ap (λ ss. list_any (is_place (rank (has_id a) (λ _. true) doc.rows.items)) (map (λ (t : IndexedStage). t.places.first) ss)) h.holds.stages ∙ e)
+    unheld-row a e = row-unheld doc a stages
+        (ap (λ ss. list_any (is_place (rank (has_id a) (λ _. true) doc.rows.items)) (map (λ (t : IndexedStage). t.places.first) ss)) h.holds.stages ∙ e)
 
-    unheld-col : (a : ElementId) → list_any (is_place (rank (has_id a) (λ _. true) doc.cols.items)) (map (λ (t : IndexedStage). t.places.second) (map (shown_stage old.rows old.cols) old.stages.items)) ≡ false
+    unheld-col : (a : ElementId)
+        → list_any (is_place (rank (has_id a) (λ _. true) doc.cols.items))
+        (map (λ (t : IndexedStage). t.places.second) (map (shown_stage old.rows old.cols) old.stages.items)) ≡ false
         → list_any (stage_holds_col a) stages ≡ false
-    unheld-col a e = col-unheld doc a stages (ap (λ ss. list_any (is_place (rank (has_id a) (λ _. true) doc.cols.items)) (map (λ (t : IndexedStage). t.places.second) ss)) h.holds.stages ∙ e)
+    unheld-col a e = col-unheld doc a stages
+        (ap (λ ss. list_any (is_place (rank (has_id a) (λ _. true) doc.cols.items)) (map (λ (t : IndexedStage). t.places.second) ss)) h.holds.stages ∙ e)
 
     kr : KeptUnits floor last (λ i. list_any (stage_holds_row i) stages) old.rows mid.rows doc.rows
     kr = kept-units floor last rr old.rows mid.rows sr doc.rows h.named.rows h.holds.rows
-        (map (λ (t : IndexedStage). t.places.first) (map (shown_stage old.rows old.cols) old.stages.items)) free.rows (λ i. list_any (stage_holds_row i) stages) unheld-row
+        (map (λ (t : IndexedStage). t.places.first) (map (shown_stage old.rows old.cols) old.stages.items)) free.rows
+        (λ i. list_any (stage_holds_row i) stages) unheld-row
 
     kc : KeptUnits floor last (λ i. list_any (stage_holds_col i) stages) old.cols mid.cols doc.cols
     kc = kept-units floor last rc old.cols mid.cols sc doc.cols h.named.cols h.holds.cols
-        (map (λ (t : IndexedStage). t.places.second) (map (shown_stage old.rows old.cols) old.stages.items)) free.cols (λ i. list_any (stage_holds_col i) stages) unheld-col
+        (map (λ (t : IndexedStage). t.places.second) (map (shown_stage old.rows old.cols) old.stages.items)) free.cols
+        (λ i. list_any (stage_holds_col i) stages) unheld-col
 
     value-kept : (r c : ℕ) → is_in_runs rr r ≡ false → is_in_runs rc c ≡ false → handle_value old.cells r c ≡ handle_value new.cells r c
     value-kept r c e f = sym (ap acked_value (cells-now r c ∙ ap (λ b. cond b empty_cell (cond (is_in_runs rr r) empty_cell (cell_at old.cells r c))) f
@@ -380,13 +405,15 @@ module _ (floor : ℕ) (rr rc : List HandleRun) (old mid half new : Grid) (sound
     row-kept : (a : ElementId) (r : ℕ) → RowHolds doc.cols.items (units_of old.cols) doc.cells old.cells a r → is_in_runs rr r ≡ false
         → RowHolds kc.items (units_of mid.cols) doc.cells new.cells a r
     row-kept a r q e = beside-more (λ y d z. (z.0.0, z.0.1 ∙ value-kept r d.unit e z.1))
-        (beside-also (λ (d : TreeElement ℕ). is_in_runs rc d.unit ≡ false) (recursion_from_All (λ (d : TreeElement ℕ). is_in_runs rc d.unit ≡ false) (units_of mid.cols) gone-cols)
+        (beside-also (λ (d : TreeElement ℕ). is_in_runs rc d.unit ≡ false)
+        (recursion_from_All (λ (d : TreeElement ℕ). is_in_runs rc d.unit ≡ false) (units_of mid.cols) gone-cols)
         (kc.carries (λ b g. cell_value a b doc.cells ≡ handle_value old.cells r g) q))
 
     mid-units : HoldsUnits kr.items kc.items doc.cells (units_of mid.rows) (units_of mid.cols) new.cells
     mid-units = record {
       rows = beside-more (λ x e q. (q.0.0, row-kept (id x) e.unit q.0.1 q.1))
-          (beside-also (λ (e : TreeElement ℕ). is_in_runs rr e.unit ≡ false) (recursion_from_All (λ (e : TreeElement ℕ). is_in_runs rr e.unit ≡ false) (units_of mid.rows) gone-rows)
+          (beside-also (λ (e : TreeElement ℕ). is_in_runs rr e.unit ≡ false)
+          (recursion_from_All (λ (e : TreeElement ℕ). is_in_runs rr e.unit ≡ false) (units_of mid.rows) gone-rows)
           (kr.carries (RowHolds doc.cols.items (units_of old.cols) doc.cells old.cells) hu.rows));
       cols = beside-more (λ x e q. q.0) (kc.carries (λ a g. Unit {0}) (beside-more (λ x e u. (u, tt)) hu.cols));
     }
