@@ -4,3 +4,4 @@ pub mod OffsetCounts
 pub mod CutPlaces
 pub mod RangeWalks
 pub mod JoinedPairs
+pub mod OrderedPlaces

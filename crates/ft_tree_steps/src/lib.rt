@@ -20,7 +20,7 @@ pub use cuts::{cut_at, insert_at};
 pub use edits::move_at;
 pub use finds::{find_leaf, find_removed_leaf};
 pub use joins::{join_at, sweep_joined, sweep_without};
-pub use offsets::{elements_before, seen_before_on, seen_offset};
+pub use offsets::{elements_before, is_before, seen_before_on, seen_offset};
 pub use places::{find_local, find_seen_at, seen_count, seen_left};
 pub use ranges::{RangeEdit, edit_behind};
 pub use scans::settled_number;

@@ -1,7 +1,7 @@
 //! Leaves in blocks: elements by their leaf and how many of its elements stand before, and their places in the
 //! whole list.
 
-ghost use Rattle.std.specs.Prelude.{◌≡◌, IfSome, IsTrue, option_map};
+ghost use Rattle.std.specs.Prelude.{◌≡◌, IfSome, IsTrue, nat_lt, option_map};
 ghost use Rattle.ft_block.specs.Leaves.{IsFromFloor};
 ghost use Rattle.ft_tree_leaves.specs.Elements.{seen_in};
 ghost use Rattle.ft_tree_leaves.specs.LeafLists.{elements};
@@ -46,6 +46,21 @@ pub fn elements_before<C: Content>(blocks: &Blocks<TreeLeaf<C>>, at: &Place) -> 
     // What holds of the leaves at any time is read off its contract.
     let _first = blocks.first();
     blocks.position_of(at.owner, LenView::All) + at.offset
+}
+
+/// Whether the first element stands before the second. Where they are of two leaves, it goes up from both to the nearest
+/// block above both, and reads no length.
+pub fn is_before<C: Content>(blocks: &Blocks<TreeLeaf<C>>, first: &Place, second: &Place) -> bool
+    requires usable { IsTrue blocks.now.usable }
+    requires first { IsOnLeaf C.units blocks.now.leaves first.now }
+    requires second { IsOnLeaf C.units blocks.now.leaves second.now }
+    ensures { let leaves = blocks.now.leaves in
+        result ≡ nat_lt (place_on C.units C.by leaves first.now) (place_on C.units C.by leaves second.now) }
+{
+    if first.owner == second.owner {
+        return first.offset < second.offset;
+    }
+    blocks.is_before(first.owner, second.owner)
 }
 
 /// How many elements that the view sees stand before the element.
