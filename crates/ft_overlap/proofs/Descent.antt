@@ -9,13 +9,18 @@ use Rattle.ft_arena.specs.declared.nodes.Node.{Node}
 use Rattle.ft_arena.specs.declared.nodes.Node.TheVariants.{Leaf, Block}
 use Rattle.ft_shape.specs.declared.headed.Headed.{Headed}
 use Rattle.ft_shape.specs.Tree.{IsTree, height_of, below}
+use Rattle.ft_shape.specs.Told.{sum_of, told, KeepsBut}
+use Rattle.ft_shape.proofs.EditLemmas.{some_of}
+use Rattle.ft_shape.proofs.PairLemmas.{block_no_leaf}
 use Rattle.ft_shape.proofs.Lists.{times_at, drop_at}
 use Rattle.ft_shape.proofs.Levels.{below-append, block_from_height, steps_down, kid_parent, live_from_parent}
 use Rattle.ft_overlap.specs.declared.items.Item.{Item}
+use Rattle.ft_overlap.specs.declared.items.Span.{Span}
 use Rattle.ft_overlap.specs.Items.{IsRising}
-use Rattle.ft_overlap.specs.Inside.{Nodes, item_of, items_of, items_under, items_below, IsBehind, IsPlaceFor}
-use Rattle.ft_overlap.specs.Search.{IsFirstBelow, IsStartedBy, IsChildBy, IsReached}
+use Rattle.ft_overlap.specs.Inside.{Nodes, item_of, items_of, items_under, items_below, either_start, span_start, start_by, IsSpan, IsBehind, IsPlaceFor}
+use Rattle.ft_overlap.specs.Search.{IsFirstBelow, StartsBelow, IsStartedBy, IsChildBy, IsReached}
 use Rattle.ft_overlap.proofs.Keys.{all_rest}
+use Rattle.ft_overlap.proofs.Last.{first_told}
 use Rattle.ft_overlap.proofs.Under.{items-append, under_kids, first_kid}
 use Rattle.ft_overlap.proofs.WalkedItems.{last-push}
 use Rattle.ft_overlap.proofs.Inserted.{tree_filled}
@@ -84,7 +89,8 @@ module _ (s : Nodes) (root n : ℕ) (t : IsTree s root) (block : IsSome (block_v
         record { item = x; rest = f.rest; items = f.items; by = subst (λ (z : Item). place z.start ≤ℤ b) q o.by }
 
     -- the children up to i start by b, and those from i on don't: the one before i is the last that does
-    pub child_at_end : (i kid : ℕ) → slice_get kids i ≡ Some kid → IsStartedBy place b s kid → IsBehind place b (items_of s (below s down (drop (i + 1) kids))) → IsChildBy place b s n kids kid
+    pub child_at_end : (i kid : ℕ) → slice_get kids i ≡ Some kid → IsStartedBy place b s kid → IsBehind place b (items_of s (below s down (drop (i + 1) kids)))
+        → IsChildBy place b s n kids kid
     child_at_end i kid there first behind =
         record {
           front = take i kids;
@@ -139,17 +145,39 @@ module _ (s : Nodes) (root n : ℕ) (t : IsTree s root) (block : IsSome (block_v
         }
 
 -- a node that is no block is a leaf
-leaf_else : (o : Option (Entry Item (Headed Item))) → IsSome o → (IsSome (block_of_entry o) → ⊥) → (v : Item) × (leaf_of_entry o ≡ Some v)
+leaf_else : (o : Option (Entry Item (Headed Span))) → IsSome o → (IsSome (block_of_entry o) → ⊥) → (v : Item) × (leaf_of_entry o ≡ Some v)
 leaf_else None live n = cc
 leaf_else (Some e) live n = of_node e.node n
   where
-    of_node : (n : Node Item (Headed Item)) → (IsSome (block_of_node n) → ⊥) → (v : Item) × (leaf_of_node n ≡ Some v)
+    of_node : (n : Node Item (Headed Span)) → (IsSome (block_of_node n) → ⊥) → (v : Item) × (leaf_of_node n ≡ Some v)
     of_node (Leaf v) h = (v, refl)
     of_node (Block ks v) h = absurd (h refl)
 
 first_there : (xs : List ℕ) → 1 ≤ length xs → (x : ℕ) × (slice_get xs 0 ≡ Some x)
 first_there [] h = absurd (omega arith)
 first_there (x ∷ xs) h = (x, refl)
+
+-- where the first item below a node starts, as the node tells it
+module _ (s : Nodes) (root : ℕ) (t : IsTree s root) (spans : KeepsBut IsSpan s None) where
+  starts_by_height : (h x : ℕ) → height_of s x ≡ h → IsSome (entry s x) → (b : ℕ) → start_by (told s x) ≡ Some b → StartsBelow s x b
+  starts_by_height zero x q live b e =
+      let none : IsSome (block_value s x) → ⊥ = (λ c. absurd (omega (arith, q, t.shape.high x c))) in
+      let leaf : (v : Item) × (leaf_value s x ≡ Some v) = leaf_else (entry s x) live none in
+      let is : Some leaf.0.start ≡ Some b = sym (ap (λ o. either_start o (span_start (sum_of (block_value s x)))) leaf.1) ∙ e in
+      record { item = leaf.0; first = leaf_first s x leaf.0 leaf.1 q; is = cc is }
+  starts_by_height (suc h) x q live b e =
+      let block : IsSome (block_value s x) = block_from_height (entry s x) (omega (arith, q)) in
+      let w = some_of (block_value s x) block in
+      let is : Some w.0.sum.start ≡ Some b =
+      sym (ap (λ o. either_start o (span_start (sum_of (block_value s x)))) (block_no_leaf s x block) ∙ ap (λ o. span_start (sum_of o)) w.1) ∙ e in
+      let first = first_there (kids_of s x) (d_filled s root x t block (kids_of s x) refl) in
+      let high : height_of s first.0 ≡ h = omega (arith, q, d_kid_high s root x t block (kids_of s x) refl 0 first.0 first.1) in
+      let kid = starts_by_height h first.0 high (d_kid_live s root x t block (kids_of s x) refl 0 first.0 first.1) w.0.sum.start
+      (sym (first_told s (kids_of s x) first.0 first.1) ∙ (spans x w.0 w.1 (λ d. cc)).start) in
+      record { item = kid.item; first = up_first s root x t block (kids_of s x) refl first.0 kid.item first.1 kid.first; is = kid.is ∙ cc is }
+
+  pub starts_below : (x : ℕ) → IsSome (entry s x) → (b : ℕ) → start_by (told s x) ≡ Some b → StartsBelow s x b
+  starts_below x = starts_by_height (height_of s x) x refl
 
 module _ (s : Nodes) (root : ℕ) (t : IsTree s root) where
   -- a node that is there has a first item below it
@@ -174,7 +202,8 @@ before_item place (x ∷ xs) y ys h =
 
 module _ (place : ℕ → ℤ) (b : ℤ) (s : Nodes) where
   -- the leaf that the way down ends at
-  pub reached_place : (n : ℕ) (v : Item) → IsReached place b s n → leaf_value s n ≡ Some v → height_of s n ≡ 0 → IsRising place (items_of s s.leaves) → IsPlaceFor place b s (Some n)
+  pub reached_place : (n : ℕ) (v : Item) → IsReached place b s n → leaf_value s n ≡ Some v → height_of s n ≡ 0 → IsRising place (items_of s s.leaves)
+      → IsPlaceFor place b s (Some n)
   reached_place n v r leaf high rising =
       let cut : s.leaves ≡ r.left ++ (n ∷ r.right) = r.cut ∙ ap (λ (h : ℕ). r.left ++ (below s h (n ∷ []) ++ r.right)) high in
       let all : items_of s s.leaves ≡ items_of s r.left ++ v ∷ items_of s r.right =

@@ -11,18 +11,19 @@ use Rattle.ft_shape.specs.Told.{sum_of, told, KeepsBut}
 use Rattle.ft_shape.proofs.FitLemmas.{gr_place, gr_block, gr_child}
 use Rattle.ft_shape.proofs.InsertLemmas.{leaf_grows, leaf_height}
 use Rattle.ft_overlap.specs.declared.items.Item.{Item}
-use Rattle.ft_overlap.specs.Inside.{Nodes, either_named, named_by, EndsKnown, IsLeafPlace}
+use Rattle.ft_overlap.specs.declared.items.Span.{Span}
+use Rattle.ft_overlap.specs.Inside.{Nodes, either_named, span_last, named_by, EndsKnown, IsLeafPlace}
 
 pub linked_known : (Knows : ℕ → Type 0) (s s' : Nodes) (id : ℕ) (item : Item) → Changes s s' id (Some record { node = Leaf item; parent = None }) → Knows item.end
     → EndsKnown Knows s → EndsKnown Knows s'
 linked_known Knows s s' id item c k known x v e = elim (cases_eq x id) [
   | inl q ↦
       let here : Some item ≡ Some v =
-      sym (ap (λ (o : Option (Entry Item (Headed Item))). either_named (leaf_of_entry o) (sum_of (block_of_entry o))) c.changed) ∙ ap (λ (z : ℕ). named_by (told s' z))
+      sym (ap (λ (o : Option (Entry Item (Headed Span))). either_named (leaf_of_entry o) (span_last (sum_of (block_of_entry o)))) c.changed) ∙ ap (λ (z : ℕ). named_by (told s' z))
       (sym q) ∙ e in
       let is : item ≡ v = cc here in
       subst (λ (z : Item). Knows z.end) is k
-  | inr d ↦ known x v (sym (ap (λ (o : Option (Entry Item (Headed Item))). either_named (leaf_of_entry o) (sum_of (block_of_entry o))) (c.others x d)) ∙ e)
+  | inr d ↦ known x v (sym (ap (λ (o : Option (Entry Item (Headed Span))). either_named (leaf_of_entry o) (span_last (sum_of (block_of_entry o)))) (c.others x d)) ∙ e)
 ]
 
 pub whole_part : (s : Nodes) (root : ℕ) → IsTree s root → IsPartTree s root None None
@@ -39,7 +40,7 @@ pub no_up : (o : Option ℕ) → IsSome o → o ≡ None → ⊥
 no_up o h e = let n : IsSome {T = ℕ} None = subst (λ (q : Option ℕ). IsSome q) e h in cc n
 
 -- where no block is wrong, none but one is
-pub but_one : (R : Item → List (Option Item × Option Item) → Type 0) (s : Nodes) (p : ℕ) → KeepsBut R s None → KeepsBut R s (Some p)
+pub but_one : (R : Span → List (Option Item × Option Span) → Type 0) (s : Nodes) (p : ℕ) → KeepsBut R s None → KeepsBut R s (Some p)
 but_one R s p keeps b v e d = keeps b v e (λ q. cc)
 
 module _ (s s' : Nodes) (root at id step : ℕ) (ed : List ℕ → List ℕ) (E : IsEdit step ed at id) (item : Item) (t : IsTree s root) (at_leaf : IsSome (leaf_value s at))

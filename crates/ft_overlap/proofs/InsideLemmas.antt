@@ -14,6 +14,7 @@ use Rattle.ft_shape.proofs.EditLemmas.{some_of, is_some_from}
 use Rattle.ft_shape.proofs.KindLemmas.{block_live}
 use Rattle.ft_overlap.proofs.Named.{are_named}
 use Rattle.ft_overlap.specs.declared.items.Item.{Item}
+use Rattle.ft_overlap.specs.declared.items.Span.{Span}
 use Rattle.ft_overlap.specs.declared.index.Index.TheInside.{Inside}
 use Rattle.ft_overlap.specs.Items.{Below, ItemList, keys_within, IsInOrder, IsRising, AreKnown, NamesGreatest}
 use Rattle.ft_overlap.specs.Search.{IsCheap}
@@ -23,42 +24,42 @@ use Rattle.ft_overlap.specs.Inside.{Nodes, item_of, items_of, items_under, items
 first_in : {X : Type 0} (x : X) (xs : List X) → Contains (x ∷ xs) x
 first_in x xs = (0, omega arith, refl)
 
-block_first : (o : Option (Headed Item)) (v : Headed Item) (items : List Item) (rest : List Below) → o ≡ Some v
-    → Contains (block_of o items rest) record { named = v.sum; items = items }
+block_first : (o : Option (Headed Span)) (v : Headed Span) (items : List Item) (rest : List Below) → o ≡ Some v
+    → Contains (block_of o items rest) record { named = v.sum.last; items = items }
 block_first None v items rest e = cc
 block_first (Some w) v items rest e =
     let q : w ≡ v = cc in
-    subst (λ (u : Headed Item). Contains (block_of (Some w) items rest) record { named = u.sum; items = items }) q (first_in record { named = w.sum; items = items } rest)
+    subst (λ (u : Headed Span). Contains (block_of (Some w) items rest) record { named = u.sum.last; items = items }) q (first_in record { named = w.sum.last; items = items } rest)
 
-block_later : (o : Option (Headed Item)) (items : List Item) (rest : List Below) (b : Below) → Contains rest b → Contains (block_of o items rest) b
+block_later : (o : Option (Headed Span)) (items : List Item) (rest : List Below) (b : Below) → Contains rest b → Contains (block_of o items rest) b
 block_later None items rest b h = h
-block_later (Some w) items rest b h = Contains-append_right (record { named = w.sum; items = items } ∷ []) rest b h
+block_later (Some w) items rest b h = Contains-append_right (record { named = w.sum.last; items = items } ∷ []) rest b h
 
 module _ (s : Nodes) where
   -- a block among these nodes is among their blocks
-  on_row : (h : ℕ) (xs : List ℕ) (b : ℕ) (v : Headed Item) → 1 ≤ times xs b → block_value s b ≡ Some v → Contains (blocks_of s h xs) record { named = v.sum; items = items_under s h b }
+  on_row : (h : ℕ) (xs : List ℕ) (b : ℕ) (v : Headed Span) → 1 ≤ times xs b → block_value s b ≡ Some v → Contains (blocks_of s h xs) record { named = v.sum.last; items = items_under s h b }
   on_row h [] b v m e = absurd (omega arith)
   on_row h (x ∷ xs) b v m e = elim (cases_eq x b) [
-    | inl q ↦ subst (λ (z : ℕ). Contains (block_of (block_value s x) (items_under s h x) (blocks_of s h xs)) record { named = v.sum; items = items_under s h z }) q
+    | inl q ↦ subst (λ (z : ℕ). Contains (block_of (block_value s x) (items_under s h x) (blocks_of s h xs)) record { named = v.sum.last; items = items_under s h z }) q
         (block_first (block_value s x) v (items_under s h x) (blocks_of s h xs) (ap (block_value s) q ∙ e))
-    | inr d ↦ block_later (block_value s x) (items_under s h x) (blocks_of s h xs) record { named = v.sum; items = items_under s h b }
+    | inr d ↦ block_later (block_value s x) (items_under s h x) (blocks_of s h xs) record { named = v.sum.last; items = items_under s h b }
         (on_row h xs b v (omega (arith, same_other x b d)) e)
   ]
 
   -- so is one so many levels below them
-  pub on_rows : (j h : ℕ) (xs : List ℕ) (k b : ℕ) (v : Headed Item) → 1 ≤ times (below s j xs) b → h ≡ suc k + j → block_value s b ≡ Some v
-      → Contains (blocks_below s h xs) record { named = v.sum; items = items_under s (suc k) b }
+  pub on_rows : (j h : ℕ) (xs : List ℕ) (k b : ℕ) (v : Headed Span) → 1 ≤ times (below s j xs) b → h ≡ suc k + j → block_value s b ≡ Some v
+      → Contains (blocks_below s h xs) record { named = v.sum.last; items = items_under s (suc k) b }
   on_rows j zero xs k b v m l e = absurd (omega (arith, l))
   on_rows zero (suc h) xs k b v m l e =
       let q : suc h ≡ suc k = omega (arith, l) in
-      Contains-append_left (blocks_of s (suc h) xs) (blocks_below s h (flat_map (kids_of s) xs)) record { named = v.sum; items = items_under s (suc k) b }
-      (subst (λ (n : ℕ). Contains (blocks_of s n xs) record { named = v.sum; items = items_under s (suc k) b }) (sym q) (on_row (suc k) xs b v m e))
+      Contains-append_left (blocks_of s (suc h) xs) (blocks_below s h (flat_map (kids_of s) xs)) record { named = v.sum.last; items = items_under s (suc k) b }
+      (subst (λ (n : ℕ). Contains (blocks_of s n xs) record { named = v.sum.last; items = items_under s (suc k) b }) (sym q) (on_row (suc k) xs b v m e))
   on_rows (suc j) (suc h) xs k b v m l e =
-      Contains-append_right (blocks_of s (suc h) xs) (blocks_below s h (flat_map (kids_of s) xs)) record { named = v.sum; items = items_under s (suc k) b }
+      Contains-append_right (blocks_of s (suc h) xs) (blocks_below s h (flat_map (kids_of s) xs)) record { named = v.sum.last; items = items_under s (suc k) b }
       (on_rows j h (flat_map (kids_of s) xs) k b v m (omega (arith, l)) e)
 
   -- each block of a tree is one that callers see
-  pub block_seen : (root b : ℕ) (v : Headed Item) → IsTree s root → block_value s b ≡ Some v → Contains (blocks_below s (height_of s root) (root ∷ [])) record { named = v.sum; items = items_below s b }
+  pub block_seen : (root b : ℕ) (v : Headed Span) → IsTree s root → block_value s b ≡ Some v → Contains (blocks_below s (height_of s root) (root ∷ [])) record { named = v.sum.last; items = items_below s b }
   block_seen root b v t e =
       let block : IsSome (block_value s b) = is_some_from (block_value s b) v e in
       let live : IsSome (entry s b) = block_live (entry s b) block in
@@ -67,7 +68,7 @@ module _ (s : Nodes) where
       let there : 1 ≤ times (below s (height_of s root - height_of s b) (root ∷ [])) b =
       on_level s root None t.shape (height_of s root - height_of s b) b live (λ y h q. cc) (omega (arith, low)) in
       let n : suc (height_of s b - 1) ≡ height_of s b = omega (arith, high) in
-      subst (λ (k : ℕ). Contains (blocks_below s (height_of s root) (root ∷ [])) record { named = v.sum; items = items_under s k b }) n
+      subst (λ (k : ℕ). Contains (blocks_below s (height_of s root) (root ∷ [])) record { named = v.sum.last; items = items_under s k b }) n
       (on_rows (height_of s root - height_of s b) (height_of s root) (root ∷ []) (height_of s b - 1) b v there (omega (arith, high, low)) e)
 
   pub length-items : (xs : List ℕ) → ((x : ℕ) → 1 ≤ times xs x → IsSome (leaf_value s x)) → length (items_of s xs) ≡ length xs
@@ -112,8 +113,8 @@ module _ (place : ℕ → ℤ) (a : Inside) (v : ItemList) (is : view_of a ≡ v
     in_rising o = subst (IsRising place) in_items o.rising
 
     pub in_greatest : IsInOrder place v → AreGreatest place a.arena
-    in_greatest o b w e = All-contains (NamesGreatest place) v.blocks record { named = w.sum; items = items_below a.arena b } o.greatest
-        (subst (λ (bs : List Below). Contains bs record { named = w.sum; items = items_below a.arena b }) (sym in_blocks) (block_seen a.arena root b w in_tree e))
+    in_greatest o b w e = All-contains (NamesGreatest place) v.blocks record { named = w.sum.last; items = items_below a.arena b } o.greatest
+        (subst (λ (bs : List Below). Contains bs record { named = w.sum.last; items = items_below a.arena b }) (sym in_blocks) (block_seen a.arena root b w in_tree e))
 
     -- what a search of the root costs and finds, at numbers a' and b' that are a and b
     module _ (a' b' from to : ℤ) (ea : a' ≡ from) (eb : b' ≡ to) where

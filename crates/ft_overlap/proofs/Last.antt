@@ -12,13 +12,26 @@ use Rattle.ft_shape.specs.declared.headed.Headed.{Headed}
 use Rattle.ft_shape.specs.Told.{sum_of, told}
 use Rattle.ft_shape.proofs.Lists.{times_at, drop_none}
 use Rattle.ft_overlap.specs.declared.items.Item.{Item}
-use Rattle.ft_overlap.specs.Inside.{Nodes, either_named, named_by, NamesOne, NamesLast}
+use Rattle.ft_overlap.specs.declared.items.Span.{Span}
+use Rattle.ft_overlap.specs.Inside.{Nodes, either_named, either_start, span_last, span_start, named_by, start_by, first_start, NamesOne, NamesLast}
 
 module _ (s : Nodes) where
   -- what a node that was read names
-  pub named_of : (x : ℕ) (e : Entry Item (Headed Item)) (v : Item) → entry s x ≡ Some e → either_named (leaf_of_node e.node) (sum_of (block_of_node e.node)) ≡ Some v
+  pub named_of : (x : ℕ) (e : Entry Item (Headed Span)) (v : Item) → entry s x ≡ Some e → either_named (leaf_of_node e.node) (span_last (sum_of (block_of_node
+      e.node))) ≡ Some v
       → named_by (told s x) ≡ Some v
-  named_of x e v read h = ap (λ (o : Option (Entry Item (Headed Item))). either_named (leaf_of_entry o) (sum_of (block_of_entry o))) read ∙ h
+  named_of x e v read h = ap (λ (o : Option (Entry Item (Headed Span))). either_named (leaf_of_entry o) (span_last (sum_of (block_of_entry o)))) read ∙ h
+
+  -- and where its first item starts
+  pub start_of : (x : ℕ) (e : Entry Item (Headed Span)) (b : ℕ) → entry s x ≡ Some e → either_start (leaf_of_node e.node) (span_start (sum_of (block_of_node e.node)))
+      ≡ Some b
+      → start_by (told s x) ≡ Some b
+  start_of x e b read h = ap (λ (o : Option (Entry Item (Headed Span))). either_start (leaf_of_entry o) (span_start (sum_of (block_of_entry o)))) read ∙ h
+
+  -- the first of some nodes tells where they start
+  pub first_told : (xs : List ℕ) (x : ℕ) → slice_get xs 0 ≡ Some x → first_start (map (told s) xs) ≡ start_by (told s x)
+  first_told [] x h = cc
+  first_told (y ∷ ys) x h = let q : y ≡ x = cc h in ap (λ (z : ℕ). start_by (told s z)) q
 
   pub told_in : (xs : List ℕ) (x : ℕ) → 1 ≤ times xs x → Contains (map (told s) xs) (told s x)
   told_in [] x m = absurd (omega arith)
@@ -37,7 +50,8 @@ module _ (s : Nodes) where
 
     one_more : (kids : List ℕ) (i kid x : ℕ) → slice_get kids i ≡ Some kid → times (take (i + 1) kids) x ≡ times (take i kids) x + times (kid ∷ []) x
     one_more kids i kid x there =
-        ap (λ ks. times ks x) (take_more kids i kid (slice_get_within kids i kid there) ∙ ap (λ (k : ℕ). take i kids ++ k ∷ []) (get_or_from_slice_get kids i kid kid there))
+        ap (λ ks. times ks x) (take_more kids i kid (slice_get_within kids i kid there) ∙ ap (λ (k : ℕ). take i kids ++ k ∷ []) (get_or_from_slice_get kids i kid kid
+        there))
         ∙ times-append (take i kids) (kid ∷ []) x
 
     pub last_more : (kids : List ℕ) (i kid : ℕ) (v next w : Item) → slice_get kids i ≡ Some kid → named_by (told s kid) ≡ Some next → IsLastOf v (take i kids)

@@ -8,6 +8,7 @@ use Rattle.ft_shape.specs.declared.headed.Headed.{Headed}
 use Rattle.ft_shape.specs.Tree.{IsTree, height_of, below}
 use Rattle.ft_shape.proofs.Levels.{AllHigh, below-append, kids_high, root_high}
 use Rattle.ft_overlap.specs.declared.items.Item.{Item}
+use Rattle.ft_overlap.specs.declared.items.Span.{Span}
 use Rattle.ft_overlap.specs.declared.index.Index.TheInside.{Inside}
 use Rattle.ft_overlap.specs.Items.{ItemList}
 use Rattle.ft_overlap.specs.Inside.{Nodes, items_of, items_under, block_of, blocks_of, blocks_below, all_blocks, view_of, IsRooted, IsSound, AreNamed}
@@ -27,13 +28,13 @@ module _ (s : Nodes) (named : AreNamed s) (all : List Item) where
       (λ v c. sub v (subst (λ (zs : List Item). Contains zs v) (sym e) (Contains-append_right (items_under s h x) (items_of s (below s h xs)) v c))) in
       of_block (block_value s x) refl here rest (high x (omega (arith, same_refl x)))
     where
-      of_block : (o : Option (Headed Item)) → block_value s x ≡ o → ((v : Item) → Contains (items_under s h x) v → Contains all v) → All (IsPart all) (blocks_of s h xs)
+      of_block : (o : Option (Headed Span)) → block_value s x ≡ o → ((v : Item) → Contains (items_under s h x) v → Contains all v) → All (IsPart all) (blocks_of s h xs)
           → height_of s x ≡ h → All (IsPart all) (block_of o (items_under s h x) (blocks_of s h xs))
       of_block None e here rest q = rest
       of_block (Some v) e here rest q =
-          let one : Contains (items_under s h x) v.sum = subst (λ (n : ℕ). Contains (items_under s n x) v.sum) q (named x v e) in
-          All-cons (IsPart all) record { named = v.sum; items = items_under s h x } (blocks_of s h xs)
-          (here v.sum one, All-weaker (Contains (items_under s h x)) (Contains all) here (items_under s h x) (each_in (items_under s h x))) rest
+          let one : Contains (items_under s h x) v.sum.last = subst (λ (n : ℕ). Contains (items_under s n x) v.sum.last) q (named x v e) in
+          All-cons (IsPart all) record { named = v.sum.last; items = items_under s h x } (blocks_of s h xs)
+          (here v.sum.last one, All-weaker (Contains (items_under s h x)) (Contains all) here (items_under s h x) (each_in (items_under s h x))) rest
 
   module _ (root : ℕ) (t : IsTree s root) where
     part_rows : (h : ℕ) (xs : List ℕ) → AllHigh s h xs → ((v : Item) → Contains (items_of s (below s h xs)) v → Contains all v) → All (IsPart all) (blocks_below s h xs)

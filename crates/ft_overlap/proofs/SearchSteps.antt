@@ -9,6 +9,7 @@ use Rattle.ft_shape.proofs.Lists.{times_at, drop_none}
 use Rattle.ft_shape.proofs.Levels.{steps_down, kid_parent, live_from_parent}
 use Rattle.ft_shape.proofs.EditLemmas.{is_some_from}
 use Rattle.ft_overlap.specs.declared.items.Item.{Item}
+use Rattle.ft_overlap.specs.declared.items.Span.{Span}
 use Rattle.ft_overlap.specs.Items.{keys_within, IsRising, AreKnown}
 use Rattle.ft_overlap.specs.Inside.{Nodes, items_of, items_below, AreNamed}
 use Rattle.ft_overlap.specs.Search.{Collects, IsCheap}
@@ -16,7 +17,7 @@ use Rattle.ft_overlap.proofs.Keys.{all_front, all_rest, rising_front}
 use Rattle.ft_overlap.proofs.Collecting.{Collecting, collecting_init, collecting_step, collecting_stop, collecting_cheap, collecting_end, collecting_end_cheap}
 use Rattle.ft_overlap.proofs.Under.{under_kids, first_kid}
 
-module _ (place : ℕ → ℤ) (a b : ℤ) (s : Nodes) (root n : ℕ) (t : IsTree s root) (kids : List ℕ) (v : Headed Item) (is_kids : kids_of s n ≡ kids)
+module _ (place : ℕ → ℤ) (a b : ℤ) (s : Nodes) (root n : ℕ) (t : IsTree s root) (kids : List ℕ) (v : Headed Span) (is_kids : kids_of s n ≡ kids)
     (is_block : block_value s n ≡ Some v) where
   -- how many levels a child heads
   abbrev pub under : ℕ
@@ -91,10 +92,10 @@ module _ (place : ℕ → ℤ) (a b : ℤ) (s : Nodes) (root n : ℕ) (t : IsTre
         (subst (λ (zs : List Item). Collecting place a b (items_below s n) zs under i old now start steps)
         (ap (λ ks. items_of s (below s under ks)) (drop_none kids i gone) ∙ ap (items_of s) (below-none under)) c)
 
-    pub b_end : AreNamed s → a ≤ℤ place v.sum.end → Collects place a b (items_below s n) (height_of s n) old now before steps true
+    pub b_end : AreNamed s → a ≤ℤ place v.sum.last.end → Collects place a b (items_below s n) (height_of s n) old now before steps true
     b_end named reaches = subst (λ (h : ℕ). Collects place a b (items_below s n) h old now before steps true) (sym b_high)
-        (collecting_end place a b (items_below s n) v.sum under i old now before steps last few (named n v is_block) reaches)
+        (collecting_end place a b (items_below s n) v.sum.last under i old now before steps last few (named n v is_block) reaches)
 
     pub b_end_cheap : IsCheap (height_of s n) (length (keys_within place a b (items_below s n))) before steps
     b_end_cheap = subst (λ (h : ℕ). IsCheap h (length (keys_within place a b (items_below s n))) before steps) (sym b_high)
-        (collecting_end_cheap place a b (items_below s n) v.sum under i old now before steps last few)
+        (collecting_end_cheap place a b (items_below s n) v.sum.last under i old now before steps last few)

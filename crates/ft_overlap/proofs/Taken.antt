@@ -6,13 +6,14 @@ use Rattle.ft_shape.specs.declared.headed.Headed.{Headed}
 use Rattle.ft_shape.specs.Tree.{IsApart}
 use Rattle.ft_shape.specs.Told.{sum_of, told}
 use Rattle.ft_overlap.specs.declared.items.Item.{Item}
-use Rattle.ft_overlap.specs.Inside.{Nodes, either_named, named_by, EndsKnown}
+use Rattle.ft_overlap.specs.declared.items.Span.{Span}
+use Rattle.ft_overlap.specs.Inside.{Nodes, either_named, span_last, named_by, EndsKnown}
 
 -- a node that is gone leaves known what is
 pub gone_known : (Knows : ℕ → Type 0) (s s' : Nodes) (id : ℕ) → entry s' id ≡ None → ((x : ℕ) → x ≢ id → told s' x ≡ told s x) → EndsKnown Knows s → EndsKnown Knows s'
 gone_known Knows s s' id gone same known x v e = elim (cases_eq x id) [
   | inl q ↦ absurd (
-      let n : None ≡ Some v = sym (ap (λ (o : Option (Entry Item (Headed Item))). either_named (leaf_of_entry o) (sum_of (block_of_entry o))) (ap (entry s') q ∙ gone)) ∙ e in
+      let n : None ≡ Some v = sym (ap (λ (o : Option (Entry Item (Headed Span))). either_named (leaf_of_entry o) (span_last (sum_of (block_of_entry o)))) (ap (entry s') q ∙ gone)) ∙ e in
       cc n)
   | inr d ↦ known x v (ap named_by (sym (same x d)) ∙ e)
 ]

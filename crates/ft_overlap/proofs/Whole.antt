@@ -10,9 +10,10 @@ use Rattle.ft_shape.specs.Told.{sum_of, KeepsBut}
 use Rattle.ft_shape.proofs.Levels.{AllHigh, kids_high, root_high}
 use Rattle.ft_shape.proofs.ToldLemmas.{bare_keeps}
 use Rattle.ft_overlap.specs.declared.items.Item.{Item}
+use Rattle.ft_overlap.specs.declared.items.Span.{Span}
 use Rattle.ft_overlap.specs.declared.index.Index.TheInside.{Inside}
 use Rattle.ft_overlap.specs.Items.{Below, ItemList, IsInOrder, AreKnown, IsGreatest, NamesGreatest}
-use Rattle.ft_overlap.specs.Inside.{Nodes, items_under, items_below, block_of, blocks_of, blocks_below, all_blocks, view_of, IsRooted, IsSound, either_named, AreGreatest, NamesLast, EndsKnown}
+use Rattle.ft_overlap.specs.Inside.{Nodes, items_under, items_below, block_of, blocks_of, blocks_below, all_blocks, view_of, IsRooted, IsSound, either_named, span_last, AreGreatest, SpansLast, EndsKnown}
 use Rattle.ft_overlap.proofs.Leaves.{items_in}
 use Rattle.ft_overlap.proofs.Law.{IsPart}
 use Rattle.ft_overlap.proofs.Parts.{in_parts}
@@ -24,11 +25,11 @@ module _ (place : ℕ → ℤ) (s : Nodes) (greatest : AreGreatest place s) wher
   great_row h [] high = All-nil (NamesGreatest place)
   great_row h (x ∷ xs) high = of_block (block_value s x) refl (great_row h xs (λ y m. high y (omega arith))) (high x (omega (arith, same_refl x)))
     where
-      of_block : (o : Option (Headed Item)) → block_value s x ≡ o → All (NamesGreatest place) (blocks_of s h xs) → height_of s x ≡ h
+      of_block : (o : Option (Headed Span)) → block_value s x ≡ o → All (NamesGreatest place) (blocks_of s h xs) → height_of s x ≡ h
           → All (NamesGreatest place) (block_of o (items_under s h x) (blocks_of s h xs))
       of_block None e rest q = rest
-      of_block (Some v) e rest q = All-cons (NamesGreatest place) record { named = v.sum; items = items_under s h x } (blocks_of s h xs)
-          (subst (λ (n : ℕ). IsGreatest place v.sum (items_under s n x)) q (greatest x v e)) rest
+      of_block (Some v) e rest q = All-cons (NamesGreatest place) record { named = v.sum.last; items = items_under s h x } (blocks_of s h xs)
+          (subst (λ (n : ℕ). IsGreatest place v.sum.last (items_under s n x)) q (greatest x v e)) rest
 
   module _ (root : ℕ) (t : IsTree s root) where
     great_rows : (h : ℕ) (xs : List ℕ) → AllHigh s h xs → All (NamesGreatest place) (blocks_below s h xs)
@@ -37,7 +38,7 @@ module _ (place : ℕ → ℤ) (s : Nodes) (greatest : AreGreatest place s) wher
         (great_rows h (flat_map (kids_of s) xs) (kids_high s root None t.shape h xs high))
 
 -- where no child ends behind what its block names, each block that callers see names the greatest end
-pub all_great : (place : ℕ → ℤ) (s : Nodes) (o : Option ℕ) → IsRooted s o → KeepsBut (NamesLast place) s None → All (NamesGreatest place) (all_blocks s o)
+pub all_great : (place : ℕ → ℤ) (s : Nodes) (o : Option ℕ) → IsRooted s o → KeepsBut (SpansLast place) s None → All (NamesGreatest place) (all_blocks s o)
 all_great place s None t last = All-nil (NamesGreatest place)
 all_great place s (Some root) t last = great_rows place s (are_greatest s root t place last) root t (height_of s root) (root ∷ []) (root_high s root)
 
@@ -50,11 +51,11 @@ module _ (place : ℕ → ℤ) (a : Inside) (v : ItemList) (is : view_of a ≡ v
       of_root (Some root) t = t.shape.forest
 
   -- in an index in order no child ends behind what its block names
-  pub in_last : IsInOrder place v → KeepsBut (NamesLast place) a.arena None
+  pub in_last : IsInOrder place v → KeepsBut (SpansLast place) a.arena None
   in_last o = of_root a.root refl
     where
-      of_root : (r : Option ℕ) → a.root ≡ r → KeepsBut (NamesLast place) a.arena None
-      of_root None e = bare_keeps (NamesLast place) a.arena (subst (λ (r : Option ℕ). IsRooted a.arena r) e inv.rooted) None
+      of_root : (r : Option ℕ) → a.root ≡ r → KeepsBut (SpansLast place) a.arena None
+      of_root None e = bare_keeps (SpansLast place) a.arena (subst (λ (r : Option ℕ). IsRooted a.arena r) e inv.rooted) None
       of_root (Some root) e = names_last a.arena root (in_tree place a v is inv root e) place (in_named place a v is inv root e) (in_greatest place a v is inv root e o)
 
   -- the item of a leaf is one of the index
@@ -64,16 +65,16 @@ module _ (place : ℕ → ℤ) (a : Inside) (v : ItemList) (is : view_of a ≡ v
       (items_in a.arena a.arena.leaves id x (omega (arith, in_forest.leaf_once id, ap (λ (o : Option Item). count_some o) e)) e)
 
   -- so is the one that a block names
-  in_block : (b : ℕ) (w : Headed Item) → block_value a.arena b ≡ Some w → Contains v.items w.sum
+  in_block : (b : ℕ) (w : Headed Span) → block_value a.arena b ≡ Some w → Contains v.items w.sum.last
   in_block b w e = of_root a.root refl
     where
-      of_root : (r : Option ℕ) → a.root ≡ r → Contains v.items w.sum
+      of_root : (r : Option ℕ) → a.root ≡ r → Contains v.items w.sum.last
       of_root None q =
           let bare : IsBare a.arena = subst (λ (r : Option ℕ). IsRooted a.arena r) q inv.rooted in
           absurd (let n : None ≡ Some w = sym (ap block_of_entry (bare.nodes b)) ∙ e in cc n)
       of_root (Some root) q =
-          let part = All-contains (IsPart v.items) v.blocks record { named = w.sum; items = items_below a.arena b } (in_parts a v is inv)
-          (subst (λ (bs : List Below). Contains bs record { named = w.sum; items = items_below a.arena b }) (sym (in_blocks place a v is inv root q))
+          let part = All-contains (IsPart v.items) v.blocks record { named = w.sum.last; items = items_below a.arena b } (in_parts a v is inv)
+          (subst (λ (bs : List Below). Contains bs record { named = w.sum.last; items = items_below a.arena b }) (sym (in_blocks place a v is inv root q))
           (block_seen a.arena root b w (in_tree place a v is inv root q) e)) in
           part.0
 
@@ -84,7 +85,7 @@ module _ (place : ℕ → ℤ) (a : Inside) (v : ItemList) (is : view_of a ≡ v
     pub in_ends : EndsKnown Knows a.arena
     in_ends id x e = (All-contains (λ (y : Item). Knows y.start × Knows y.end) v.items x known (by (leaf_value a.arena id) (block_value a.arena id) refl refl e)).1
       where
-        by : (l : Option Item) (b : Option (Headed Item)) → leaf_value a.arena id ≡ l → block_value a.arena id ≡ b → either_named l (sum_of b) ≡ Some x → Contains v.items x
+        by : (l : Option Item) (b : Option (Headed Span)) → leaf_value a.arena id ≡ l → block_value a.arena id ≡ b → either_named l (span_last (sum_of b)) ≡ Some x → Contains v.items x
         by (Some y) b el eb q = let d : y ≡ x = cc q in in_leaf id x (el ∙ ap Some d)
-        by None (Some w) el eb q = let d : w.sum ≡ x = cc q in subst (Contains v.items) d (in_block id w eb)
+        by None (Some w) el eb q = let d : w.sum.last ≡ x = cc q in subst (Contains v.items) d (in_block id w eb)
         by None None el eb q = cc q

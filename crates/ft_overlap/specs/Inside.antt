@@ -7,11 +7,12 @@ use Rattle.ft_shape.specs.declared.headed.Headed.{Headed}
 use Rattle.ft_shape.specs.Tree.{IsTree, IsGrowing, IsEdit, IsBare, height_of, below}
 use Rattle.ft_shape.specs.Told.{sum_of, told, KeepsBut}
 use Rattle.ft_overlap.specs.declared.items.Item.{Item}
+use Rattle.ft_overlap.specs.declared.items.Span.{Span}
 use Rattle.ft_overlap.specs.declared.index.Index.TheInside.{Inside}
 use Rattle.ft_overlap.specs.Items.{Below, ItemList, IsGreatest, item_at, without_key}
 
 abbrev pub Nodes : Type 0
-Nodes = Forest Item (Headed Item)
+Nodes = Forest Item (Headed Span)
 
 abbrev pub item_of : Option Item → List Item → List Item
 item_of None rest = rest
@@ -30,9 +31,9 @@ items_under s h id = items_of s (below s h (id ∷ []))
 abbrev pub items_below : Nodes → ℕ → List Item
 items_below s id = items_under s (height_of s id) id
 
-abbrev pub block_of : Option (Headed Item) → List Item → List Below → List Below
+abbrev pub block_of : Option (Headed Span) → List Item → List Below → List Below
 block_of None items rest = rest
-block_of (Some v) items rest = record { named = v.sum; items = items } ∷ rest
+block_of (Some v) items rest = record { named = v.sum.last; items = items } ∷ rest
 
 -- those of these nodes that are blocks, with the items so many levels below each
 abbrev pub blocks_of : Nodes → ℕ → List ℕ → List Below
@@ -64,37 +65,69 @@ abbrev pub either_named : Option Item → Option Item → Option Item
 either_named (Some x) o = Some x
 either_named None o = o
 
+abbrev pub span_last : Option Span → Option Item
+span_last None = None
+span_last (Some v) = Some v.last
+
+abbrev pub span_start : Option Span → Option ℕ
+span_start None = None
+span_start (Some v) = Some v.start
+
 -- what a node names, as it tells it: a leaf its item, a block the one that it keeps
-abbrev pub named_by : Option Item × Option Item → Option Item
-named_by t = either_named t.0 t.1
+abbrev pub named_by : Option Item × Option Span → Option Item
+named_by t = either_named t.0 (span_last t.1)
+
+abbrev pub either_start : Option Item → Option ℕ → Option ℕ
+either_start (Some x) o = Some x.start
+either_start None o = o
+
+-- where the first item of a node starts, as the node tells it: a leaf of its item, a block of what it keeps
+abbrev pub start_by : Option Item × Option Span → Option ℕ
+start_by t = either_start t.0 (span_start t.1)
+
+-- the same of the first of these nodes
+abbrev pub first_start : List (Option Item × Option Span) → Option ℕ
+first_start [] = None
+first_start (t ∷ ts) = start_by t
 
 -- the item is one that a child names
-abbrev pub NamesOne : Item → List (Option Item × Option Item) → Type 0
-NamesOne v ts = (t : Option Item × Option Item) × Contains ts t × (named_by t ≡ Some v)
+abbrev pub NamesOne : Item → List (Option Item × Option Span) → Type 0
+NamesOne v ts = (t : Option Item × Option Span) × Contains ts t × (named_by t ≡ Some v)
 
 -- no child names an item that ends behind it
-abbrev pub NamesLast : (ℕ → ℤ) → Item → List (Option Item × Option Item) → Type 0
+abbrev pub NamesLast : (ℕ → ℤ) → Item → List (Option Item × Option Span) → Type 0
 NamesLast place v ts = All (λ t. (x : Item) → named_by t ≡ Some x → place x.end ≤ℤ place v.end) ts
 
 -- the end of each item that a node names is known
 abbrev pub EndsKnown : (ℕ → Type 0) → Nodes → Type 0
 EndsKnown Knows s = (id : ℕ) (x : Item) → named_by (told s id) ≡ Some x → Knows x.end
 
+-- what a block keeps, where its children tell this: the start of the first, and an item that one of them names
+pub record IsSpan (v : Span) (ts : List (Option Item × Option Span)) : Type 0 where
+  pub one : NamesOne v.last ts
+  pub start : first_start ts ≡ Some v.start
+
+-- no child names an item that ends behind the block's
+abbrev pub SpansLast : (ℕ → ℤ) → Span → List (Option Item × Option Span) → Type 0
+SpansLast place v ts = NamesLast place v.last ts
+
 -- one child of the block names the new item, and no other names one that ends behind v; where the new one doesn't either, a child names v
-pub record MayRise (place : ℕ → ℤ) (item : Item) (s : Nodes) (b : ℕ) (v : Item) : Type 0 where
+pub record MayRise (place : ℕ → ℤ) (item : Item) (s : Nodes) (b : ℕ) (v : Span) : Type 0 where
   pub there : NamesOne item (map (told s) (kids_of s b))
-  pub one : place item.end ≤ℤ place v.end → NamesOne v (map (told s) (kids_of s b))
-  pub others : (x : ℕ) (y : Item) → 1 ≤ times (kids_of s b) x → named_by (told s x) ≡ Some y → (y ≡ item) ⊎ (place y.end ≤ℤ place v.end)
+  pub start : first_start (map (told s) (kids_of s b)) ≡ Some v.start
+  pub one : place item.end ≤ℤ place v.last.end → NamesOne v.last (map (told s) (kids_of s b))
+  pub others : (x : ℕ) (y : Item) → 1 ≤ times (kids_of s b) x → named_by (told s x) ≡ Some y → (y ≡ item) ⊎ (place y.end ≤ℤ place v.last.end)
 
 -- this block, if there is one, names what it did before one of its children named the new item
 abbrev pub IsUnraised : (ℕ → ℤ) → Item → Nodes → Option ℕ → Type 0
-IsUnraised place item s stale = (b : ℕ) (v : Item) → stale ≡ Some b → sum_of (block_value s b) ≡ Some v → MayRise place item s b v
+IsUnraised place item s stale = (b : ℕ) (v : Span) → stale ≡ Some b → sum_of (block_value s b) ≡ Some v → MayRise place item s b v
 
 -- the block named an item that ends before the new one, and names the new one
 pub record Rises (place : ℕ → ℤ) (item : Item) (old new : Nodes) (b : ℕ) : Type 0 where
   pub before : Item
   pub was : named_by (told old b) ≡ Some before
   pub now : named_by (told new b) ≡ Some item
+  pub start : start_by (told new b) ≡ start_by (told old b)
   pub ends : place before.end <ℤ place item.end
 
 -- the leaf with this item is to be put at this place among the block's children, beside one of them
@@ -111,15 +144,15 @@ pub record IsLeafPlace (s : Nodes) (root block place id : ℕ) (item : Item) : T
 
 -- each block names an item below it
 abbrev pub AreNamed : Nodes → Type 0
-AreNamed s = (b : ℕ) (v : Headed Item) → block_value s b ≡ Some v → Contains (items_below s b) v.sum
+AreNamed s = (b : ℕ) (v : Headed Span) → block_value s b ≡ Some v → Contains (items_below s b) v.sum.last
 
 -- and that item's end is the greatest
 abbrev pub AreGreatest : (ℕ → ℤ) → Nodes → Type 0
-AreGreatest place s = (b : ℕ) (v : Headed Item) → block_value s b ≡ Some v → IsGreatest place v.sum (items_below s b)
+AreGreatest place s = (b : ℕ) (v : Headed Span) → block_value s b ≡ Some v → IsGreatest place v.sum.last (items_below s b)
 
 pub record IsSound (a : Inside) : Type 0 where
   pub rooted : IsRooted a.arena a.root
-  pub names : KeepsBut NamesOne a.arena None
+  pub names : KeepsBut IsSpan a.arena None
 
 -- the last number
 abbrev pub last_of : List ℕ → Option ℕ

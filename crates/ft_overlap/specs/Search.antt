@@ -31,6 +31,12 @@ pub record IsFirstBelow (s : Nodes) (node : ℕ) (x : Item) : Type 0 where
   pub rest : List Item
   pub items : items_below s node ≡ x ∷ rest
 
+-- the first item below the node starts at this end
+pub record StartsBelow (s : Nodes) (node start : ℕ) : Type 0 where
+  pub item : Item
+  pub first : IsFirstBelow s node item
+  pub is : item.start ≡ start
+
 -- the first item below the node starts by b
 pub record IsStartedBy (place : ℕ → ℤ) (b : ℤ) (s : Nodes) (node : ℕ) : Type 0 where
   pub item : Item

@@ -6,10 +6,10 @@ ghost use Rattle.ft_shape.specs.Tree.{IsTree};
 ghost use Rattle.ft_shape.specs.Told.{KeepsBut};
 ghost use Rattle.ft_shape.specs.Steps.{TakesLeaf};
 ghost use Rattle.ft_overlap.specs.Items.{put_item, item_at, IsRising};
-ghost use Rattle.ft_overlap.specs.Inside.{IsBlankOf, IsRooted, IsFirstWith, NamesOne, NamesLast, EndsKnown, items_of};
+ghost use Rattle.ft_overlap.specs.Inside.{IsBlankOf, IsRooted, IsFirstWith, IsSpan, SpansLast, EndsKnown, items_of};
 
 use crate::grow::{insert_at, insert_first, insert_front};
-use crate::items::{Item, Places};
+use crate::items::{Item, Places, Span};
 use crate::places::{place_for, with_key};
 use crate::shrink::take_at;
 use ft_arena::{Arena, NodeId};
@@ -19,7 +19,7 @@ use std::sync::ledger::{Blank, Ledger};
 
 // Puts an item in, behind those whose start's place isn't above that of its own. Tells the root.
 pub(crate) fn insert_in<P: Places, G: Ledger>(
-    arena: &mut Arena<Item, Headed<Item>>,
+    arena: &mut Arena<Item, Headed<Span>>,
     root: Option<usize>,
     item: Item,
     at: &P,
@@ -27,16 +27,16 @@ pub(crate) fn insert_in<P: Places, G: Ledger>(
 ) -> Result<Option<usize>, OutOfMemory>
     requires blank { IsBlankOf G.name G.parts blank.name blank.parts }
     requires rooted { IsRooted arena.old root }
-    requires one { KeepsBut NamesOne arena.old None }
-    requires last { KeepsBut (NamesLast (P.end_place at.now)) arena.old None }
+    requires one { KeepsBut IsSpan arena.old None }
+    requires last { KeepsBut (SpansLast (P.end_place at.now)) arena.old None }
     requires start { P.Knows at.now item.start }
     requires end { P.Knows at.now item.end }
     requires starts { (id : ℕ) (x : Item) → leaf_value arena.old id ≡ Some x → P.Knows at.now x.start }
     requires known { EndsKnown (P.Knows at.now) arena.old }
     requires rising { IsRising (P.end_place at.now) (items_of arena.old arena.old.leaves) }
     ensures rooted { IfOk result (λ top. IsRooted arena.new top) }
-    ensures one { IfOk result (λ top. KeepsBut NamesOne arena.new None) }
-    ensures last { IfOk result (λ top. KeepsBut (NamesLast (P.end_place at.now)) arena.new None) }
+    ensures one { IfOk result (λ top. KeepsBut IsSpan arena.new None) }
+    ensures last { IfOk result (λ top. KeepsBut (SpansLast (P.end_place at.now)) arena.new None) }
     ensures items { IfOk result (λ top. items_of arena.new arena.new.leaves ≡ put_item (P.end_place at.now) item (items_of arena.old arena.old.leaves)) }
     ensures err { OnErr result (arena.new ≡ arena.old) }
 {
@@ -59,7 +59,7 @@ pub(crate) fn insert_in<P: Places, G: Ledger>(
 
 // The first leaf whose item has this key, if there is one.
 pub(crate) fn find_key<G: Ledger>(
-    arena: &Arena<Item, Headed<Item>>,
+    arena: &Arena<Item, Headed<Span>>,
     key: u64,
     blank: Blank,
 ) -> Option<NodeId>
@@ -73,7 +73,7 @@ pub(crate) fn find_key<G: Ledger>(
 
 // Takes a leaf out. Tells the root, if there is a leaf left, and its item.
 pub(crate) fn take_in<P: Places, G: Ledger>(
-    arena: &mut Arena<Item, Headed<Item>>,
+    arena: &mut Arena<Item, Headed<Span>>,
     root: NodeId,
     id: NodeId,
     at: &P,
@@ -82,12 +82,12 @@ pub(crate) fn take_in<P: Places, G: Ledger>(
     requires blank { IsBlankOf G.name G.parts blank.name blank.parts }
     requires tree { IsTree arena.old root }
     requires live { IsSome (leaf_value arena.old id) }
-    requires one { KeepsBut NamesOne arena.old None }
-    requires last { KeepsBut (NamesLast (P.end_place at.now)) arena.old None }
+    requires one { KeepsBut IsSpan arena.old None }
+    requires last { KeepsBut (SpansLast (P.end_place at.now)) arena.old None }
     requires known { EndsKnown (P.Knows at.now) arena.old }
     ensures rooted { IsRooted arena.new result.0 }
-    ensures one { KeepsBut NamesOne arena.new None }
-    ensures last { KeepsBut (NamesLast (P.end_place at.now)) arena.new None }
+    ensures one { KeepsBut IsSpan arena.new None }
+    ensures last { KeepsBut (SpansLast (P.end_place at.now)) arena.new None }
     ensures takes { TakesLeaf arena.old arena.new id result.1 }
 {
     let mut steps = Steps::<G>::new(blank);

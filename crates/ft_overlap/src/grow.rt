@@ -6,9 +6,9 @@ ghost use Rattle.ft_arena.specs.Ids.{times, insert_after};
 ghost use Rattle.ft_shape.specs.Tree.{IsTree, IsGrowing, IsBare, height_of};
 ghost use Rattle.ft_shape.specs.Steps.{SplitsAt, RootsOver, InsertsLeaf};
 ghost use Rattle.ft_shape.specs.Told.{KeepsBut, Retells, RetellsBoth};
-ghost use Rattle.ft_overlap.specs.Inside.{NamesOne, NamesLast, EndsKnown, IsLeafPlace};
+ghost use Rattle.ft_overlap.specs.Inside.{IsSpan, SpansLast, EndsKnown, IsLeafPlace};
 
-use crate::items::{Item, Places};
+use crate::items::{Item, Places, Span};
 use crate::names::{rename, rename_up};
 use crate::raise::raise_up;
 use ft_arena::{Arena, NodeId};
@@ -18,7 +18,7 @@ use std::sync::ledger::Ledger;
 
 // Splits a full block, and puts a node at this place among its children. Tells the new block.
 fn split_put<P: Places, G: Ledger>(
-    arena: &mut Arena<Item, Headed<Item>>,
+    arena: &mut Arena<Item, Headed<Span>>,
     block: NodeId,
     place: usize,
     id: NodeId,
@@ -38,12 +38,18 @@ fn split_put<P: Places, G: Ledger>(
     requires item { P.Knows at.now item.end }
     requires known { EndsKnown (P.Knows at.now) arena.old }
     ensures splits { SplitsAt arena.old arena.new block place id result }
-    ensures one { RetellsBoth NamesOne arena.old arena.new block result }
-    ensures last { RetellsBoth (NamesLast (P.end_place at.now)) arena.old arena.new block result }
+    ensures one { RetellsBoth IsSpan arena.old arena.new block result }
+    ensures last { RetellsBoth (SpansLast (P.end_place at.now)) arena.old arena.new block result }
     ensures known { EndsKnown (P.Knows at.now) arena.new }
 {
     let height = height_at(arena, block, steps);
-    let rear = arena.add_block(Headed { height, sum: item });
+    let rear = arena.add_block(Headed {
+        height,
+        sum: Span {
+            start: item.start,
+            last: item,
+        },
+    });
     move_half(arena, block, rear);
     put_in_half(arena, block, rear, place, id);
     rename(arena, block, at, steps);
@@ -53,7 +59,7 @@ fn split_put<P: Places, G: Ledger>(
 
 // Puts a new root over the old one and another node.
 fn root_over<P: Places, G: Ledger>(
-    arena: &mut Arena<Item, Headed<Item>>,
+    arena: &mut Arena<Item, Headed<Span>>,
     root: NodeId,
     id: NodeId,
     height: u64,
@@ -72,11 +78,17 @@ fn root_over<P: Places, G: Ledger>(
     requires item { P.Knows at.now item.end }
     requires known { EndsKnown (P.Knows at.now) arena.old }
     ensures roots { RootsOver arena.old arena.new root id result }
-    ensures one { Retells NamesOne arena.old arena.new result }
-    ensures last { Retells (NamesLast (P.end_place at.now)) arena.old arena.new result }
+    ensures one { Retells IsSpan arena.old arena.new result }
+    ensures last { Retells (SpansLast (P.end_place at.now)) arena.old arena.new result }
     ensures known { EndsKnown (P.Knows at.now) arena.new }
 {
-    let top = arena.add_block(Headed { height, sum: item });
+    let top = arena.add_block(Headed {
+        height,
+        sum: Span {
+            start: item.start,
+            last: item,
+        },
+    });
     arena.put_child(top, 0, root);
     arena.put_child(top, 1, id);
     rename(arena, top, at, steps);
@@ -86,7 +98,7 @@ fn root_over<P: Places, G: Ledger>(
 // Puts a node into the tree, directly after a node of its level. Tells the root, and a block among
 // whose children it stands now, but which names what it named before, if there is one.
 fn grow<P: Places, G: Ledger>(
-    arena: &mut Arena<Item, Headed<Item>>,
+    arena: &mut Arena<Item, Headed<Span>>,
     root: NodeId,
     at: NodeId,
     id: NodeId,
@@ -95,16 +107,16 @@ fn grow<P: Places, G: Ledger>(
     steps: &mut Steps<G>,
 ) -> (NodeId, Option<NodeId>)
     requires growing { IsGrowing arena.old root at id (λ xs. insert_after xs at id) }
-    requires one { KeepsBut NamesOne arena.old (parent_of arena.old at) }
-    requires last { KeepsBut (NamesLast (P.end_place places.now)) arena.old (parent_of arena.old at) }
+    requires one { KeepsBut IsSpan arena.old (parent_of arena.old at) }
+    requires last { KeepsBut (SpansLast (P.end_place places.now)) arena.old (parent_of arena.old at) }
     requires spare { height_of arena.old root - height_of arena.old at + 1 ≤ arena.old.spare }
     requires tall { height_of arena.old root + 1 < 2 ^ 64 }
     requires item { P.Knows places.now item.end }
     requires known { EndsKnown (P.Knows places.now) arena.old }
     ensures tree { IsTree arena.new result.0 }
     ensures stale { (b : ℕ) → result.1 ≡ Some b → IsSome (block_value arena.new b) }
-    ensures one { KeepsBut NamesOne arena.new result.1 }
-    ensures last { KeepsBut (NamesLast (P.end_place places.now)) arena.new result.1 }
+    ensures one { KeepsBut IsSpan arena.new result.1 }
+    ensures last { KeepsBut (SpansLast (P.end_place places.now)) arena.new result.1 }
     ensures known { EndsKnown (P.Knows places.now) arena.new }
     ensures leaves { arena.new.leaves ≡ arena.old.leaves }
     ensures leaf_values { (x : ℕ) → leaf_value arena.new x ≡ leaf_value arena.old x }
@@ -127,7 +139,7 @@ fn grow<P: Places, G: Ledger>(
 
 // Puts a linked leaf at this place among the block's children; a full block is split. Tells the root.
 fn put_leaf<P: Places, G: Ledger>(
-    arena: &mut Arena<Item, Headed<Item>>,
+    arena: &mut Arena<Item, Headed<Span>>,
     root: NodeId,
     block: NodeId,
     place: usize,
@@ -137,20 +149,24 @@ fn put_leaf<P: Places, G: Ledger>(
     steps: &mut Steps<G>,
 ) -> NodeId
     requires place { IsLeafPlace arena.old root block place id item }
-    requires one { KeepsBut NamesOne arena.old None }
-    requires last { KeepsBut (NamesLast (P.end_place places.now)) arena.old None }
+    requires one { KeepsBut IsSpan arena.old None }
+    requires last { KeepsBut (SpansLast (P.end_place places.now)) arena.old None }
     requires spare { height_of arena.old root + 1 ≤ arena.old.spare }
     requires tall { height_of arena.old root + 1 < 2 ^ 64 }
     requires item { P.Knows places.now item.end }
     requires known { EndsKnown (P.Knows places.now) arena.old }
     ensures tree { IsTree arena.new result }
-    ensures one { KeepsBut NamesOne arena.new None }
-    ensures last { KeepsBut (NamesLast (P.end_place places.now)) arena.new None }
+    ensures one { KeepsBut IsSpan arena.new None }
+    ensures last { KeepsBut (SpansLast (P.end_place places.now)) arena.new None }
     ensures leaves { arena.new.leaves ≡ arena.old.leaves }
     ensures leaf_values { (x : ℕ) → leaf_value arena.new x ≡ leaf_value arena.old x }
 {
     if count_of(arena, block, steps) < 8 {
         arena.put_child(block, place, id);
+        if place == 0 {
+            rename_up(arena, root, None, None, Some(block), places, steps);
+            return root;
+        }
         raise_up(arena, root, Some(block), item, places, steps);
         return root;
     }
@@ -162,7 +178,7 @@ fn put_leaf<P: Places, G: Ledger>(
 
 // Puts a new item directly after another. Tells the root.
 pub(crate) fn insert_at<P: Places, G: Ledger>(
-    arena: &mut Arena<Item, Headed<Item>>,
+    arena: &mut Arena<Item, Headed<Span>>,
     root: NodeId,
     at: NodeId,
     item: Item,
@@ -172,13 +188,13 @@ pub(crate) fn insert_at<P: Places, G: Ledger>(
     requires tree { IsTree arena.old root }
     requires spare { height_of arena.old root + 2 ≤ arena.old.spare }
     requires at { IsSome (leaf_value arena.old at) }
-    requires one { KeepsBut NamesOne arena.old None }
-    requires last { KeepsBut (NamesLast (P.end_place places.now)) arena.old None }
+    requires one { KeepsBut IsSpan arena.old None }
+    requires last { KeepsBut (SpansLast (P.end_place places.now)) arena.old None }
     requires item { P.Knows places.now item.end }
     requires known { EndsKnown (P.Knows places.now) arena.old }
     ensures tree { IsTree arena.new result }
-    ensures one { KeepsBut NamesOne arena.new None }
-    ensures last { KeepsBut (NamesLast (P.end_place places.now)) arena.new None }
+    ensures one { KeepsBut IsSpan arena.new None }
+    ensures last { KeepsBut (SpansLast (P.end_place places.now)) arena.new None }
     ensures inserts { (id : ℕ) × InsertsLeaf arena.old arena.new id item (λ xs. insert_after xs at id) }
 {
     // There are fewer items than numbers of nodes, so the tree is far lower than that.
@@ -193,7 +209,7 @@ pub(crate) fn insert_at<P: Places, G: Ledger>(
 
 // Puts a new item before all others. Tells the root.
 pub(crate) fn insert_front<P: Places, G: Ledger>(
-    arena: &mut Arena<Item, Headed<Item>>,
+    arena: &mut Arena<Item, Headed<Span>>,
     root: NodeId,
     item: Item,
     places: &P,
@@ -201,13 +217,13 @@ pub(crate) fn insert_front<P: Places, G: Ledger>(
 ) -> NodeId
     requires tree { IsTree arena.old root }
     requires spare { height_of arena.old root + 2 ≤ arena.old.spare }
-    requires one { KeepsBut NamesOne arena.old None }
-    requires last { KeepsBut (NamesLast (P.end_place places.now)) arena.old None }
+    requires one { KeepsBut IsSpan arena.old None }
+    requires last { KeepsBut (SpansLast (P.end_place places.now)) arena.old None }
     requires item { P.Knows places.now item.end }
     requires known { EndsKnown (P.Knows places.now) arena.old }
     ensures tree { IsTree arena.new result }
-    ensures one { KeepsBut NamesOne arena.new None }
-    ensures last { KeepsBut (NamesLast (P.end_place places.now)) arena.new None }
+    ensures one { KeepsBut IsSpan arena.new None }
+    ensures last { KeepsBut (SpansLast (P.end_place places.now)) arena.new None }
     ensures inserts { (id : ℕ) × InsertsLeaf arena.old arena.new id item (λ xs. id ∷ xs) }
 {
     let Some(first) = arena.first() else {
@@ -222,18 +238,21 @@ pub(crate) fn insert_front<P: Places, G: Ledger>(
 }
 
 // Puts the first item of all, under a new root. Tells the root.
-pub(crate) fn insert_first(arena: &mut Arena<Item, Headed<Item>>, item: Item) -> NodeId
+pub(crate) fn insert_first(arena: &mut Arena<Item, Headed<Span>>, item: Item) -> NodeId
     requires bare { IsBare arena.old }
     requires spare { 2 ≤ arena.old.spare }
     ensures tree { IsTree arena.new result }
-    ensures one { KeepsBut NamesOne arena.new None }
-    ensures last { (place : ℕ → ℤ) → KeepsBut (NamesLast place) arena.new None }
+    ensures one { KeepsBut IsSpan arena.new None }
+    ensures last { (place : ℕ → ℤ) → KeepsBut (SpansLast place) arena.new None }
     ensures inserts { (id : ℕ) × InsertsLeaf arena.old arena.new id item (λ xs. id ∷ xs) }
 {
     let id = arena.link_after(None, item);
     let top = arena.add_block(Headed {
         height: 1,
-        sum: item,
+        sum: Span {
+            start: item.start,
+            last: item,
+        },
     });
     arena.put_child(top, 0, id);
     top

@@ -14,7 +14,7 @@ ghost use Rattle.ft_overlap.specs.Items.{
 };
 
 use crate::counted::{find_key, insert_in, take_in};
-use crate::items::{Item, Places};
+use crate::items::{Item, Places, Span};
 use crate::search::{Range, collect};
 use ft_arena::{Arena, NodeId};
 use ft_base::{OutOfMemory, Steps};
@@ -29,7 +29,7 @@ use std::sync::ledger::{Blank, Ledger};
 /// and the items below it. A read of a node is one step.
 #[derive(Drop)]
 pub struct Index {
-    arena: Arena<Item, Headed<Item>>,
+    arena: Arena<Item, Headed<Span>>,
     root: Option<usize>,
     alloc: Global,
 }

@@ -13,6 +13,15 @@ pub struct Item {
     pub end: u64,
 }
 
+// What a block keeps of the items below it.
+#[derive(Clone, Copy, PartialEq, Eq)]
+pub(crate) struct Span {
+    // The number of the end at which the first of them starts.
+    pub(crate) start: u64,
+    // The one that ends last.
+    pub(crate) last: Item,
+}
+
 /// Where ends stand: for each end that it knows, a number, its place.
 pub trait Places {
     ghost end_place: { Self → ℕ → ℤ };

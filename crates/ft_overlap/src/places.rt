@@ -3,18 +3,20 @@
 ghost use Rattle.std.specs.Prelude.{◌≡◌, ℕ, Some, None, IsSome, MatchOption};
 ghost use Rattle.ft_arena.specs.Forest.{IsForest, entry, leaf_value, block_value, kids_of};
 ghost use Rattle.ft_shape.specs.Tree.{IsTree};
+ghost use Rattle.ft_shape.specs.Told.{KeepsBut};
 ghost use Rattle.ft_overlap.specs.Items.{item_at, IsRising};
-ghost use Rattle.ft_overlap.specs.Inside.{IsPlaceFor, IsFirstWith, items_of};
-ghost use Rattle.ft_overlap.specs.Search.{IsFirstBelow, IsStartedBy, IsChildBy};
+ghost use Rattle.ft_overlap.specs.Inside.{IsPlaceFor, IsFirstWith, IsSpan, items_of};
+ghost use Rattle.ft_overlap.specs.Search.{StartsBelow, IsStartedBy, IsChildBy};
 
-use crate::items::{Item, Places};
+use crate::items::{Item, Places, Span};
+use crate::names::span_of;
 use ft_arena::{Arena, Kids, Node, NodeId};
 use ft_base::Steps;
 use ft_shape::Headed;
 use std::sync::ledger::Ledger;
 
 // The item of a leaf.
-fn item_of<G: Ledger>(arena: &Arena<Item, Headed<Item>>, id: NodeId, steps: &mut Steps<G>) -> Item
+fn item_of<G: Ledger>(arena: &Arena<Item, Headed<Span>>, id: NodeId, steps: &mut Steps<G>) -> Item
     requires { IsSome (leaf_value arena.now id) }
     ensures { leaf_value arena.now id ≡ Some result }
 {
@@ -24,29 +26,24 @@ fn item_of<G: Ledger>(arena: &Arena<Item, Headed<Item>>, id: NodeId, steps: &mut
     }
 }
 
-// The first item below a node.
-fn first_below<G: Ledger>(
-    arena: &Arena<Item, Headed<Item>>,
+// The number of the end at which the first item below a node starts.
+fn start_below<G: Ledger>(
+    arena: &Arena<Item, Headed<Span>>,
     _root: NodeId,
     node: NodeId,
     steps: &mut Steps<G>,
-) -> Item
+) -> u64
     requires tree { IsTree arena.now _root }
+    requires spans { KeepsBut IsSpan arena.now None }
     requires live { IsSome (entry arena.now node) }
-    ensures { IsFirstBelow arena.now node result }
+    ensures { StartsBelow arena.now node result }
 {
-    match arena.read(node, steps) {
-        Node::Leaf { value } => *value,
-        Node::Block { kids, .. } => match kids.get(0) {
-            Some(first) => first_below(arena, _root, first, steps),
-            None => unreachable!(),
-        },
-    }
+    span_of(arena.read(node, steps)).start
 }
 
 // Of the children of a block whose first item starts by an end's place, the last of which that holds: by halves.
 fn child_by<P: Places, G: Ledger>(
-    arena: &Arena<Item, Headed<Item>>,
+    arena: &Arena<Item, Headed<Span>>,
     _root: NodeId,
     _block: NodeId,
     kids: &Kids,
@@ -55,6 +52,7 @@ fn child_by<P: Places, G: Ledger>(
     steps: &mut Steps<G>,
 ) -> NodeId
     requires tree { IsTree arena.now _root }
+    requires spans { KeepsBut IsSpan arena.now None }
     requires block { IsSome (block_value arena.now _block) }
     requires kids { kids_of arena.now _block ≡ kids.now }
     requires start { P.Knows at.now start }
@@ -73,8 +71,7 @@ fn child_by<P: Places, G: Ledger>(
         let Some(kid) = kids.get(middle) else {
             unreachable!();
         };
-        let first = first_below(arena, _root, kid, steps);
-        if at.is_before(start, first.start) {
+        if at.is_before(start, start_below(arena, _root, kid, steps)) {
             high = middle;
         } else {
             child = kid;
@@ -86,20 +83,20 @@ fn child_by<P: Places, G: Ledger>(
 
 // The last leaf before the first item that starts behind this one, if that isn't the first: down from the root.
 pub(crate) fn place_for<P: Places, G: Ledger>(
-    arena: &Arena<Item, Headed<Item>>,
+    arena: &Arena<Item, Headed<Span>>,
     root: NodeId,
     item: &Item,
     at: &P,
     steps: &mut Steps<G>,
 ) -> Option<NodeId>
     requires tree { IsTree arena.now root }
+    requires spans { KeepsBut IsSpan arena.now None }
     requires rising { IsRising (P.end_place at.now) (items_of arena.now arena.now.leaves) }
     requires start { P.Knows at.now item.now.start }
     requires known { (id : ℕ) (x : Item) → leaf_value arena.now id ≡ Some x → P.Knows at.now x.start }
     ensures { IsPlaceFor (P.end_place at.now) (P.end_place at.now item.now.start) arena.now result }
 {
-    let first = first_below(arena, root, root, steps);
-    if at.is_before(item.start, first.start) {
+    if at.is_before(item.start, start_below(arena, root, root, steps)) {
         return None;
     }
     let mut node = root;
@@ -111,7 +108,7 @@ pub(crate) fn place_for<P: Places, G: Ledger>(
 
 // The first leaf whose item has this key, if there is one.
 pub(crate) fn with_key<G: Ledger>(
-    arena: &Arena<Item, Headed<Item>>,
+    arena: &Arena<Item, Headed<Span>>,
     key: u64,
     steps: &mut Steps<G>,
 ) -> Option<NodeId>

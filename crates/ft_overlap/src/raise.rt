@@ -6,9 +6,9 @@ ghost use Rattle.ft_arena.specs.Ids.{times};
 ghost use Rattle.ft_shape.specs.Tree.{IsPartTree};
 ghost use Rattle.ft_shape.specs.Steps.{SameShape};
 ghost use Rattle.ft_shape.specs.Told.{KeepsBut, Retells};
-ghost use Rattle.ft_overlap.specs.Inside.{NamesOne, NamesLast, EndsKnown, IsUnraised, Rises};
+ghost use Rattle.ft_overlap.specs.Inside.{IsSpan, SpansLast, EndsKnown, IsUnraised, Rises};
 
-use crate::items::{Item, Places};
+use crate::items::{Item, Places, Span};
 use ft_arena::{Arena, Node, NodeId};
 use ft_base::Steps;
 use ft_shape::Headed;
@@ -16,7 +16,7 @@ use std::sync::ledger::Ledger;
 
 // Has the block name the new item if that ends behind the one that it names, and tells whether it does.
 fn raise<P: Places, G: Ledger>(
-    arena: &mut Arena<Item, Headed<Item>>,
+    arena: &mut Arena<Item, Headed<Span>>,
     block: NodeId,
     item: Item,
     at: &P,
@@ -29,8 +29,8 @@ fn raise<P: Places, G: Ledger>(
     requires known { EndsKnown (P.Knows at.now) arena.old }
     requires unraised { IsUnraised (P.end_place at.now) item arena.old (Some block) }
     ensures shape { SameShape arena.old arena.new }
-    ensures one { Retells NamesOne arena.old arena.new block }
-    ensures last { Retells (NamesLast (P.end_place at.now)) arena.old arena.new block }
+    ensures one { Retells IsSpan arena.old arena.new block }
+    ensures last { Retells (SpansLast (P.end_place at.now)) arena.old arena.new block }
     ensures known { EndsKnown (P.Knows at.now) arena.new }
     ensures same { result ≡ false → arena.new ≡ arena.old }
     ensures rises { IsTrue result → Rises (P.end_place at.now) item arena.old arena.new block }
@@ -39,16 +39,20 @@ fn raise<P: Places, G: Ledger>(
         unreachable!();
     };
     let height = value.height;
-    if !at.is_before(value.sum.end, item.end) {
+    let start = value.sum.start;
+    if !at.is_before(value.sum.last.end, item.end) {
         return false;
     }
-    *arena.block_mut(block) = Headed { height, sum: item };
+    *arena.block_mut(block) = Headed {
+        height,
+        sum: Span { start, last: item },
+    };
     true
 }
 
 // From a block up, each may name an item that ends before the new one: has them name that, up to one that names a later one.
 pub(crate) fn raise_up<P: Places, G: Ledger>(
-    arena: &mut Arena<Item, Headed<Item>>,
+    arena: &mut Arena<Item, Headed<Span>>,
     _root: NodeId,
     stale: Option<NodeId>,
     item: Item,
@@ -59,12 +63,12 @@ pub(crate) fn raise_up<P: Places, G: Ledger>(
     requires block { (b : ℕ) → stale ≡ Some b → IsSome (block_value arena.old b) }
     requires item { P.Knows at.now item.end }
     requires known { EndsKnown (P.Knows at.now) arena.old }
-    requires one { KeepsBut NamesOne arena.old stale }
-    requires last { KeepsBut (NamesLast (P.end_place at.now)) arena.old stale }
+    requires one { KeepsBut IsSpan arena.old stale }
+    requires last { KeepsBut (SpansLast (P.end_place at.now)) arena.old stale }
     requires unraised { IsUnraised (P.end_place at.now) item arena.old stale }
     ensures shape { SameShape arena.old arena.new }
-    ensures one { KeepsBut NamesOne arena.new None }
-    ensures last { KeepsBut (NamesLast (P.end_place at.now)) arena.new None }
+    ensures one { KeepsBut IsSpan arena.new None }
+    ensures last { KeepsBut (SpansLast (P.end_place at.now)) arena.new None }
 {
     let mut stale = stale;
     'up: while let Some(block) = stale {

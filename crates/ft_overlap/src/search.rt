@@ -8,7 +8,7 @@ ghost use Rattle.ft_overlap.specs.Items.{IsRising, AreKnown, keys_within};
 ghost use Rattle.ft_overlap.specs.Inside.{AreNamed, AreGreatest, items_below};
 ghost use Rattle.ft_overlap.specs.Search.{Collects, IsCheap};
 
-use crate::items::{Item, Places};
+use crate::items::{Item, Places, Span};
 use ft_arena::{Arena, Node, NodeId};
 use ft_base::{OutOfMemory, Steps};
 use ft_shape::Headed;
@@ -43,7 +43,7 @@ fn collect_item<P: Places>(
 
 // Takes the keys of the items below the node that meet the range. Tells whether an item behind them may.
 pub(crate) fn collect<P: Places, G: Ledger>(
-    arena: &Arena<Item, Headed<Item>>,
+    arena: &Arena<Item, Headed<Span>>,
     _root: NodeId,
     node: NodeId,
     range: &Range,
@@ -63,7 +63,7 @@ pub(crate) fn collect<P: Places, G: Ledger>(
     match arena.read(node, steps) {
         Node::Leaf { value } => collect_item(value, range, at, found),
         Node::Block { kids, value } => {
-            if at.place(value.sum.end) < range.low {
+            if at.place(value.sum.last.end) < range.low {
                 return Ok(true);
             }
             // That they are at most eight is read off its contract.

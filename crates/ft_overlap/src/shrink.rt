@@ -6,9 +6,9 @@ ghost use Rattle.ft_arena.specs.Forest.{IsForest, block_value, kids_of, leaf_val
 ghost use Rattle.ft_shape.specs.Tree.{IsTree, IsApart, IsBare};
 ghost use Rattle.ft_shape.specs.Steps.{Shares, IsPair, TakesLeaf};
 ghost use Rattle.ft_shape.specs.Told.{KeepsBut, KeepsButBoth};
-ghost use Rattle.ft_overlap.specs.Inside.{IsRooted, NamesOne, NamesLast, EndsKnown};
+ghost use Rattle.ft_overlap.specs.Inside.{IsRooted, IsSpan, SpansLast, EndsKnown};
 
-use crate::items::{Item, Places};
+use crate::items::{Item, Places, Span};
 use crate::names::{rename, rename_up};
 use ft_arena::{Arena, NodeId};
 use ft_base::Steps;
@@ -17,7 +17,7 @@ use std::sync::ledger::Ledger;
 
 // Has two neighbours below a block, which have too many children for one, share them.
 fn balance<P: Places, G: Ledger>(
-    arena: &mut Arena<Item, Headed<Item>>,
+    arena: &mut Arena<Item, Headed<Span>>,
     up: NodeId,
     front: NodeId,
     rear: NodeId,
@@ -28,13 +28,13 @@ fn balance<P: Places, G: Ledger>(
     requires pair { IsPair arena.old up front rear }
     requires many { 9 ≤ length (kids_of arena.old front) + length (kids_of arena.old rear) }
     requires known { EndsKnown (P.Knows at.now) arena.old }
-    requires one { KeepsButBoth NamesOne arena.old front rear }
-    requires last { KeepsButBoth (NamesLast (P.end_place at.now)) arena.old front rear }
+    requires one { KeepsButBoth IsSpan arena.old front rear }
+    requires last { KeepsButBoth (SpansLast (P.end_place at.now)) arena.old front rear }
     ensures shares { Shares arena.old arena.new up front rear }
     ensures up_kids { kids_of arena.new up ≡ kids_of arena.old up }
     ensures known { EndsKnown (P.Knows at.now) arena.new }
-    ensures one { KeepsBut NamesOne arena.new (Some up) }
-    ensures last { KeepsBut (NamesLast (P.end_place at.now)) arena.new (Some up) }
+    ensures one { KeepsBut IsSpan arena.new (Some up) }
+    ensures last { KeepsBut (SpansLast (P.end_place at.now)) arena.new (Some up) }
 {
     let many = count_of(arena, front, steps) + count_of(arena, rear, steps);
     regroup(arena, front, rear, many / 2, steps);
@@ -44,7 +44,7 @@ fn balance<P: Places, G: Ledger>(
 
 // Joins two neighbours below a block, which have few enough children for one.
 fn merge<P: Places, G: Ledger>(
-    arena: &mut Arena<Item, Headed<Item>>,
+    arena: &mut Arena<Item, Headed<Span>>,
     up: NodeId,
     place: usize,
     front: NodeId,
@@ -59,12 +59,12 @@ fn merge<P: Places, G: Ledger>(
     requires few { length (kids_of arena.old front) + length (kids_of arena.old rear) ≤ 8 }
     requires many { 4 ≤ length (kids_of arena.old front) + length (kids_of arena.old rear) }
     requires known { EndsKnown (P.Knows at.now) arena.old }
-    requires one { KeepsButBoth NamesOne arena.old front rear }
-    requires last { KeepsButBoth (NamesLast (P.end_place at.now)) arena.old front rear }
+    requires one { KeepsButBoth IsSpan arena.old front rear }
+    requires last { KeepsButBoth (SpansLast (P.end_place at.now)) arena.old front rear }
     ensures shares { Shares arena.old arena.new up front rear }
     ensures known { EndsKnown (P.Knows at.now) arena.new }
-    ensures one { KeepsBut NamesOne arena.new (Some up) }
-    ensures last { KeepsBut (NamesLast (P.end_place at.now)) arena.new (Some up) }
+    ensures one { KeepsBut IsSpan arena.new (Some up) }
+    ensures last { KeepsBut (SpansLast (P.end_place at.now)) arena.new (Some up) }
 {
     let many = count_of(arena, front, steps) + count_of(arena, rear, steps);
     regroup(arena, front, rear, many, steps);
@@ -77,7 +77,7 @@ fn merge<P: Places, G: Ledger>(
 // it gets some of a neighbour, or is joined with it. Tells the root, and the block that may name another
 // item then.
 fn fill_up<P: Places, G: Ledger>(
-    arena: &mut Arena<Item, Headed<Item>>,
+    arena: &mut Arena<Item, Headed<Span>>,
     root: NodeId,
     block: NodeId,
     _id: NodeId,
@@ -87,13 +87,13 @@ fn fill_up<P: Places, G: Ledger>(
     requires apart { IsApart arena.old root _id (Some block) }
     requires block { IsSome (block_value arena.old block) }
     requires known { EndsKnown (P.Knows at.now) arena.old }
-    requires one { KeepsBut NamesOne arena.old (Some block) }
-    requires last { KeepsBut (NamesLast (P.end_place at.now)) arena.old (Some block) }
+    requires one { KeepsBut IsSpan arena.old (Some block) }
+    requires last { KeepsBut (SpansLast (P.end_place at.now)) arena.old (Some block) }
     ensures apart { IsApart arena.new result.0 _id None }
     ensures block { IsSome (block_value arena.new result.1) }
     ensures known { EndsKnown (P.Knows at.now) arena.new }
-    ensures one { KeepsBut NamesOne arena.new (Some result.1) }
-    ensures last { KeepsBut (NamesLast (P.end_place at.now)) arena.new (Some result.1) }
+    ensures one { KeepsBut IsSpan arena.new (Some result.1) }
+    ensures last { KeepsBut (SpansLast (P.end_place at.now)) arena.new (Some result.1) }
     ensures leaves { arena.new.leaves ≡ arena.old.leaves }
     ensures leaf_values { (x : ℕ) → leaf_value arena.new x ≡ leaf_value arena.old x }
 {
@@ -123,7 +123,7 @@ fn fill_up<P: Places, G: Ledger>(
 
 // Takes a leaf, which isn't the only one, out of the tree, but not out of the list. Tells the root.
 fn detach<P: Places, G: Ledger>(
-    arena: &mut Arena<Item, Headed<Item>>,
+    arena: &mut Arena<Item, Headed<Span>>,
     root: NodeId,
     id: NodeId,
     at: &P,
@@ -133,11 +133,11 @@ fn detach<P: Places, G: Ledger>(
     requires live { IsSome (leaf_value arena.old id) }
     requires more { 2 ≤ length arena.old.leaves }
     requires known { EndsKnown (P.Knows at.now) arena.old }
-    requires one { KeepsBut NamesOne arena.old None }
-    requires last { KeepsBut (NamesLast (P.end_place at.now)) arena.old None }
+    requires one { KeepsBut IsSpan arena.old None }
+    requires last { KeepsBut (SpansLast (P.end_place at.now)) arena.old None }
     ensures apart { IsApart arena.new result id None }
-    ensures one { KeepsBut NamesOne arena.new None }
-    ensures last { KeepsBut (NamesLast (P.end_place at.now)) arena.new None }
+    ensures one { KeepsBut IsSpan arena.new None }
+    ensures last { KeepsBut (SpansLast (P.end_place at.now)) arena.new None }
     ensures leaves { arena.new.leaves ≡ arena.old.leaves }
     ensures leaf_values { (x : ℕ) → leaf_value arena.new x ≡ leaf_value arena.old x }
 {
@@ -152,7 +152,7 @@ fn detach<P: Places, G: Ledger>(
 }
 
 // Whether the leaf is the only one.
-fn is_only(arena: &Arena<Item, Headed<Item>>, id: NodeId) -> bool
+fn is_only(arena: &Arena<Item, Headed<Span>>, id: NodeId) -> bool
     requires forest { IsForest arena.now }
     requires live { IsSome (leaf_value arena.now id) }
     ensures only { IsTrue result → arena.now.leaves ≡ id ∷ [] }
@@ -168,7 +168,7 @@ fn is_only(arena: &Arena<Item, Headed<Item>>, id: NodeId) -> bool
 }
 
 // Takes the only leaf out, and the root. Tells its item.
-fn take_last(arena: &mut Arena<Item, Headed<Item>>, root: NodeId, id: NodeId) -> Item
+fn take_last(arena: &mut Arena<Item, Headed<Span>>, root: NodeId, id: NodeId) -> Item
     requires tree { IsTree arena.old root }
     requires only { arena.old.leaves ≡ id ∷ [] }
     ensures bare { IsBare arena.new }
@@ -181,7 +181,7 @@ fn take_last(arena: &mut Arena<Item, Headed<Item>>, root: NodeId, id: NodeId) ->
 
 // Takes a leaf out. Tells the root, if there is a leaf left, and its item.
 pub(crate) fn take_at<P: Places, G: Ledger>(
-    arena: &mut Arena<Item, Headed<Item>>,
+    arena: &mut Arena<Item, Headed<Span>>,
     root: NodeId,
     id: NodeId,
     at: &P,
@@ -190,11 +190,11 @@ pub(crate) fn take_at<P: Places, G: Ledger>(
     requires tree { IsTree arena.old root }
     requires live { IsSome (leaf_value arena.old id) }
     requires known { EndsKnown (P.Knows at.now) arena.old }
-    requires one { KeepsBut NamesOne arena.old None }
-    requires last { KeepsBut (NamesLast (P.end_place at.now)) arena.old None }
+    requires one { KeepsBut IsSpan arena.old None }
+    requires last { KeepsBut (SpansLast (P.end_place at.now)) arena.old None }
     ensures rooted { IsRooted arena.new result.0 }
-    ensures one { KeepsBut NamesOne arena.new None }
-    ensures last { KeepsBut (NamesLast (P.end_place at.now)) arena.new None }
+    ensures one { KeepsBut IsSpan arena.new None }
+    ensures last { KeepsBut (SpansLast (P.end_place at.now)) arena.new None }
     ensures takes { TakesLeaf arena.old arena.new id result.1 }
 {
     if is_only(arena, id) {

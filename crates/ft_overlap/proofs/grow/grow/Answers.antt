@@ -9,7 +9,7 @@ use Rattle.ft_shape.proofs.PutLemmas.{PutsAt-from}
 use Rattle.ft_shape.proofs.GrowLemmas.{put_tree, put_block, split_grows, root_tree, top_is_root}
 use Rattle.ft_shape.proofs.FitLemmas.{gr_place, gr_high, gr_block, gr_low}
 use Rattle.ft_shape.proofs.ToldLemmas.{put_keeps, split_keeps, root_keeps}
-use Rattle.ft_overlap.specs.Inside.{NamesOne, NamesLast}
+use Rattle.ft_overlap.specs.Inside.{IsSpan, SpansLast}
 use Rattle.ft_overlap.proofs.Halved.{put_known}
 use Rattle.ft_overlap.proofs.grow.grow.Goals as goal
 
@@ -57,7 +57,7 @@ returns-then-count-lt8-clause-one g c =
     c.in-Some.block up c.child_place-place.result.0 c.child_place-place.ensures.place in
     let puts = PutsAt-from c.up.arena c.put_child.new.self c.in-Some.block (c.child_place-place.result.0 + 1) c.up.id c.put_child.ensures.leaves c.put_child.ensures.puts
     c.put_child.ensures.sound in
-    put_keeps NamesOne c.up.arena c.put_child.new.self c.in-Some.block (c.child_place-place.result.0 + 1) c.up.id puts (subst (λ (o : Option ℕ). KeepsBut NamesOne c.up.arena o) up c.up.invariant.one)
+    put_keeps IsSpan c.up.arena c.put_child.new.self c.in-Some.block (c.child_place-place.result.0 + 1) c.up.id puts (subst (λ (o : Option ℕ). KeepsBut IsSpan c.up.arena o) up c.up.invariant.one)
 
 pub returns-then-count-lt8-clause-last : goal.returns-then-count-lt8-clause-last
 returns-then-count-lt8-clause-last g c =
@@ -67,7 +67,7 @@ returns-then-count-lt8-clause-last g c =
     c.in-Some.block up c.child_place-place.result.0 c.child_place-place.ensures.place in
     let puts = PutsAt-from c.up.arena c.put_child.new.self c.in-Some.block (c.child_place-place.result.0 + 1) c.up.id c.put_child.ensures.leaves c.put_child.ensures.puts
     c.put_child.ensures.sound in
-    put_keeps (NamesLast (g.P.Places.end_place c.args.places.now)) c.up.arena c.put_child.new.self c.in-Some.block (c.child_place-place.result.0 + 1) c.up.id puts (subst (λ (o : Option ℕ). KeepsBut (NamesLast (g.P.Places.end_place c.args.places.now)) c.up.arena o) up c.up.invariant.last)
+    put_keeps (SpansLast (g.P.Places.end_place c.args.places.now)) c.up.arena c.put_child.new.self c.in-Some.block (c.child_place-place.result.0 + 1) c.up.id puts (subst (λ (o : Option ℕ). KeepsBut (SpansLast (g.P.Places.end_place c.args.places.now)) c.up.arena o) up c.up.invariant.last)
 
 pub returns-then-count-lt8-clause-known : goal.returns-then-count-lt8-clause-known
 returns-then-count-lt8-clause-known g c =
@@ -100,10 +100,10 @@ up-preserved g c =
     let grows : IsGrowing s' c.args.root c.in-Some.block c.split_put-id.result (λ xs. insert_after xs c.in-Some.block c.split_put-id.result) = split_grows c.up.arena c.split_put-id.new.arena c.args.root c.up.at c.up.id c.in-Some.block 1 (λ xs. insert_after xs c.up.at c.up.id) (after_is_edit c.up.at c.up.id) c.up.invariant.growing up (c.child_place-place.result.0 + 1) at_place c.split_put-id.result r in
     record {
       growing = grows;
-      one = split_keeps NamesOne s s' c.in-Some.block (c.child_place-place.result.0 + 1) c.up.id c.split_put-id.result r c.split_put-id.ensures.one grows.new_top
-          (subst (λ (o : Option ℕ). KeepsBut NamesOne s o) up i.one);
-      last = split_keeps (NamesLast (g.P.Places.end_place c.args.places.now)) s s' c.in-Some.block (c.child_place-place.result.0 + 1) c.up.id c.split_put-id.result r c.split_put-id.ensures.last grows.new_top
-          (subst (λ (o : Option ℕ). KeepsBut (NamesLast (g.P.Places.end_place c.args.places.now)) s o) up i.last);
+      one = split_keeps IsSpan s s' c.in-Some.block (c.child_place-place.result.0 + 1) c.up.id c.split_put-id.result r c.split_put-id.ensures.one grows.new_top
+          (subst (λ (o : Option ℕ). KeepsBut IsSpan s o) up i.one);
+      last = split_keeps (SpansLast (g.P.Places.end_place c.args.places.now)) s s' c.in-Some.block (c.child_place-place.result.0 + 1) c.up.id c.split_put-id.result r c.split_put-id.ensures.last grows.new_top
+          (subst (λ (o : Option ℕ). KeepsBut (SpansLast (g.P.Places.end_place c.args.places.now)) s o) up i.last);
       known = c.split_put-id.ensures.known;
       spare = omega (arith, r.spare, i.spare, root_high, block_high, high, low);
       tall = root_high ∙ i.tall;
@@ -127,8 +127,8 @@ returns-clause-one g c =
     let grows : IsGrowing c.up.arena c.args.root c.args.root c.up.id (λ xs. insert_after xs c.args.root c.up.id) =
     subst (λ (z : ℕ). IsGrowing c.up.arena c.args.root z c.up.id (λ xs. insert_after xs z c.up.id)) e c.up.invariant.growing in
     let tree = root_tree c.up.arena c.root_over-top.new.arena c.args.root c.up.id c.root_over-top.result grows c.root_over-top.ensures.roots in
-    root_keeps NamesOne c.up.arena c.root_over-top.new.arena c.args.root c.up.id c.root_over-top.result c.root_over-top.ensures.roots c.root_over-top.ensures.one tree.shape.root_is_top
-    (subst (λ (o : Option ℕ). KeepsBut NamesOne c.up.arena o) (sym c.parent.ensures ∙ c.in_default.is) c.up.invariant.one)
+    root_keeps IsSpan c.up.arena c.root_over-top.new.arena c.args.root c.up.id c.root_over-top.result c.root_over-top.ensures.roots c.root_over-top.ensures.one tree.shape.root_is_top
+    (subst (λ (o : Option ℕ). KeepsBut IsSpan c.up.arena o) (sym c.parent.ensures ∙ c.in_default.is) c.up.invariant.one)
 
 pub returns-clause-last : goal.returns-clause-last
 returns-clause-last g c =
@@ -137,8 +137,8 @@ returns-clause-last g c =
     let grows : IsGrowing c.up.arena c.args.root c.args.root c.up.id (λ xs. insert_after xs c.args.root c.up.id) =
     subst (λ (z : ℕ). IsGrowing c.up.arena c.args.root z c.up.id (λ xs. insert_after xs z c.up.id)) e c.up.invariant.growing in
     let tree = root_tree c.up.arena c.root_over-top.new.arena c.args.root c.up.id c.root_over-top.result grows c.root_over-top.ensures.roots in
-    root_keeps (NamesLast (g.P.Places.end_place c.args.places.now)) c.up.arena c.root_over-top.new.arena c.args.root c.up.id c.root_over-top.result c.root_over-top.ensures.roots c.root_over-top.ensures.last tree.shape.root_is_top
-    (subst (λ (o : Option ℕ). KeepsBut (NamesLast (g.P.Places.end_place c.args.places.now)) c.up.arena o) (sym c.parent.ensures ∙ c.in_default.is) c.up.invariant.last)
+    root_keeps (SpansLast (g.P.Places.end_place c.args.places.now)) c.up.arena c.root_over-top.new.arena c.args.root c.up.id c.root_over-top.result c.root_over-top.ensures.roots c.root_over-top.ensures.last tree.shape.root_is_top
+    (subst (λ (o : Option ℕ). KeepsBut (SpansLast (g.P.Places.end_place c.args.places.now)) c.up.arena o) (sym c.parent.ensures ∙ c.in_default.is) c.up.invariant.last)
 
 pub returns-clause-leaves : goal.returns-clause-leaves
 returns-clause-leaves g c =

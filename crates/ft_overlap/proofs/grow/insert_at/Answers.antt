@@ -5,7 +5,7 @@ use Rattle.ft_shape.proofs.EditLemmas.{after_is_edit}
 use Rattle.ft_shape.proofs.Levels.{height_fits}
 use Rattle.ft_shape.proofs.InsertLemmas.{leaf_heights, leaf_inserts}
 use Rattle.ft_shape.proofs.ToldLemmas.{linked_keeps}
-use Rattle.ft_overlap.specs.Inside.{NamesOne, NamesLast}
+use Rattle.ft_overlap.specs.Inside.{IsSpan, SpansLast}
 use Rattle.ft_overlap.proofs.Inserted.{linked_known, no_up, beside_up, beside_block, beside_child, beside_place}
 use Rattle.ft_overlap.proofs.grow.insert_at.Goals as goal
 
@@ -39,12 +39,12 @@ put_leaf-requires-clause-place g c =
 
 pub put_leaf-requires-clause-one : goal.put_leaf-requires-clause-one
 put_leaf-requires-clause-one g c =
-    linked_keeps NamesOne c.args.arena.now c.link_after-id.new.self c.link_after-id.result c.args.item c.requires.tree.shape.forest c.link_after-id.ensures.fresh
+    linked_keeps IsSpan c.args.arena.now c.link_after-id.new.self c.link_after-id.result c.args.item c.requires.tree.shape.forest c.link_after-id.ensures.fresh
     c.link_after-id.ensures.changes c.requires.one None
 
 pub put_leaf-requires-clause-last : goal.put_leaf-requires-clause-last
 put_leaf-requires-clause-last g c =
-    linked_keeps (NamesLast (g.P.Places.end_place c.args.places.now)) c.args.arena.now c.link_after-id.new.self c.link_after-id.result c.args.item
+    linked_keeps (SpansLast (g.P.Places.end_place c.args.places.now)) c.args.arena.now c.link_after-id.new.self c.link_after-id.result c.args.item
     c.requires.tree.shape.forest c.link_after-id.ensures.fresh c.link_after-id.ensures.changes c.requires.last None
 
 pub put_leaf-requires-clause-known : goal.put_leaf-requires-clause-known

@@ -10,7 +10,7 @@ use Rattle.ft_shape.proofs.GrowLemmas.{put_tree, put_block, split_grows}
 use Rattle.ft_shape.proofs.FitLemmas.{gr_high, gr_block, gr_low}
 use Rattle.ft_shape.proofs.RefreshLemmas.{SameShape-tree}
 use Rattle.ft_shape.proofs.ToldLemmas.{put_keeps, split_keeps}
-use Rattle.ft_overlap.specs.Inside.{NamesOne, NamesLast}
+use Rattle.ft_overlap.specs.Inside.{IsSpan, SpansLast}
 use Rattle.ft_overlap.proofs.Halved.{put_known}
 use Rattle.ft_overlap.proofs.Inserted.{whole_part, tree_filled, but_one}
 use Rattle.ft_overlap.proofs.Raised.{put_unraised}
@@ -82,7 +82,7 @@ raise_up-requires-clause-one g c =
     let s1 = c.put_child.new.self in
     let puts : PutsAt s s1 c.args.block c.args.place c.args.id =
     PutsAt-from s s1 c.args.block c.args.place c.args.id c.put_child.ensures.leaves c.put_child.ensures.puts c.put_child.ensures.sound in
-    put_keeps NamesOne s s1 c.args.block c.args.place c.args.id puts (but_one NamesOne s c.args.block c.requires.one)
+    put_keeps IsSpan s s1 c.args.block c.args.place c.args.id puts (but_one IsSpan s c.args.block c.requires.one)
 
 pub raise_up-requires-clause-last : goal.raise_up-requires-clause-last
 raise_up-requires-clause-last g c =
@@ -91,7 +91,7 @@ raise_up-requires-clause-last g c =
     let s1 = c.put_child.new.self in
     let puts : PutsAt s s1 c.args.block c.args.place c.args.id =
     PutsAt-from s s1 c.args.block c.args.place c.args.id c.put_child.ensures.leaves c.put_child.ensures.puts c.put_child.ensures.sound in
-    put_keeps (NamesLast (g.P.Places.end_place c.args.places.now)) s s1 c.args.block c.args.place c.args.id puts (but_one (NamesLast (g.P.Places.end_place
+    put_keeps (SpansLast (g.P.Places.end_place c.args.places.now)) s s1 c.args.block c.args.place c.args.id puts (but_one (SpansLast (g.P.Places.end_place
     c.args.places.now)) s c.args.block c.requires.last)
 
 pub raise_up-requires-clause-unraised : goal.raise_up-requires-clause-unraised
@@ -102,7 +102,7 @@ raise_up-requires-clause-unraised g c =
     let puts : PutsAt s s1 c.args.block c.args.place c.args.id =
     PutsAt-from s s1 c.args.block c.args.place c.args.id c.put_child.ensures.leaves c.put_child.ensures.puts c.put_child.ensures.sound in
     put_unraised (g.P.Places.end_place c.args.places.now) c.args.item s s1 c.args.block c.args.place c.args.id puts p.growing.shape.forest p.growing.new_top p.leaf
-    c.requires.one c.requires.last
+    (omega (arith, c.if-place-eq0.false)) (omega (arith, p.inside, c.if-place-eq0.false)) c.requires.one c.requires.last
 
 pub returns-then-count_of-lt8-clause-tree : goal.returns-then-count_of-lt8-clause-tree
 returns-then-count_of-lt8-clause-tree g c =
@@ -178,8 +178,8 @@ grow-top-requires-clause-one g c =
     let r = c.split_put-rear.ensures.splits in
     let grows : IsGrowing s1 c.args.root c.args.block c.split_put-rear.result (λ xs. insert_after xs c.args.block c.split_put-rear.result) =
     split_grows s s1 c.args.root p.at c.args.id c.args.block p.step p.edit p.is_edit p.growing p.up c.args.place p.beside c.split_put-rear.result r in
-    split_keeps NamesOne s s1 c.args.block c.args.place c.args.id c.split_put-rear.result r c.split_put-rear.ensures.one grows.new_top
-    (but_one NamesOne s c.args.block c.requires.one)
+    split_keeps IsSpan s s1 c.args.block c.args.place c.args.id c.split_put-rear.result r c.split_put-rear.ensures.one grows.new_top
+    (but_one IsSpan s c.args.block c.requires.one)
 
 pub grow-top-requires-clause-last : goal.grow-top-requires-clause-last
 grow-top-requires-clause-last g c =
@@ -189,8 +189,8 @@ grow-top-requires-clause-last g c =
     let r = c.split_put-rear.ensures.splits in
     let grows : IsGrowing s1 c.args.root c.args.block c.split_put-rear.result (λ xs. insert_after xs c.args.block c.split_put-rear.result) =
     split_grows s s1 c.args.root p.at c.args.id c.args.block p.step p.edit p.is_edit p.growing p.up c.args.place p.beside c.split_put-rear.result r in
-    split_keeps (NamesLast (g.P.Places.end_place c.args.places.now)) s s1 c.args.block c.args.place c.args.id c.split_put-rear.result r c.split_put-rear.ensures.last
-    grows.new_top (but_one (NamesLast (g.P.Places.end_place c.args.places.now)) s c.args.block c.requires.last)
+    split_keeps (SpansLast (g.P.Places.end_place c.args.places.now)) s s1 c.args.block c.args.place c.args.id c.split_put-rear.result r c.split_put-rear.ensures.last
+    grows.new_top (but_one (SpansLast (g.P.Places.end_place c.args.places.now)) s c.args.block c.requires.last)
 
 pub grow-top-requires-clause-known : goal.grow-top-requires-clause-known
 grow-top-requires-clause-known g c =
@@ -231,36 +231,111 @@ grow-top-requires-clause-tall g c =
 
 pub rename_up-requires-clause-tree : goal.rename_up-requires-clause-tree
 rename_up-requires-clause-tree g c =
-    whole_part c.grow-top.new.arena c.grow-top.result.0 c.grow-top.ensures.tree
+    let p = c.requires.place in
+    let s = c.args.arena.now in
+    let s1 = c.put_child.new.self in
+    let puts : PutsAt s s1 c.args.block c.args.place c.args.id =
+    PutsAt-from s s1 c.args.block c.args.place c.args.id c.put_child.ensures.leaves c.put_child.ensures.puts c.put_child.ensures.sound in
+    let tree : IsTree s1 c.args.root = put_tree s s1 c.args.root p.at c.args.id c.args.block p.step p.edit p.is_edit p.growing p.up c.args.place p.beside puts in
+    whole_part s1 c.args.root tree
 
 pub rename_up-requires-clause-block : goal.rename_up-requires-clause-block
 rename_up-requires-clause-block g c =
-    c.grow-top.ensures.stale
+    let p = c.requires.place in
+    let s = c.args.arena.now in
+    let s1 = c.put_child.new.self in
+    let puts : PutsAt s s1 c.args.block c.args.place c.args.id =
+    PutsAt-from s s1 c.args.block c.args.place c.args.id c.put_child.ensures.leaves c.put_child.ensures.puts c.put_child.ensures.sound in
+    put_block s s1 c.args.root p.at c.args.id c.args.block p.step p.edit p.is_edit p.growing p.up c.args.place p.beside puts
 
 pub rename_up-requires-clause-filled : goal.rename_up-requires-clause-filled
 rename_up-requires-clause-filled g c =
-    tree_filled c.grow-top.new.arena c.grow-top.result.0 c.grow-top.ensures.tree
+    let p = c.requires.place in
+    let s = c.args.arena.now in
+    let s1 = c.put_child.new.self in
+    let puts : PutsAt s s1 c.args.block c.args.place c.args.id =
+    PutsAt-from s s1 c.args.block c.args.place c.args.id c.put_child.ensures.leaves c.put_child.ensures.puts c.put_child.ensures.sound in
+    let tree : IsTree s1 c.args.root = put_tree s s1 c.args.root p.at c.args.id c.args.block p.step p.edit p.is_edit p.growing p.up c.args.place p.beside puts in
+    tree_filled s1 c.args.root tree
 
 pub rename_up-requires-clause-known : goal.rename_up-requires-clause-known
 rename_up-requires-clause-known g c =
-    c.grow-top.ensures.known
+    let p = c.requires.place in
+    let s = c.args.arena.now in
+    let s1 = c.put_child.new.self in
+    let puts : PutsAt s s1 c.args.block c.args.place c.args.id =
+    PutsAt-from s s1 c.args.block c.args.place c.args.id c.put_child.ensures.leaves c.put_child.ensures.puts c.put_child.ensures.sound in
+    put_known (g.P.Places.Knows c.args.places.now) s s1 puts.leaf_values puts.block_values c.requires.known
 
 pub rename_up-requires-clause-one : goal.rename_up-requires-clause-one
 rename_up-requires-clause-one g c =
-    c.grow-top.ensures.one
+    let p = c.requires.place in
+    let s = c.args.arena.now in
+    let s1 = c.put_child.new.self in
+    let puts : PutsAt s s1 c.args.block c.args.place c.args.id =
+    PutsAt-from s s1 c.args.block c.args.place c.args.id c.put_child.ensures.leaves c.put_child.ensures.puts c.put_child.ensures.sound in
+    put_keeps IsSpan s s1 c.args.block c.args.place c.args.id puts (but_one IsSpan s c.args.block c.requires.one)
 
 pub rename_up-requires-clause-last : goal.rename_up-requires-clause-last
 rename_up-requires-clause-last g c =
+    let p = c.requires.place in
+    let s = c.args.arena.now in
+    let s1 = c.put_child.new.self in
+    let puts : PutsAt s s1 c.args.block c.args.place c.args.id =
+    PutsAt-from s s1 c.args.block c.args.place c.args.id c.put_child.ensures.leaves c.put_child.ensures.puts c.put_child.ensures.sound in
+    put_keeps (SpansLast (g.P.Places.end_place c.args.places.now)) s s1 c.args.block c.args.place c.args.id puts
+    (but_one (SpansLast (g.P.Places.end_place c.args.places.now)) s c.args.block c.requires.last)
+
+pub returns-then-place-eq0-clause-tree : goal.returns-then-place-eq0-clause-tree
+returns-then-place-eq0-clause-tree g c =
+    let p = c.requires.place in
+    let s = c.args.arena.now in
+    let s1 = c.put_child.new.self in
+    let puts : PutsAt s s1 c.args.block c.args.place c.args.id =
+    PutsAt-from s s1 c.args.block c.args.place c.args.id c.put_child.ensures.leaves c.put_child.ensures.puts c.put_child.ensures.sound in
+    let tree : IsTree s1 c.args.root = put_tree s s1 c.args.root p.at c.args.id c.args.block p.step p.edit p.is_edit p.growing p.up c.args.place p.beside puts in
+    SameShape-tree s1 c.rename_up.new.arena c.args.root tree c.rename_up.ensures.shape
+
+pub returns-then-place-eq0-clause-leaves : goal.returns-then-place-eq0-clause-leaves
+returns-then-place-eq0-clause-leaves g c =
+    c.rename_up.ensures.shape.leaves ∙ c.put_child.ensures.leaves
+
+pub returns-then-place-eq0-clause-leaf_values : goal.returns-then-place-eq0-clause-leaf_values
+returns-then-place-eq0-clause-leaf_values g c =
+    λ x. c.rename_up.ensures.shape.leaf_values x ∙ c.put_child.ensures.puts.leaf_values x
+
+pub rename_up-requires-2-clause-tree : goal.rename_up-requires-2-clause-tree
+rename_up-requires-2-clause-tree g c =
+    whole_part c.grow-top.new.arena c.grow-top.result.0 c.grow-top.ensures.tree
+
+pub rename_up-requires-2-clause-block : goal.rename_up-requires-2-clause-block
+rename_up-requires-2-clause-block g c =
+    c.grow-top.ensures.stale
+
+pub rename_up-requires-2-clause-filled : goal.rename_up-requires-2-clause-filled
+rename_up-requires-2-clause-filled g c =
+    tree_filled c.grow-top.new.arena c.grow-top.result.0 c.grow-top.ensures.tree
+
+pub rename_up-requires-2-clause-known : goal.rename_up-requires-2-clause-known
+rename_up-requires-2-clause-known g c =
+    c.grow-top.ensures.known
+
+pub rename_up-requires-2-clause-one : goal.rename_up-requires-2-clause-one
+rename_up-requires-2-clause-one g c =
+    c.grow-top.ensures.one
+
+pub rename_up-requires-2-clause-last : goal.rename_up-requires-2-clause-last
+rename_up-requires-2-clause-last g c =
     c.grow-top.ensures.last
 
 pub returns-clause-tree : goal.returns-clause-tree
 returns-clause-tree g c =
-    SameShape-tree c.grow-top.new.arena c.rename_up.new.arena c.grow-top.result.0 c.grow-top.ensures.tree c.rename_up.ensures.shape
+    SameShape-tree c.grow-top.new.arena c.rename_up-2.new.arena c.grow-top.result.0 c.grow-top.ensures.tree c.rename_up-2.ensures.shape
 
 pub returns-clause-leaves : goal.returns-clause-leaves
 returns-clause-leaves g c =
-    c.rename_up.ensures.shape.leaves ∙ c.grow-top.ensures.leaves ∙ c.split_put-rear.ensures.splits.leaves
+    c.rename_up-2.ensures.shape.leaves ∙ c.grow-top.ensures.leaves ∙ c.split_put-rear.ensures.splits.leaves
 
 pub returns-clause-leaf_values : goal.returns-clause-leaf_values
 returns-clause-leaf_values g c =
-    λ x. c.rename_up.ensures.shape.leaf_values x ∙ c.grow-top.ensures.leaf_values x ∙ c.split_put-rear.ensures.splits.leaf_values x
+    λ x. c.rename_up-2.ensures.shape.leaf_values x ∙ c.grow-top.ensures.leaf_values x ∙ c.split_put-rear.ensures.splits.leaf_values x

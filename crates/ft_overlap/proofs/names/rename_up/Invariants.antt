@@ -3,7 +3,7 @@ use Rattle.ft_arena.specs.Forest.{block_value, kids_of}
 use Rattle.ft_shape.specs.Tree.{IsPartTree}
 use Rattle.ft_shape.specs.Steps.{SameShape}
 use Rattle.ft_shape.specs.Told.{KeepsBut}
-use Rattle.ft_overlap.specs.Inside.{NamesOne, NamesLast, EndsKnown}
+use Rattle.ft_overlap.specs.Inside.{IsSpan, SpansLast, EndsKnown}
 use Rattle.ft_overlap.proofs.Upward.{levels_left}
 use Rattle.ft_overlap.proofs.names.rename_up.Given as goal
 
@@ -15,8 +15,8 @@ invariant-up g l =
       block : (b : ℕ) → l.stale ≡ Some b → IsSome (block_value l.arena b);
       filled : (b : ℕ) → IsSome (block_value l.arena b) → 1 ≤ length (kids_of l.arena b);
       known : EndsKnown (g.P.Places.Knows l.at) l.arena;
-      one : KeepsBut NamesOne l.arena l.stale;
-      last : KeepsBut (NamesLast (g.P.Places.end_place l.at)) l.arena l.stale;
+      one : KeepsBut IsSpan l.arena l.stale;
+      last : KeepsBut (SpansLast (g.P.Places.end_place l.at)) l.arena l.stale;
     }
 
 abbrev pub decreases-up : goal.decreases-up

@@ -1,4 +1,4 @@
-use Rattle.std.proofs.Common.{◌≡◌, ◌<ℤ◌, ◌+◌, ◌-◌, ◌/◌, ℕ, Some, drop, length, refl, slice_get, sym, ap, subst, ◌∙◌, arith}
+use Rattle.std.proofs.Common.{◌≡◌, ◌<ℤ◌, ◌≤ℤ◌, ◌+◌, ◌-◌, ◌/◌, ℕ, Some, drop, length, refl, slice_get, sym, ap, subst, ◌∙◌, arith}
 use Rattle.std.proofs.lemmas.List.{length-drop}
 use Rattle.ft_shape.specs.Tree.{height_of, below}
 use Rattle.ft_shape.proofs.Lists.{drop_none}
@@ -11,7 +11,12 @@ pub unreachable-requires : goal.unreachable-requires
 unreachable-requires g c =
     let s = c.args.arena.now in
     let n = c.args._block in
-    omega (arith, d_filled s c.args._root n c.requires.tree c.requires.block c.args.kids.now c.requires.kids, ap length (drop_none c.args.kids.now 0 (sym c.get.ensures ∙ c.in_default.is)))
+    omega (
+      arith,
+      d_filled s c.args._root n c.requires.tree c.requires.block c.args.kids.now c.requires.kids,
+      ap length (drop_none c.args.kids.now 0 (sym c.get.ensures
+          ∙ c.in_default.is)),
+    )
 
 pub halves-init : goal.halves-init
 halves-init g c =
@@ -48,11 +53,16 @@ unreachable-requires-in_default-get g c =
       ap length (drop_none c.args.kids.now middle (sym c.get-in-halves.ensures ∙ c.in_default-get.is)),
     )
 
-pub first_below-first-requires-clause-live : goal.first_below-first-requires-clause-live
-first_below-first-requires-clause-live g c =
+pub start_below-requires-clause-live : goal.start_below-requires-clause-live
+start_below-requires-clause-live g c =
     let middle = c.halves.low + (c.halves.high - c.halves.low) / 2 in
     d_kid_live c.args.arena.now c.args._root c.args._block c.requires.tree c.requires.block c.args.kids.now c.requires.kids middle c.in-Some-get.kid
     (sym c.get-in-halves.ensures ∙ c.in-Some-get.is)
+
+pub is_before-requires-clause-second : goal.is_before-requires-clause-second
+is_before-requires-clause-second g c =
+    let f = c.start_below.ensures in
+    subst (λ (z : ℕ). g.P.Places.Knows c.args.at.now z) f.is (c.requires.known f.first.leaf f.item f.first.there)
 
 pub halves-smaller : goal.halves-smaller
 halves-smaller g c = omega (arith, c.halves.invariant.order)
@@ -68,7 +78,9 @@ halves-preserved-then-is_before g c =
     let b = place c.args.start in
     let middle = c.halves.low + (c.halves.high - c.halves.low) / 2 in
     let there : slice_get kids middle ≡ Some c.in-Some-get.kid = sym c.get-in-halves.ensures ∙ c.in-Some-get.is in
-    let behind : b <ℤ place c.first_below-first.result.start = true_lt b (place c.first_below-first.result.start) (sym c.is_before.ensures ∙ c.if-is_before.true) in
+    let f = c.start_below.ensures in
+    let behind : b <ℤ place f.item.start =
+    subst (λ (z : ℕ). b <ℤ place z) (sym f.is) (true_lt b (place c.start_below.result) (sym c.is_before.ensures ∙ c.if-is_before.true)) in
     record {
       few = c.halves.invariant.few;
       order = omega (arith, c.halves.invariant.order);
@@ -76,24 +88,24 @@ halves-preserved-then-is_before g c =
       there = c.halves.invariant.there;
       first = c.halves.invariant.first;
       behind = child_behind s c.args._root c.args._block c.requires.tree c.requires.block kids c.requires.kids place b middle c.in-Some-get.kid
-          c.first_below-first.result there c.first_below-first.ensures behind;
+          f.item there f.first behind;
     }
 
 pub halves-preserved : goal.halves-preserved
 halves-preserved g c =
     let place = g.P.Places.end_place c.args.at.now in
     let b = place c.args.start in
-    let f = c.first_below-first.ensures in
+    let f = c.start_below.ensures in
     record {
       few = c.halves.invariant.few;
       order = omega (arith, c.halves.invariant.order);
       inside = c.halves.invariant.inside;
       there = sym c.get-in-halves.ensures ∙ c.in-Some-get.is;
       first = record {
-        item = c.first_below-first.result;
-        rest = f.rest;
-        items = f.items;
-        by = false_lt b (place c.first_below-first.result.start) (sym c.is_before.ensures ∙ c.if-is_before.false);
+        item = f.item;
+        rest = f.first.rest;
+        items = f.first.items;
+        by = subst (λ (z : ℕ). place z ≤ℤ b) (sym f.is) (false_lt b (place c.start_below.result) (sym c.is_before.ensures ∙ c.if-is_before.false));
       };
       behind = c.halves.invariant.behind;
     }

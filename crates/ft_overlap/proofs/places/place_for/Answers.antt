@@ -1,4 +1,4 @@
-use Rattle.std.proofs.Common.{◌≡◌, ◌-◌, Some, IsSome, sym, ap, ◌∙◌, arith, rules}
+use Rattle.std.proofs.Common.{◌≡◌, ◌<ℤ◌, ◌≤ℤ◌, ◌-◌, ℕ, Some, IsSome, sym, ap, subst, ◌∙◌, arith, rules}
 use Rattle.ft_arena.specs.Forest.{entry, kids_of, kids_of_entry, kids_of_node, block_value, block_of_entry, block_of_node, leaf_of_entry, leaf_of_node}
 use Rattle.ft_shape.specs.Tree.{height_of, height_of_entry, height_of_node}
 use Rattle.ft_shape.proofs.EditLemmas.{is_some_from}
@@ -11,16 +11,21 @@ pub returns-then-is_before : goal.returns-then-is_before
 returns-then-is_before g c =
     let place = g.P.Places.end_place c.args.at.now in
     let b = place c.args.item.now.start in
-    no_place place b c.args.arena.now c.args.root c.requires.tree c.first_below-first.result c.first_below-first.ensures
-    (true_lt b (place c.first_below-first.result.start) (sym c.is_before.ensures ∙ c.if-is_before.true))
+    no_place place b c.args.arena.now c.args.root c.requires.tree c.start_below.ensures.item c.start_below.ensures.first
+    (subst (λ (z : ℕ). b <ℤ place z) (sym c.start_below.ensures.is) (true_lt b (place c.start_below.result) (sym c.is_before.ensures ∙ c.if-is_before.true)))
+
+pub is_before-requires-clause-second : goal.is_before-requires-clause-second
+is_before-requires-clause-second g c =
+    let f = c.start_below.ensures in
+    subst (λ (z : ℕ). g.P.Places.Knows c.args.at.now z) f.is (c.requires.known f.first.leaf f.item f.first.there)
 
 pub levels-init : goal.levels-init
 levels-init g c =
     let place = g.P.Places.end_place c.args.at.now in
     let b = place c.args.item.now.start in
     let reached : IsReached place b c.args.arena.now c.args.root =
-    root_reached place b c.args.arena.now c.args.root c.requires.tree c.first_below-first.result c.first_below-first.ensures
-    (false_lt b (place c.first_below-first.result.start) (sym c.is_before.ensures ∙ c.if-is_before.false)) in
+    root_reached place b c.args.arena.now c.args.root c.requires.tree c.start_below.ensures.item c.start_below.ensures.first
+    (subst (λ (z : ℕ). place z ≤ℤ b) (sym c.start_below.ensures.is) (false_lt b (place c.start_below.result) (sym c.is_before.ensures ∙ c.if-is_before.false))) in
     let live : IsSome (entry c.args.arena.now c.args.root) = search rules in
     record { live = live; reached = reached }
 
@@ -31,6 +36,7 @@ child_by-node-requires g c =
     let value : block_value s n ≡ Some c.in-Block.value = ap block_of_entry c.read.ensures.node ∙ ap block_of_node c.in-Block.is in
     record {
       tree = c.requires.tree;
+      spans = c.requires.spans;
       block = is_some_from (block_value s n) c.in-Block.value value;
       kids = ap kids_of_entry c.read.ensures.node ∙ ap kids_of_node c.in-Block.is;
       start = c.requires.start;

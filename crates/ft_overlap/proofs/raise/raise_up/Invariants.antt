@@ -3,7 +3,7 @@ use Rattle.ft_arena.specs.Forest.{block_value}
 use Rattle.ft_shape.specs.Tree.{IsPartTree}
 use Rattle.ft_shape.specs.Steps.{SameShape}
 use Rattle.ft_shape.specs.Told.{KeepsBut}
-use Rattle.ft_overlap.specs.Inside.{NamesOne, NamesLast, EndsKnown, IsUnraised}
+use Rattle.ft_overlap.specs.Inside.{IsSpan, SpansLast, EndsKnown, IsUnraised}
 use Rattle.ft_overlap.proofs.Upward.{levels_left}
 use Rattle.ft_overlap.proofs.raise.raise_up.Given as goal
 
@@ -14,8 +14,8 @@ invariant-up g l =
       same : SameShape l.initial.arena l.arena;
       block : (b : ℕ) → l.stale ≡ Some b → IsSome (block_value l.arena b);
       known : EndsKnown (g.P.Places.Knows l.at) l.arena;
-      one : KeepsBut NamesOne l.arena l.stale;
-      last : KeepsBut (NamesLast (g.P.Places.end_place l.at)) l.arena l.stale;
+      one : KeepsBut IsSpan l.arena l.stale;
+      last : KeepsBut (SpansLast (g.P.Places.end_place l.at)) l.arena l.stale;
       unraised : IsUnraised (g.P.Places.end_place l.at) l.item l.arena l.stale;
     }
 

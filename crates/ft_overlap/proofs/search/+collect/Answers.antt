@@ -44,7 +44,7 @@ place-requires g t c =
     let place = g.P.Places.end_place c.args.at.now in
     let kids : kids_of s n ≡ c.in-Block.kids = ap kids_of_entry c.read.ensures.node ∙ ap kids_of_node c.in-Block.is in
     let value : block_value s n ≡ Some c.in-Block.value = ap block_of_entry c.read.ensures.node ∙ ap block_of_node c.in-Block.is in
-    (All-contains (λ x. g.P.Places.Knows c.args.at.now x.start × g.P.Places.Knows c.args.at.now x.end) (items_below s n) c.in-Block.value.sum c.requires.known
+    (All-contains (λ x. g.P.Places.Knows c.args.at.now x.start × g.P.Places.Knows c.args.at.now x.end) (items_below s n) c.in-Block.value.sum.last c.requires.known
     (c.requires.named n c.in-Block.value value)).1
 
 pub returns-then-place-range-clause-found : goal.returns-then-place-range-clause-found
@@ -55,7 +55,7 @@ returns-then-place-range-clause-found g t c =
     let kids : kids_of s n ≡ c.in-Block.kids = ap kids_of_entry c.read.ensures.node ∙ ap kids_of_node c.in-Block.is in
     let value : block_value s n ≡ Some c.in-Block.value = ap block_of_entry c.read.ensures.node ∙ ap block_of_node c.in-Block.is in
     subst (λ (k : ℕ). Collects place c.args.range.now.low c.args.range.now.high (items_below s n) (height_of s n) c.args.found.now.items c.args.found.now.items c.args.steps.now k true)
-    (sym c.read.ensures.tick) (passed_over place c.args.range.now.low c.args.range.now.high c.in-Block.value.sum (items_below s n) (height_of s n) c.args.found.now.items c.args.steps.now
+    (sym c.read.ensures.tick) (passed_over place c.args.range.now.low c.args.range.now.high c.in-Block.value.sum.last (items_below s n) (height_of s n) c.args.found.now.items c.args.steps.now
     (c.requires.greatest n c.in-Block.value value) (subst (λ (z : ℤ). z <ℤ c.args.range.now.low) c.place.ensures (omega (arith, ints))))
 
 pub returns-then-place-range-clause-cheap : goal.returns-then-place-range-clause-cheap

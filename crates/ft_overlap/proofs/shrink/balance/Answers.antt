@@ -4,7 +4,7 @@ use Rattle.ft_arena.specs.Forest.{entry}
 use Rattle.ft_shape.proofs.KindLemmas.{kind_block}
 use Rattle.ft_shape.proofs.PairLemmas.{pr_front_front, pr_front_rear, pr_rear_front, pr_rear_rear, rg_front_front, rg_front_rear, rg_rear_rear, rg_block, rg_rear_many, balanced, balanced_up}
 use Rattle.ft_shape.proofs.ToldLemmas.{told_from_values, both_tell, pair_keeps}
-use Rattle.ft_overlap.specs.Inside.{NamesOne, NamesLast}
+use Rattle.ft_overlap.specs.Inside.{IsSpan, SpansLast}
 use Rattle.ft_overlap.proofs.Halved.{put_known}
 use Rattle.ft_overlap.proofs.shrink.balance.Goals as goal
 
@@ -77,11 +77,11 @@ returns-clause-one g c =
     c.regroup.new.arena c.rename.new.arena c.rename-2.new.arena _ c.regroup.ensures c.rename.ensures.shape c.rename-2.ensures.shape
     (omega (arith, c.count_of.ensures.value, c.count_of-2.ensures.value, c.requires.many))
     (omega (arith, c.count_of.ensures.value, c.count_of-2.ensures.value, c.requires.many)) in
-    let both = both_tell NamesOne c.args.arena.now c.regroup.new.arena c.rename.new.arena c.rename-2.new.arena c.args.front c.args.rear c.rename.ensures.one
+    let both = both_tell IsSpan c.args.arena.now c.regroup.new.arena c.rename.new.arena c.rename-2.new.arena c.args.front c.args.rear c.rename.ensures.one
     c.rename-2.ensures.shape c.rename-2.ensures.one c.requires.pair.differ
     (ap (λ ks. times ks c.args.rear) (c.rename.ensures.shape.kids c.args.front) ∙ rg_front_rear c.args.arena.now c.args.up c.args.front c.args.rear c.requires.forest c.requires.pair c.regroup.new.arena _ c.regroup.ensures)
     (λ x d. told_from_values c.args.arena.now c.regroup.new.arena x (c.regroup.ensures.leaf_values x) (c.regroup.ensures.block_values x)) in
-    pair_keeps NamesOne c.args.arena.now c.rename-2.new.arena c.args.up c.args.front c.args.rear c.requires.forest c.requires.pair shares both c.requires.one
+    pair_keeps IsSpan c.args.arena.now c.rename-2.new.arena c.args.up c.args.front c.args.rear c.requires.forest c.requires.pair shares both c.requires.one
 
 pub returns-clause-last : goal.returns-clause-last
 returns-clause-last g c =
@@ -89,8 +89,8 @@ returns-clause-last g c =
     c.regroup.new.arena c.rename.new.arena c.rename-2.new.arena _ c.regroup.ensures c.rename.ensures.shape c.rename-2.ensures.shape
     (omega (arith, c.count_of.ensures.value, c.count_of-2.ensures.value, c.requires.many))
     (omega (arith, c.count_of.ensures.value, c.count_of-2.ensures.value, c.requires.many)) in
-    let both = both_tell (NamesLast (g.P.Places.end_place c.args.at.now)) c.args.arena.now c.regroup.new.arena c.rename.new.arena c.rename-2.new.arena c.args.front c.args.rear c.rename.ensures.last
+    let both = both_tell (SpansLast (g.P.Places.end_place c.args.at.now)) c.args.arena.now c.regroup.new.arena c.rename.new.arena c.rename-2.new.arena c.args.front c.args.rear c.rename.ensures.last
     c.rename-2.ensures.shape c.rename-2.ensures.last c.requires.pair.differ
     (ap (λ ks. times ks c.args.rear) (c.rename.ensures.shape.kids c.args.front) ∙ rg_front_rear c.args.arena.now c.args.up c.args.front c.args.rear c.requires.forest c.requires.pair c.regroup.new.arena _ c.regroup.ensures)
     (λ x d. told_from_values c.args.arena.now c.regroup.new.arena x (c.regroup.ensures.leaf_values x) (c.regroup.ensures.block_values x)) in
-    pair_keeps (NamesLast (g.P.Places.end_place c.args.at.now)) c.args.arena.now c.rename-2.new.arena c.args.up c.args.front c.args.rear c.requires.forest c.requires.pair shares both c.requires.last
+    pair_keeps (SpansLast (g.P.Places.end_place c.args.at.now)) c.args.arena.now c.rename-2.new.arena c.args.up c.args.front c.args.rear c.requires.forest c.requires.pair shares both c.requires.last

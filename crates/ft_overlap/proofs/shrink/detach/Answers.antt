@@ -3,7 +3,7 @@ use Rattle.std.proofs.lemmas.Option.{slice_get_within}
 use Rattle.ft_arena.specs.Forest.{kids_of, parent_of, block_value}
 use Rattle.ft_shape.proofs.TakenLemmas.{took_id, apart_part, SameShape-apart, taken_apart, tk_p_block, tk_child, tk_up_block, has_parent}
 use Rattle.ft_shape.proofs.ToldLemmas.{kids_keep}
-use Rattle.ft_overlap.specs.Inside.{NamesOne, NamesLast}
+use Rattle.ft_overlap.specs.Inside.{IsSpan, SpansLast}
 use Rattle.ft_overlap.proofs.Halved.{put_known}
 use Rattle.ft_overlap.proofs.Taken.{apart_filled}
 use Rattle.ft_overlap.proofs.shrink.detach.Goals as goal
@@ -45,11 +45,11 @@ fill_up-top-requires-clause-known g c = put_known (g.P.Places.Knows c.args.at.no
     c.take_child.ensures.takes.block_values c.requires.known
 
 pub fill_up-top-requires-clause-one : goal.fill_up-top-requires-clause-one
-fill_up-top-requires-clause-one g c = kids_keep NamesOne c.args.arena.now c.take_child.new.self c.in-Some.block c.take_child.ensures.takes.leaf_values
+fill_up-top-requires-clause-one g c = kids_keep IsSpan c.args.arena.now c.take_child.new.self c.in-Some.block c.take_child.ensures.takes.leaf_values
     c.take_child.ensures.takes.block_values c.take_child.ensures.takes.other_kids c.requires.one
 
 pub fill_up-top-requires-clause-last : goal.fill_up-top-requires-clause-last
-fill_up-top-requires-clause-last g c = kids_keep (NamesLast (g.P.Places.end_place c.args.at.now)) c.args.arena.now c.take_child.new.self c.in-Some.block c.take_child.ensures.takes.leaf_values
+fill_up-top-requires-clause-last g c = kids_keep (SpansLast (g.P.Places.end_place c.args.at.now)) c.args.arena.now c.take_child.new.self c.in-Some.block c.take_child.ensures.takes.leaf_values
     c.take_child.ensures.takes.block_values c.take_child.ensures.takes.other_kids c.requires.last
 
 pub rename_up-requires-clause-tree : goal.rename_up-requires-clause-tree

@@ -8,7 +8,7 @@ use Rattle.ft_shape.proofs.KindLemmas.{block_live}
 use Rattle.ft_shape.proofs.ShareLemmas.{share_apart, share_block, share_high, share_up_high}
 use Rattle.ft_shape.proofs.FillLemmas.{apart_full, apart_root, apart_with, fl_up_block, fl_up_full, fl_child, fl_root, fl_only, fl_short, fl_two, fl_pair, fl_many, dropped_apart}
 use Rattle.ft_shape.proofs.ToldLemmas.{told_from_values, gone_keeps, but_both}
-use Rattle.ft_overlap.specs.Inside.{NamesOne, NamesLast}
+use Rattle.ft_overlap.specs.Inside.{IsSpan, SpansLast}
 use Rattle.ft_overlap.proofs.Taken.{gone_known}
 use Rattle.ft_overlap.proofs.shrink.fill_up.Goals as goal
 
@@ -224,9 +224,9 @@ returns-then-count-eq1-clause-one g c =
     subst (λ (z : ℕ). DropsRoot c.up.arena c.drop_root-top.new.arena z c.drop_root-top.result) is_root c.drop_root-top.ensures in
     let is_top : c.up.block ≡ c.drop_root-top.result =
     fl_only c.up.arena c.args.root c.args._id c.up.block c.up.invariant.apart c.in-Some.up up c.drop_root-top.result (ap (kids_of c.up.arena) is_root ∙ drops.kids) in
-    gone_keeps NamesOne c.up.arena c.drop_root-top.new.arena c.in-Some.up (Some c.drop_root-top.result) c.drop_root-top.ensures.forest c.drop_root-top.ensures.gone
+    gone_keeps IsSpan c.up.arena c.drop_root-top.new.arena c.in-Some.up (Some c.drop_root-top.result) c.drop_root-top.ensures.forest c.drop_root-top.ensures.gone
     (λ x d. told_from_values c.up.arena c.drop_root-top.new.arena x (c.drop_root-top.ensures.leaf_values x) (c.drop_root-top.ensures.block_values x d))
-    c.drop_root-top.ensures.other_kids (subst (λ (z : ℕ). KeepsBut NamesOne c.up.arena (Some z)) is_top c.up.invariant.one)
+    c.drop_root-top.ensures.other_kids (subst (λ (z : ℕ). KeepsBut IsSpan c.up.arena (Some z)) is_top c.up.invariant.one)
 
 pub returns-then-count-eq1-clause-last : goal.returns-then-count-eq1-clause-last
 returns-then-count-eq1-clause-last g c =
@@ -237,9 +237,9 @@ returns-then-count-eq1-clause-last g c =
     subst (λ (z : ℕ). DropsRoot c.up.arena c.drop_root-top.new.arena z c.drop_root-top.result) is_root c.drop_root-top.ensures in
     let is_top : c.up.block ≡ c.drop_root-top.result =
     fl_only c.up.arena c.args.root c.args._id c.up.block c.up.invariant.apart c.in-Some.up up c.drop_root-top.result (ap (kids_of c.up.arena) is_root ∙ drops.kids) in
-    gone_keeps (NamesLast (g.P.Places.end_place c.args.at.now)) c.up.arena c.drop_root-top.new.arena c.in-Some.up (Some c.drop_root-top.result) c.drop_root-top.ensures.forest c.drop_root-top.ensures.gone
+    gone_keeps (SpansLast (g.P.Places.end_place c.args.at.now)) c.up.arena c.drop_root-top.new.arena c.in-Some.up (Some c.drop_root-top.result) c.drop_root-top.ensures.forest c.drop_root-top.ensures.gone
     (λ x d. told_from_values c.up.arena c.drop_root-top.new.arena x (c.drop_root-top.ensures.leaf_values x) (c.drop_root-top.ensures.block_values x d))
-    c.drop_root-top.ensures.other_kids (subst (λ (z : ℕ). KeepsBut (NamesLast (g.P.Places.end_place c.args.at.now)) c.up.arena (Some z)) is_top c.up.invariant.last)
+    c.drop_root-top.ensures.other_kids (subst (λ (z : ℕ). KeepsBut (SpansLast (g.P.Places.end_place c.args.at.now)) c.up.arena (Some z)) is_top c.up.invariant.last)
 
 pub returns-then-many-gt8-clause-block : goal.returns-then-many-gt8-clause-block
 returns-then-many-gt8-clause-block g c =
@@ -254,14 +254,14 @@ returns-then-many-gt8-clause-block g c =
 pub balance-requires-clause-one : goal.balance-requires-clause-one
 balance-requires-clause-one g c =
     let up : parent_of c.up.arena c.up.block ≡ Some c.in-Some.up = sym c.parent.ensures ∙ c.in-Some.is in
-    but_both NamesOne c.up.arena c.up.block c.child_at-front.result c.child_at-rear.result
+    but_both IsSpan c.up.arena c.up.block c.child_at-front.result c.child_at-rear.result
     (fl_short c.up.arena c.args.root c.args._id c.up.block c.up.invariant.apart c.in-Some.up up c.child_place-place.result.0 _
     c.child_at-front.result c.child_at-rear.result c.child_place-place.ensures.place (omega arith) c.child_at-front.ensures c.child_at-rear.ensures) c.up.invariant.one
 
 pub balance-requires-clause-last : goal.balance-requires-clause-last
 balance-requires-clause-last g c =
     let up : parent_of c.up.arena c.up.block ≡ Some c.in-Some.up = sym c.parent.ensures ∙ c.in-Some.is in
-    but_both (NamesLast (g.P.Places.end_place c.args.at.now)) c.up.arena c.up.block c.child_at-front.result c.child_at-rear.result
+    but_both (SpansLast (g.P.Places.end_place c.args.at.now)) c.up.arena c.up.block c.child_at-front.result c.child_at-rear.result
     (fl_short c.up.arena c.args.root c.args._id c.up.block c.up.invariant.apart c.in-Some.up up c.child_place-place.result.0 _
     c.child_at-front.result c.child_at-rear.result c.child_place-place.ensures.place (omega arith) c.child_at-front.ensures c.child_at-rear.ensures) c.up.invariant.last
 
@@ -271,14 +271,14 @@ balance-requires-clause-known g c = c.up.invariant.known
 pub merge-requires-clause-one : goal.merge-requires-clause-one
 merge-requires-clause-one g c =
     let up : parent_of c.up.arena c.up.block ≡ Some c.in-Some.up = sym c.parent.ensures ∙ c.in-Some.is in
-    but_both NamesOne c.up.arena c.up.block c.child_at-front.result c.child_at-rear.result
+    but_both IsSpan c.up.arena c.up.block c.child_at-front.result c.child_at-rear.result
     (fl_short c.up.arena c.args.root c.args._id c.up.block c.up.invariant.apart c.in-Some.up up c.child_place-place.result.0 _
     c.child_at-front.result c.child_at-rear.result c.child_place-place.ensures.place (omega arith) c.child_at-front.ensures c.child_at-rear.ensures) c.up.invariant.one
 
 pub merge-requires-clause-last : goal.merge-requires-clause-last
 merge-requires-clause-last g c =
     let up : parent_of c.up.arena c.up.block ≡ Some c.in-Some.up = sym c.parent.ensures ∙ c.in-Some.is in
-    but_both (NamesLast (g.P.Places.end_place c.args.at.now)) c.up.arena c.up.block c.child_at-front.result c.child_at-rear.result
+    but_both (SpansLast (g.P.Places.end_place c.args.at.now)) c.up.arena c.up.block c.child_at-front.result c.child_at-rear.result
     (fl_short c.up.arena c.args.root c.args._id c.up.block c.up.invariant.apart c.in-Some.up up c.child_place-place.result.0 _
     c.child_at-front.result c.child_at-rear.result c.child_place-place.ensures.place (omega arith) c.child_at-front.ensures c.child_at-rear.ensures) c.up.invariant.last
 

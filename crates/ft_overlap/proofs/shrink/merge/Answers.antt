@@ -3,7 +3,7 @@ use Rattle.std.proofs.lemmas.Option.{slice_get_within}
 use Rattle.ft_arena.specs.Forest.{kids_of}
 use Rattle.ft_shape.proofs.PairLemmas.{pr_front_front, pr_front_rear, pr_rear_front, pr_rear_rear, rg_up, mg_takes, mg_drop_block, mg_drop_empty, md_block, md_apart, md_many, merged}
 use Rattle.ft_shape.proofs.ToldLemmas.{one_tells, pair_keeps, joined_told}
-use Rattle.ft_overlap.specs.Inside.{NamesOne, NamesLast}
+use Rattle.ft_overlap.specs.Inside.{IsSpan, SpansLast}
 use Rattle.ft_overlap.proofs.Taken.{gone_known}
 use Rattle.ft_overlap.proofs.shrink.merge.Goals as goal
 
@@ -117,11 +117,11 @@ returns-clause-one g c =
     c.take_child.new.self c.drop_block.new.self c.rename.new.arena (c.count_of.result + c.count_of-2.result) c.args.place c.requires.next
     (omega (arith, c.count_of.ensures.value, c.count_of-2.ensures.value)) c.regroup.ensures c.take_child.ensures.leaves takes c.drop_block.ensures.leaves
     c.drop_block.ensures.changes c.rename.ensures.shape (omega (arith, c.count_of.ensures.value, c.count_of-2.ensures.value, c.requires.many)) in
-    let both = one_tells NamesOne c.args.arena.now c.drop_block.new.self c.rename.new.arena c.args.front c.args.rear c.rename.ensures.one c.requires.pair.differ
+    let both = one_tells IsSpan c.args.arena.now c.drop_block.new.self c.rename.new.arena c.args.front c.args.rear c.rename.ensures.one c.requires.pair.differ
     c.drop_block.ensures.changes.changed
     (λ x d. joined_told c.args.arena.now c.args.up c.args.front c.args.rear c.regroup.new.arena c.take_child.new.self c.drop_block.new.self
     (c.count_of.result + c.count_of-2.result) (c.args.place + 1) c.regroup.ensures takes c.drop_block.ensures.changes x d) in
-    pair_keeps NamesOne c.args.arena.now c.rename.new.arena c.args.up c.args.front c.args.rear c.requires.forest c.requires.pair shares both c.requires.one
+    pair_keeps IsSpan c.args.arena.now c.rename.new.arena c.args.up c.args.front c.args.rear c.requires.forest c.requires.pair shares both c.requires.one
 
 pub returns-clause-last : goal.returns-clause-last
 returns-clause-last g c =
@@ -132,8 +132,8 @@ returns-clause-last g c =
     c.take_child.new.self c.drop_block.new.self c.rename.new.arena (c.count_of.result + c.count_of-2.result) c.args.place c.requires.next
     (omega (arith, c.count_of.ensures.value, c.count_of-2.ensures.value)) c.regroup.ensures c.take_child.ensures.leaves takes c.drop_block.ensures.leaves
     c.drop_block.ensures.changes c.rename.ensures.shape (omega (arith, c.count_of.ensures.value, c.count_of-2.ensures.value, c.requires.many)) in
-    let both = one_tells (NamesLast (g.P.Places.end_place c.args.at.now)) c.args.arena.now c.drop_block.new.self c.rename.new.arena c.args.front c.args.rear c.rename.ensures.last c.requires.pair.differ
+    let both = one_tells (SpansLast (g.P.Places.end_place c.args.at.now)) c.args.arena.now c.drop_block.new.self c.rename.new.arena c.args.front c.args.rear c.rename.ensures.last c.requires.pair.differ
     c.drop_block.ensures.changes.changed
     (λ x d. joined_told c.args.arena.now c.args.up c.args.front c.args.rear c.regroup.new.arena c.take_child.new.self c.drop_block.new.self
     (c.count_of.result + c.count_of-2.result) (c.args.place + 1) c.regroup.ensures takes c.drop_block.ensures.changes x d) in
-    pair_keeps (NamesLast (g.P.Places.end_place c.args.at.now)) c.args.arena.now c.rename.new.arena c.args.up c.args.front c.args.rear c.requires.forest c.requires.pair shares both c.requires.last
+    pair_keeps (SpansLast (g.P.Places.end_place c.args.at.now)) c.args.arena.now c.rename.new.arena c.args.up c.args.front c.args.rear c.requires.forest c.requires.pair shares both c.requires.last

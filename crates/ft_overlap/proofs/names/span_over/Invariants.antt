@@ -2,7 +2,7 @@ use Rattle.std.proofs.Common.{◌≤◌, ◌-◌, length, take, map}
 use Rattle.ft_shape.specs.Told.{told}
 use Rattle.ft_overlap.specs.Inside.{NamesOne}
 use Rattle.ft_overlap.proofs.Last.{IsLastOf}
-use Rattle.ft_overlap.proofs.names.last_named.Given as goal
+use Rattle.ft_overlap.proofs.names.span_over.Given as goal
 
 abbrev pub invariant-loop-kid : goal.invariant-loop-kid
 invariant-loop-kid g l =
