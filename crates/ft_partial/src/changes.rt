@@ -7,34 +7,45 @@ use crate::entries::Entry;
 use crate::items::{last_length, push_item};
 use ft_base::{Element, OutOfMemory};
 use std::alloc::Global;
+use std::marker::Model;
 
-/// How many elements more all see in the end, round 2^64, and what those count besides who haven't seen a
-/// sequence number yet.
+/// What an exchange of elements adds to a table: how many elements more all see in the end, round 2^64, and what
+/// those count besides who haven't seen a sequence number yet. Contracts see it as a table whose floor is 0.
 #[derive(Drop)]
 pub struct Change {
-    pub last: u64,
-    pub entries: Vec<Entry>,
+    pub(crate) last: u64,
+    pub(crate) entries: Vec<Entry>,
 }
 
-/// What `new_len` elements of the stamps `new` in the place of `len` elements of the stamps `e` add, from
-/// the floor up.
-pub fn change_of(
-    alloc: Global,
-    floor: u64,
-    e: &Element,
-    len: u64,
-    new: &Element,
-    new_len: u64,
-) -> Result<Change, OutOfMemory>
-    ensures { IfOk result (λ change. IsExchange floor change.entries.items change.last e.now len new.now new_len) }
-{
-    let mut entries = Vec::new(alloc);
-    push_item(&mut entries, floor, new, new_len)?;
-    push_item(&mut entries, floor, e, 0u64.wrapping_sub(len))?;
-    let gone = last_length(e, len);
-    let come = last_length(new, new_len);
-    Ok(Change {
-        last: come.wrapping_sub(gone),
-        entries,
-    })
+impl Model for Change {
+    ghost use Rattle.ft_partial.specs.Tables.{Lengths};
+
+    ghost Value = { Lengths };
+
+    ghost view = { λ a. record { floor = 0; last = a.last; entries = a.entries.items } };
+}
+
+impl Change {
+    /// What `new_len` elements of the stamps `new` in the place of `len` elements of the stamps `e` add, from
+    /// the floor up.
+    pub fn of(
+        alloc: Global,
+        floor: u64,
+        e: &Element,
+        len: u64,
+        new: &Element,
+        new_len: u64,
+    ) -> Result<Change, OutOfMemory>
+        ensures { IfOk result (λ change. IsExchange floor change.entries change.last e.now len new.now new_len) }
+    {
+        let mut entries = Vec::new(alloc);
+        push_item(&mut entries, floor, new, new_len)?;
+        push_item(&mut entries, floor, e, 0u64.wrapping_sub(len))?;
+        let gone = last_length(e, len);
+        let come = last_length(new, new_len);
+        Ok(Change {
+            last: come.wrapping_sub(gone),
+            entries,
+        })
+    }
 }

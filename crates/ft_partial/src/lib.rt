@@ -13,5 +13,6 @@ mod items;
 mod stages;
 mod table;
 
+pub use changes::Change;
 pub use stages::Stages;
 pub use table::{Table, same_by_stamps};

@@ -6,7 +6,7 @@ ghost use Rattle.ft_partial.specs.Items.{Item, length_seen};
 ghost use Rattle.ft_partial.specs.SameStamps.{ExchangesItem};
 ghost use Rattle.ft_partial.specs.Tables.{length_at, CountsItems, Exchanges, AddsAll, AddsChange};
 
-use crate::changes::change_of;
+use crate::changes::Change;
 use crate::entries::{Entry, add_entries, drop_nothing, make_room, unseen};
 use ft_base::{Element, OutOfMemory, Perspective};
 use std::alloc::Global;
@@ -111,7 +111,21 @@ impl Stages {
         ensures low { self.old.floor ≡ 0 }
         ensures err { OnErr result (self.new ≡ self.old) }
     {
-        let change = change_of(self.alloc, 0, e, len, new, new_len)?;
+        let change = Change::of(self.alloc, 0, e, len, new, new_len)?;
+        self.add_change(&change)
+    }
+
+    /// Adds a change.
+    ///
+    /// Returns `OutOfMemory` where there is no room, and then the table is as it was.
+    pub fn add_change(&mut self, change: &Change) -> Result<(), OutOfMemory>
+        ensures lengths { OnOk result (AddsChange self.old self.new change.now.entries change.now.last) }
+        ensures floor { self.new.floor ≡ self.old.floor }
+        ensures low { self.old.floor ≡ 0 }
+        ensures err { OnErr result (self.new ≡ self.old) }
+    {
+        // That the floor is 0 is read off the field.
+        let _last = self.last;
         self.put_in(change.entries.as_slice(), change.last)
     }
 

@@ -5,7 +5,7 @@ ghost use Rattle.ft_partial.specs.Items.{Item, item_of, inserted_element, remove
 ghost use Rattle.ft_partial.specs.SameStamps.{SameByStamps, ExchangesItem};
 ghost use Rattle.ft_partial.specs.Tables.{length_at, CountsItems, Adds, Exchanges, AddsAll, AddsChange, SameFrom};
 
-use crate::changes::change_of;
+use crate::changes::Change;
 use crate::entries::{Entry, add_entries, clear, drop_old, is_half_old, make_room, newest, unseen};
 use ft_base::{Datum, Element, OutOfMemory, Perspective, Stamp, Stamps};
 use std::alloc::Global;
@@ -135,7 +135,18 @@ impl Table {
         ensures floor { self.new.floor ≡ self.old.floor }
         ensures err { OnErr result (self.new ≡ self.old) }
     {
-        let change = change_of(self.alloc, self.floor, e, len, new, new_len)?;
+        let change = Change::of(self.alloc, self.floor, e, len, new, new_len)?;
+        self.add_change(&change)
+    }
+
+    /// Adds a change.
+    ///
+    /// Returns `OutOfMemory` where there is no room, and then the table is as it was.
+    pub fn add_change(&mut self, change: &Change) -> Result<(), OutOfMemory>
+        ensures lengths { OnOk result (AddsChange self.old self.new change.now.entries change.now.last) }
+        ensures floor { self.new.floor ≡ self.old.floor }
+        ensures err { OnErr result (self.new ≡ self.old) }
+    {
         self.put_in(change.entries.as_slice(), change.last)
     }
 

@@ -1,6 +1,6 @@
 use Rattle.std.proofs.Common.{◌+◌, ◌-◌, ◌%◌, sym, arith}
 use Rattle.ft_partial.proofs.TableLemmas.{exchanges_change}
-use Rattle.ft_partial.proofs.changes.change_of.Goals as goal
+use Rattle.ft_partial.proofs.changes.Change.of.Goals as goal
 
 pub returns : goal.returns
 returns c = λ old new floor change.
