@@ -1,7 +1,7 @@
 -- What a block keeps, after a change of its leaves.
 use Rattle.std.proofs.Common.{◌≡◌, ℕ, ◌+◌, ◌-◌, ◌^◌, ◌%◌, ◌<◌, List, [], ◌∷◌, ◌&&◌, ◌||◌, nat_le, Option, Some, None, inl, inr, Bool, true, false, cond, refl, sym, ap, ◌∙◌, arith}
 use Rattle.std.proofs.lemmas.Bool.{cases_eq}
-use Rattle.std.specs.Prelude.{map, not}
+use Rattle.std.specs.Prelude.{map, not, OnOk, Result, Ok, Err}
 use Rattle.std.specs.List.{list_any}
 use Rattle.std.proofs.lemmas.Bool.Decides.{nat_tests}
 use Rattle.ft_base.specs.declared.stamps.Stamp.{Stamp}
@@ -18,11 +18,11 @@ use Rattle.ft_block.specs.declared.summaries.Summary.{Summary}
 use Rattle.ft_block.specs.declared.leaves.View.{View}
 use Rattle.ft_block.specs.declared.leaves.View.TheVariants.{Of, Removed}
 use Rattle.ft_block.specs.declared.leaves.LenView.TheVariants.{At, Stage, All}
-use Rattle.ft_block.specs.Tree.{staged_stamp, staged, shows, shown_length, AreFromFloor, IsNodeFrom, kept_length, HasRange, KeepsLengths, KeepsNothing, KeepsExchange, IsChange, KeepsSum, KeepsNode}
+use Rattle.ft_block.specs.Tree.{staged_stamp, staged, shows, shown_length, AreFromFloor, IsNodeFrom, kept_length, HasRange, KeepsLengths, KeepsExchange, KeepsNode}
 
-exchanged_local : (local gone come : ℕ) → gone < 2 ^ 64
-    → ((((local + (18446744073709551616 - gone)) % 18446744073709551616) + come) % 18446744073709551616 + gone) % 2 ^ 64 ≡ (local + come) % 2 ^ 64
-exchanged_local local gone come h = omega arith
+exchanged_local : (local gone come now : ℕ) → gone < 2 ^ 64 → now ≡ (local + (come + (18446744073709551616 - gone)) % 18446744073709551616) % 2 ^ 64
+    → (now + gone) % 2 ^ 64 ≡ (local + come) % 2 ^ 64
+exchanged_local local gone come now h e = omega arith
 
 -- a stage sees of an element what a perspective that is nobody's sees of it as it is kept for stages
 or_none : (a : Bool) → (a || false) ≡ a
@@ -44,49 +44,41 @@ sees-staged k e =
     ∙ ap (λ b. has_occurred_at_stage k e.ins && not b) (any-staged k e.dels)
 
 -- what is kept after elements were exchanged
-pub exchange_keeps : (floor : ℕ) (old : Summary) (table stages : Lengths) (cleared removed n m : ℕ) (e f old_staged new_staged : Element) → n < 2 ^ 64 → cleared < 2 ^ 64
+pub exchange_keeps : (floor : ℕ) (old new : Summary) (cleared removed n m : ℕ) (e f old_staged new_staged : Element) → n < 2 ^ 64 → cleared < 2 ^ 64
     → cleared ≡ amount (shows Removed e) n → removed ≡ amount (shows Removed f) m → old.table.floor ≡ floor → old.stages.floor ≡ 0
-    → old_staged ≡ staged e → new_staged ≡ staged f → Exchanges old.table table e n f m → Exchanges old.stages stages old_staged n new_staged m
-    → KeepsExchange floor old (record {
-      whole = ((old.whole + (18446744073709551616 - n)) % 18446744073709551616 + m) % 18446744073709551616;
-      removed =
-          ((old.removed + (18446744073709551616 - cleared)) % 18446744073709551616 + removed) % 18446744073709551616;
-      stages = stages;
-      table = table;
-    }) e n f m
-exchange_keeps floor old table stages cleared removed n m e f old_staged new_staged few cl kr ks from none es et ex staged_ex (Of (At at)) (low, high, conn) =
+    → old_staged ≡ staged e → new_staged ≡ staged f
+    → new.whole ≡ (old.whole + (m + (18446744073709551616 - n)) % 18446744073709551616) % 2 ^ 64
+    → new.removed ≡ (old.removed + (removed + (18446744073709551616 - cleared)) % 18446744073709551616) % 2 ^ 64
+    → Exchanges old.table new.table e n f m → Exchanges old.stages new.stages old_staged n new_staged m → KeepsExchange floor old new e n f m
+exchange_keeps floor old new cleared removed n m e f old_staged new_staged few cl kr ks from none es et all gone ex staged_ex (Of (At at)) (low, high, conn) =
     ex at.r at.c (omega (arith, from, low)) high conn
-exchange_keeps floor old table stages cleared removed n m e f old_staged new_staged few cl kr ks from none es et ex staged_ex (Of (Stage k)) low =
-    let gone : amount (seen_at e k) n ≡ amount (sees old_staged k 1) n =
+exchange_keeps floor old new cleared removed n m e f old_staged new_staged few cl kr ks from none es et all gone ex staged_ex (Of (Stage k)) low =
+    let less : amount (seen_at e k) n ≡ amount (sees old_staged k 1) n =
     sym (ap (λ z. amount (sees z k 1) n) es ∙ ap (λ b. amount b n) (sees-staged k e)) in
-    let come : amount (sees new_staged k 1) m ≡ amount (seen_at f k) m = ap (λ z. amount (sees z k 1) m) et ∙ ap (λ b. amount b m) (sees-staged k f) in
-    ap (λ (x : ℕ). (length_at stages k 1 + x) % 2 ^ 64) gone ∙ staged_ex k 1 (omega (arith, none)) low (omega arith)
-    ∙ ap (λ (x : ℕ). (length_at old.stages k 1 + x) % 2 ^ 64) come
-exchange_keeps floor old table stages cleared removed n m e f old_staged new_staged few cl kr ks from none es et ex staged_ex (Of All) h = exchanged_local old.whole n m few
-exchange_keeps floor old table stages cleared removed n m e f old_staged new_staged few cl kr ks from none es et ex staged_ex Removed h =
-    ap (λ (x : ℕ). ((((old.removed + (18446744073709551616 - cleared)) % 18446744073709551616) + removed) % 18446744073709551616 + x) % 2 ^ 64) (sym kr)
-    ∙ exchanged_local old.removed cleared removed cl ∙ ap (λ (x : ℕ). (old.removed + x) % 2 ^ 64) ks
+    let more : amount (sees new_staged k 1) m ≡ amount (seen_at f k) m = ap (λ z. amount (sees z k 1) m) et ∙ ap (λ b. amount b m) (sees-staged k f) in
+    ap (λ (x : ℕ). (length_at new.stages k 1 + x) % 2 ^ 64) less ∙ staged_ex k 1 (omega (arith, none)) low (omega arith)
+    ∙ ap (λ (x : ℕ). (length_at old.stages k 1 + x) % 2 ^ 64) more
+exchange_keeps floor old new cleared removed n m e f old_staged new_staged few cl kr ks from none es et all gone ex staged_ex (Of All) h =
+    exchanged_local old.whole n m new.whole few all
+exchange_keeps floor old new cleared removed n m e f old_staged new_staged few cl kr ks from none es et all gone ex staged_ex Removed h =
+    ap (λ (x : ℕ). (new.removed + x) % 2 ^ 64) (sym kr)
+    ∙ exchanged_local old.removed cleared removed new.removed cl gone ∙ ap (λ (x : ℕ). (old.removed + x) % 2 ^ 64) ks
 
--- a change is put in
-pub exchanged : (new old change more less : ℕ) → new ≡ (old + change) % 2 ^ 64 → (change + less) % 2 ^ 64 ≡ more % 2 ^ 64 → (new + less) % 2 ^ 64 ≡ (old + more) % 2 ^ 64
-exchanged new old change more less e is = omega arith
+-- what is kept of a view stays where the floor is raised
+kept_raised : (floor : ℕ) (old mid : Summary) → mid.whole ≡ old.whole → mid.removed ≡ old.removed
+    → ((r c : ℕ) → length_at mid.stages r c ≡ length_at old.stages r c) → SameFrom floor old.table mid.table
+    → (view : View) → KeepsLengths floor view → kept_length view mid ≡ kept_length view old
+kept_raised floor old mid whole removed stages same (Of (At at)) (low, high, conn) = same at.r at.c low high conn
+kept_raised floor old mid whole removed stages same (Of (Stage k)) h = stages k 1
+kept_raised floor old mid whole removed stages same (Of All) h = whole
+kept_raised floor old mid whole removed stages same Removed h = removed
 
--- a change is what an exchange makes of nothing
-pub change_is : (floor : ℕ) (nothing change : Summary) (e f : Element) (n m : ℕ) → KeepsNothing floor nothing → KeepsExchange floor nothing change e n f m → IsChange floor change e n f m
-change_is floor nothing change e f n m none ex view kept =
-    ex view kept ∙ ap (λ (x : ℕ). (x + amount (shows view f) m) % 2 ^ 64) (none view kept) ∙ omega arith
-
--- what is added where the floor was raised before
-pub sum_raised : (floor : ℕ) (old mid other new : Summary) → mid.whole ≡ old.whole → mid.removed ≡ old.removed
-    → ((r c : ℕ) → length_at mid.stages r c ≡ length_at old.stages r c) → SameFrom floor old.table mid.table → KeepsSum floor mid other new → KeepsSum floor old other new
-sum_raised floor old mid other new whole removed stages same sum view kept =
-    sum view kept ∙ ap (λ (x : ℕ). (x + kept_length view other) % 2 ^ 64) (raised view kept)
-  where
-    raised : (view : View) → KeepsLengths floor view → kept_length view mid ≡ kept_length view old
-    raised (Of (At at)) (low, high, conn) = same at.r at.c low high conn
-    raised (Of (Stage k)) h = stages k 1
-    raised (Of All) h = whole
-    raised Removed h = removed
+-- what is exchanged where the floor was raised before
+pub exchange_raised : (floor : ℕ) (old mid new : Summary) (e f : Element) (n m : ℕ) → mid.whole ≡ old.whole → mid.removed ≡ old.removed
+    → ((r c : ℕ) → length_at mid.stages r c ≡ length_at old.stages r c) → SameFrom floor old.table mid.table
+    → KeepsExchange floor mid new e n f m → KeepsExchange floor old new e n f m
+exchange_raised floor old mid new e f n m whole removed stages same ex view kept =
+    ex view kept ∙ ap (λ (x : ℕ). (x + amount (shows view f) m) % 2 ^ 64) (kept_raised floor old mid whole removed stages same view kept)
 
 pub kept_low : (v : Summary) → HasRange v → (view : View) → kept_length view v < 2 ^ 64
 unfolding length_at
@@ -94,6 +86,11 @@ kept_low v h (Of (At at)) = omega arith
 kept_low v h (Of (Stage k)) = omega arith
 kept_low v h (Of All) = h.0
 kept_low v h Removed = h.1
+
+-- of a value that is there both hold
+pub on_ok_both : {T E : Type 0} (P Q : Type 0) (r : Result T E) → OnOk r P → OnOk r Q → OnOk r (P × Q)
+on_ok_both P Q (Ok x) p q = (p, q)
+on_ok_both P Q (Err e) p q = tt
 
 amount_none : (b : Bool) → amount b 0 ≡ 0
 amount_none true = refl

@@ -9,9 +9,10 @@ use Rattle.ft_arena.specs.Forest.{Forest, block_value}
 use Rattle.ft_shape.specs.declared.headed.Headed.{Headed}
 use Rattle.ft_shape.specs.Tree.{Measure, length_of, length_of_node, SumsBut, OwesAt, OwesAbove}
 use Rattle.ft_block.specs.declared.summaries.Summary.{Summary}
+use Rattle.ft_block.specs.declared.summaries.Exchange.{Exchange}
 use Rattle.ft_block.specs.declared.leaves.LenView.TheVariants.{At, Stage, All}
 use Rattle.ft_partial.specs.Entries.{amount}
-use Rattle.ft_partial.specs.Tables.{length_at}
+use Rattle.ft_partial.specs.Tables.{length_at, AddsChange}
 use Rattle.ft_block.specs.declared.leaves.View.{View}
 use Rattle.ft_block.specs.declared.leaves.View.TheVariants.{Of, Removed}
 use Rattle.ft_block.specs.Leaves.{sees_in, is_removed, IsFromFloor}
@@ -63,10 +64,16 @@ abbrev pub KeepsExchange : ℕ → Summary → Summary → Element → ℕ → E
 KeepsExchange floor old new e n f m = (view : View) → KeepsLengths floor view
     → (kept_length view new + amount (shows view e) n) % 2 ^ 64 ≡ (kept_length view old + amount (shows view f) m) % 2 ^ 64
 
--- in each view the change counts m elements f less n elements e
-abbrev pub IsChange : ℕ → Summary → Element → ℕ → Element → ℕ → Type 0
-IsChange floor change e n f m = (view : View) → KeepsLengths floor view
-    → (kept_length view change + amount (shows view e) n) % 2 ^ 64 ≡ amount (shows view f) m % 2 ^ 64
+-- the exchange is added to what is kept
+pub record AddsExchange (old : Summary) (exchange : Exchange) (new : Summary) : Type 0 where
+  pub whole : new.whole ≡ (old.whole + exchange.whole) % 2 ^ 64
+  pub removed : new.removed ≡ (old.removed + exchange.removed) % 2 ^ 64
+  pub stages : AddsChange old.stages new.stages exchange.stages.entries exchange.stages.last
+  pub table : AddsChange old.table new.table exchange.table.entries exchange.table.last
+
+-- once it is added to what a block with this floor keeps, each view sees m elements f more and n elements e less
+abbrev pub MakesExchange : ℕ → Exchange → Element → ℕ → Element → ℕ → Type 0
+MakesExchange floor exchange e n f m = (old new : Summary) → old.table.floor ≡ floor → old.stages.floor ≡ 0 → AddsExchange old exchange new → KeepsExchange floor old new e n f m
 
 -- each view sees what it sees of both
 abbrev pub KeepsSum : ℕ → Summary → Summary → Summary → Type 0

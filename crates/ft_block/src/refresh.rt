@@ -9,7 +9,7 @@ ghost use Rattle.ft_block.specs.Tree.{SumsKeptBut, OwesExchange, AreFromFloor, K
 ghost use Rattle.ft_shape.specs.Steps.{SameShape, Resums};
 
 use crate::leaves::Leaf;
-use crate::summaries::{Summary, add_node};
+use crate::summaries::{Exchange, Summary, add_node};
 use ft_arena::{Arena, Kids, Node, NodeId};
 use ft_base::{Element, OutOfMemory, Steps};
 use ft_shape::Headed;
@@ -91,11 +91,11 @@ pub(crate) fn exchange_up<L: Leaf>(
     ensures floors { OnOk result (AreFromFloor floor arena.new) }
     ensures sums { OnOk result (SumsKeptBut L.size L.element floor arena.new None) }
 {
-    let change = Summary::of_change(floor, e, len, new, new_len)?;
-    let given = &change;
+    let exchange = Exchange::of(floor, e, len, new, new_len)?;
+    let given = &exchange;
     let mut stale = stale;
     'up: while let Some(block) = stale {
-        arena.block_mut(block).sum.fold_and_add(floor, given)?;
+        arena.block_mut(block).sum.fold_and_exchange(floor, given)?;
         stale = arena.parent(block);
     }
     Ok(())

@@ -1,12 +1,13 @@
 //! What a block keeps of the leaves below it.
 
-ghost use Rattle.std.specs.Prelude.{◌≡◌, ◌≤◌, IfOk, OnOk};
-ghost use Rattle.ft_block.specs.Tree.{IsFrom, kept_length, KeepsNothing, KeepsExchange, IsChange, KeepsSum, KeepsNode, IsNodeFrom, HasRange};
+ghost use Rattle.std.specs.Prelude.{◌≡◌, ◌≤◌, ℕ, IfOk, OnOk};
+ghost use Rattle.ft_base.specs.declared.elements.Element.{Element};
+ghost use Rattle.ft_block.specs.Tree.{AddsExchange, IsFrom, kept_length, KeepsNothing, KeepsExchange, KeepsSum, MakesExchange, KeepsNode, IsNodeFrom, HasRange};
 
 use crate::leaves::{Leaf, LenView, View, shown_in, staged};
 use ft_arena::Node;
 use ft_base::{Element, OutOfMemory, Perspective};
-use ft_partial::{Stages, Table};
+use ft_partial::{Change, Stages, Table};
 use ft_shape::Headed;
 use std::alloc::Global;
 
@@ -55,23 +56,6 @@ impl Summary {
         }
     }
 
-    // What is kept of `new_len` elements of the stamps `new` less what is kept of `len` of the stamps `e`,
-    // round 2^64: made once, it is added in each block above a leaf that changes.
-    pub(crate) fn of_change(
-        floor: u64,
-        e: &Element,
-        len: u64,
-        new: &Element,
-        new_len: u64,
-    ) -> Result<Summary, OutOfMemory>
-        ensures floor { IfOk result (λ change. change.table.floor ≡ floor) }
-        ensures change { IfOk result (λ change. IsChange floor change e.now len new.now new_len) }
-    {
-        let mut change = Summary::new(e.dels.allocator(), floor);
-        change.exchange(floor, e, len, new, new_len)?;
-        Ok(change)
-    }
-
     // Takes `len` elements of the stamps `e` out, and puts `new_len` of the stamps `new` in.
     fn exchange(
         &mut self,
@@ -83,30 +67,39 @@ impl Summary {
     ) -> Result<(), OutOfMemory>
         requires floor { self.old.table.floor ≡ floor }
         ensures floor { self.new.table.floor ≡ floor }
-        ensures low { HasRange self.new }
+        ensures low { OnOk result (HasRange self.new) }
         ensures exchanges { OnOk result (KeepsExchange floor self.old self.new e.now len new.now new_len) }
     {
-        let cleared = shown_in(e, len, View::Removed);
-        let removed = shown_in(new, new_len, View::Removed);
-        self.whole = self.whole.wrapping_sub(len).wrapping_add(new_len);
-        self.removed = self.removed.wrapping_sub(cleared).wrapping_add(removed);
-        let old_staged = staged(e)?;
-        let new_staged = staged(new)?;
-        self.stages.replace(&old_staged, len, &new_staged, new_len)?;
-        self.table.replace(e, len, new, new_len)?;
-        Ok(())
+        let exchange = Exchange::of(floor, e, len, new, new_len)?;
+        self.add_exchange(&exchange)
     }
 
-    // Raises the floor, and puts in what another block keeps.
-    pub(crate) fn fold_and_add(&mut self, floor: u64, other: &Summary) -> Result<(), OutOfMemory>
-        requires floor { self.old.table.floor ≤ floor }
-        requires other { other.now.table.floor ≤ floor }
+    // Makes an exchange.
+    fn add_exchange(&mut self, exchange: &Exchange) -> Result<(), OutOfMemory>
+        ensures floor { self.new.table.floor ≡ self.old.table.floor }
+        ensures low { HasRange self.new }
+        ensures stages { self.old.stages.floor ≡ 0 }
+        ensures adds { OnOk result (AddsExchange self.old exchange.now self.new) }
+    {
+        self.whole = self.whole.wrapping_add(exchange.whole);
+        self.removed = self.removed.wrapping_add(exchange.removed);
+        self.stages.add_change(&exchange.stages)?;
+        self.table.add_change(&exchange.table)
+    }
+
+    // Raises the floor, and makes an exchange.
+    pub(crate) fn fold_and_exchange(
+        &mut self,
+        floor: u64,
+        exchange: &Exchange,
+    ) -> Result<(), OutOfMemory>
+        requires { self.old.table.floor ≤ floor }
         ensures floor { self.new.table.floor ≡ floor }
         ensures low { HasRange self.new }
-        ensures sum { OnOk result (KeepsSum floor self.old other.now self.new) }
+        ensures exchanges { OnOk result ((e f : Element) (n m : ℕ) → MakesExchange floor exchange.now e n f m → KeepsExchange floor self.old self.new e n f m) }
     {
         self.table.fold_to(floor);
-        self.add_all(floor, other)
+        self.add_exchange(exchange)
     }
 
     // Puts in what another block keeps.
@@ -121,6 +114,41 @@ impl Summary {
         self.removed = self.removed.wrapping_add(other.removed);
         self.stages.add_all(&other.stages)?;
         self.table.add_all(&other.table)
+    }
+}
+
+/// What an exchange of elements changes of what blocks keep: how many elements more there are, and have a sequenced
+/// removal first, round 2^64, and what it adds to their tables.
+#[derive(Drop)]
+pub(crate) struct Exchange {
+    whole: u64,
+    removed: u64,
+    stages: Change,
+    table: Change,
+}
+
+impl Exchange {
+    // That of `len` elements of the stamps `e` for `new_len` of the stamps `new`, from the floor up.
+    pub(crate) fn of(
+        floor: u64,
+        e: &Element,
+        len: u64,
+        new: &Element,
+        new_len: u64,
+    ) -> Result<Exchange, OutOfMemory>
+        ensures { IfOk result (λ exchange. MakesExchange floor exchange e.now len new.now new_len) }
+    {
+        let alloc = e.dels.allocator();
+        let cleared = shown_in(e, len, View::Removed);
+        let removed = shown_in(new, new_len, View::Removed);
+        let old_staged = staged(e)?;
+        let new_staged = staged(new)?;
+        Ok(Exchange {
+            whole: new_len.wrapping_sub(len),
+            removed: removed.wrapping_sub(cleared),
+            stages: Change::of(alloc, 0, &old_staged, len, &new_staged, new_len)?,
+            table: Change::of(alloc, floor, e, len, new, new_len)?,
+        })
     }
 }
 

@@ -5,12 +5,11 @@ use Rattle.ft_shape.specs.declared.headed.Headed.{Headed}
 use Rattle.ft_block.specs.declared.summaries.Summary.{Summary}
 use Rattle.ft_block.specs.Tree.{shows}
 use Rattle.ft_shape.specs.Tree.{SumsBut, OwesAt}
-use Rattle.ft_block.specs.Tree.{kept_length, by_view, by_size}
+use Rattle.ft_block.specs.Tree.{by_view, by_size}
 use Rattle.ft_shape.proofs.FitLemmas.{leaf_total}
 use Rattle.ft_shape.proofs.RefreshLemmas.{SameShape-refl, SameShape-then, SameShape-part}
 use Rattle.ft_block.proofs.Floors.{written_floors}
 use Rattle.ft_block.proofs.ExchangeLemmas.{ex_shape, ex_sums, ex_owes, ex_next, ex_smaller}
-use Rattle.ft_block.proofs.KeptLemmas.{exchanged}
 use Rattle.ft_block.proofs.refresh.exchange_up.Goals as goal
 
 pub up-init : goal.up-init
@@ -18,8 +17,7 @@ up-init g c =
     record {
       tree = c.requires.tree;
       same = SameShape-refl c.args.arena.now c.requires.tree.shape.forest;
-      change = c.in_ok-change.ensures.change;
-      change_floor = c.in_ok-change.ensures.floor;
+      exchange = c.in_ok-exchange.ensures;
       fits = c.requires.fits;
       block = c.requires.block;
       floors = c.requires.floors;
@@ -29,7 +27,7 @@ up-init g c =
 
 pub up-smaller : goal.up-smaller
 up-smaller g c =
-    let w : Headed Summary = record { height = c.block_mut.result.now.height; sum = c.fold_and_add.new.self } in
+    let w : Headed Summary = record { height = c.block_mut.result.now.height; sum = c.fold_and_exchange.new.self } in
     ex_smaller c.up.arena c.args._root c.args._apart c.args._short c.up.invariant.tree c.in-Some.block c.block_mut.result.now w c.block_mut.ensures.value refl c.up.stale c.parent-stale.result c.in-Some.is c.parent-stale.ensures
 
 pub up-preserved : goal.up-preserved
@@ -38,30 +36,29 @@ up-preserved g c =
     let i = c.up.invariant in
     let b = c.in-Some.block in
     let v = c.block_mut.result.now in
-    let w : Headed Summary = record { height = c.block_mut.result.now.height; sum = c.fold_and_add.new.self } in
+    let w : Headed Summary = record { height = c.block_mut.result.now.height; sum = c.fold_and_exchange.new.self } in
     let r = ex_shape g.L.Leaf.size g.L.Leaf.element c.args.floor s c.args._root c.args._apart c.args._short i.tree i.fits b v w c.block_mut.ensures.value
     refl in
     record {
       tree = SameShape-part s (with_block s b w) c.args._root c.args._apart c.args._short i.tree r;
       same = SameShape-then c.args.arena.now s (with_block s b w) i.same r;
-      change = i.change;
-      change_floor = i.change_floor;
+      exchange = i.exchange;
       fits = omega (arith, leaf_total (by_size g.L.Leaf.size) s (with_block s b w) i.tree.shape.forest r.leaves r.leaf_values, i.fits);
       block = ex_next s c.args._root c.args._apart c.args._short i.tree b v w c.block_mut.ensures.value refl c.parent-stale.result c.parent-stale.ensures;
-      floors = written_floors c.args.floor s b v w c.block_mut.ensures.value c.fold_and_add.ensures.floor i.floors;
+      floors = written_floors c.args.floor s b v w c.block_mut.ensures.value c.fold_and_exchange.ensures.floor i.floors;
       sums = λ view k. subst (λ (o : Option ℕ). SumsBut (by_view g.L.Leaf.size g.L.Leaf.element view) (with_block s b w) o) (sym c.parent-stale.ensures)
           (ex_sums g.L.Leaf.size g.L.Leaf.element c.args.floor s c.args._root c.args._apart c.args._short i.tree i.fits b v w c.block_mut.ensures.value
           refl view (subst (λ (o : Option ℕ). SumsBut (by_view g.L.Leaf.size g.L.Leaf.element view) s o) c.in-Some.is (i.sums view k))
-          (amount (shows view c.args.new.now) c.args.new_len) (amount (shows view c.args.e.now) c.args.len) c.fold_and_add.ensures.low
-          (exchanged (kept_length view w.sum) (kept_length view v.sum) _ _ _ (c.in_ok-fold_and_add.ensures.sum view k) (i.change view k))
+          (amount (shows view c.args.new.now) c.args.new_len) (amount (shows view c.args.e.now) c.args.len) c.fold_and_exchange.ensures.low
+          (c.in_ok-fold_and_exchange.ensures.exchanges c.args.e.now c.args.new.now c.args.len c.args.new_len i.exchange view k)
           (subst (λ (o : Option ℕ). OwesAt (by_view g.L.Leaf.size g.L.Leaf.element view) s o (amount (shows view c.args.new.now) c.args.new_len)
           (amount (shows view c.args.e.now) c.args.len)) c.in-Some.is (i.owes view k)));
       owes = λ view k. subst (λ (o : Option ℕ). OwesAt (by_view g.L.Leaf.size g.L.Leaf.element view) (with_block s b w) o
           (amount (shows view c.args.new.now) c.args.new_len) (amount (shows view c.args.e.now) c.args.len)) (sym c.parent-stale.ensures)
           (ex_owes g.L.Leaf.size g.L.Leaf.element c.args.floor s c.args._root c.args._apart c.args._short i.tree i.fits b v w c.block_mut.ensures.value
           refl view (subst (λ (o : Option ℕ). SumsBut (by_view g.L.Leaf.size g.L.Leaf.element view) s o) c.in-Some.is (i.sums view k))
-          (amount (shows view c.args.new.now) c.args.new_len) (amount (shows view c.args.e.now) c.args.len) c.fold_and_add.ensures.low
-          (exchanged (kept_length view w.sum) (kept_length view v.sum) _ _ _ (c.in_ok-fold_and_add.ensures.sum view k) (i.change view k))
+          (amount (shows view c.args.new.now) c.args.new_len) (amount (shows view c.args.e.now) c.args.len) c.fold_and_exchange.ensures.low
+          (c.in_ok-fold_and_exchange.ensures.exchanges c.args.e.now c.args.new.now c.args.len c.args.new_len i.exchange view k)
           (subst (λ (o : Option ℕ). OwesAt (by_view g.L.Leaf.size g.L.Leaf.element view) s o (amount (shows view c.args.new.now) c.args.new_len)
           (amount (shows view c.args.e.now) c.args.len)) c.in-Some.is (i.owes view k)));
     }

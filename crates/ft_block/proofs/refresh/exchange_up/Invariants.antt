@@ -2,7 +2,7 @@ use Rattle.std.proofs.Common.{◌≡◌, ◌<◌, ◌^◌, ℕ, Some, IsSome}
 use Rattle.ft_arena.specs.Forest.{block_value}
 use Rattle.ft_partial.specs.Entries.{amount}
 use Rattle.ft_block.specs.declared.leaves.View.{View}
-use Rattle.ft_block.specs.Tree.{shows, IsChange}
+use Rattle.ft_block.specs.Tree.{shows, MakesExchange}
 use Rattle.ft_shape.specs.Tree.{IsPartTree, OwesAt, length_of, total}
 use Rattle.ft_block.specs.Tree.{SumsKeptBut, AreFromFloor, KeepsLengths, by_view, by_size}
 use Rattle.ft_shape.specs.Steps.{SameShape}
@@ -14,8 +14,7 @@ invariant-up g l =
     record {
       tree : IsPartTree l.arena l.fn._root l.fn._apart l.fn._short;
       same : SameShape l.initial.arena l.arena;
-      change : IsChange l.floor l.given l.e l.len l.new l.new_len;
-      change_floor : l.given.table.floor ≡ l.floor;
+      exchange : MakesExchange l.floor l.given l.e l.len l.new l.new_len;
       fits : total (length_of (by_size g.L.Leaf.size) l.arena) l.arena.leaves < 2 ^ 64;
       block : (b : ℕ) → l.stale ≡ Some b → IsSome (block_value l.arena b);
       floors : AreFromFloor l.floor l.arena;
