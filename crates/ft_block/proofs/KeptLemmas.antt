@@ -12,7 +12,7 @@ use Rattle.ft_arena.specs.declared.nodes.Node.{Node}
 use Rattle.ft_arena.specs.declared.nodes.Node.TheVariants.{Leaf, Block}
 use Rattle.ft_arena.specs.Forest.{Forest, Changes, entry, block_value, block_of_entry}
 use Rattle.ft_partial.specs.Entries.{amount}
-use Rattle.ft_partial.specs.Tables.{Lengths, length_at, SameFrom, Exchanges}
+use Rattle.ft_partial.specs.Tables.{length_at, SameFrom, Exchanges}
 use Rattle.ft_shape.specs.declared.headed.Headed.{Headed}
 use Rattle.ft_block.specs.declared.summaries.Summary.{Summary}
 use Rattle.ft_block.specs.declared.leaves.View.{View}

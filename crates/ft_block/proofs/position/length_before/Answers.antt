@@ -1,9 +1,9 @@
-use Rattle.std.proofs.Common.{◌≡◌, ◌+◌, ◌≤◌, ℕ, length, take, refl, ap, sym, ◌∙◌, arith}
+use Rattle.std.proofs.Common.{◌≡◌, ◌≤◌, ℕ, take, refl, ap, sym, ◌∙◌, arith}
 use Rattle.std.proofs.lemmas.List.{take_all}
 use Rattle.std.proofs.lemmas.Option.{slice_get_within}
 use Rattle.ft_arena.specs.Ids.{times}
 use Rattle.ft_arena.specs.Forest.{kids_of, parent_of}
-use Rattle.ft_shape.specs.Tree.{total, length_of, length_of_entry, numbers_before}
+use Rattle.ft_shape.specs.Tree.{total, length_of, length_of_entry}
 use Rattle.ft_block.specs.Tree.{by_view}
 use Rattle.ft_block.proofs.KeptLemmas.{node_from}
 use Rattle.ft_block.proofs.NearerEnd.{before-take, points_few}
