@@ -135,8 +135,8 @@ fn both_attached(tree: &Tree<TextContent>, ends: EndPair<RefId>) -> Option<(u64,
 {
     let start = ends.start?;
     let end = ends.end?;
-    tree.ref_index(start)?;
-    tree.ref_index(end)?;
+    tree.ref_at(start)?;
+    tree.ref_at(end)?;
     Some((start.0 as u64, end.0 as u64))
 }
 

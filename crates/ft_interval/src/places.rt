@@ -26,6 +26,17 @@ impl<'a> Places for ListPlaces<'a> {
             None => -1,
         }
     }
+
+    // A detached end stands before all that are attached.
+    fn is_before(&self, x: u64, y: u64) -> bool {
+        let Some(second) = self.tree.ref_at(RefId(y as usize)) else {
+            return false;
+        };
+        let Some(first) = self.tree.ref_at(RefId(x as usize)) else {
+            return true;
+        };
+        self.tree.is_before(&first, &second)
+    }
 }
 
 /// The numbers of references among the elements that the client sees, -1 where they are detached.
@@ -41,5 +52,9 @@ impl<'a> Places for ShownPlaces<'a> {
 
     fn place(&self, end: u64) -> i64 {
         shown_number(self.tree, RefId(end as usize))
+    }
+
+    fn is_before(&self, x: u64, y: u64) -> bool {
+        self.place(x) < self.place(y)
     }
 }
