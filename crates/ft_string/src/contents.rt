@@ -1,15 +1,15 @@
 //! A segment as contents of leaves, and how they come into a tree: the last one first, each at the same place, so that they
 //! stand side by side in their order.
 
-ghost use Rattle.std.specs.Prelude.{◌≡◌, ◌+◌, ◌*◌, ◌≤◌, ◌++◌, ◌∷◌, ◌<◌, [], string_bytes, true, IfOk, IsTrue, None, OnOk, chars, flat_map, length, map};
+ghost use Rattle.std.specs.Prelude.{◌≡◌, ◌+◌, ◌*◌, ◌≤◌, ◌++◌, ◌∷◌, [], string_bytes, true, IfOk, IsTrue, None, OnOk, chars, drop, flat_map, length, map, take};
+ghost use Rattle.std.specs.Str.{IsCharBoundary};
 ghost use Rattle.ft_base.specs.declared.stamps.Stamp.TheVariants.{Acked, Local};
 ghost use Rattle.ft_base.specs.Scan.{no_run};
 ghost use Rattle.ft_block.specs.declared.leaves.LenView.TheVariants.{At};
 ghost use Rattle.ft_block.specs.Leaves.{last_stage};
 ghost use Rattle.ft_tree_leaves.specs.Elements.{is_pending, new_elements, seen_in};
-ghost use Rattle.ft_tree_leaves.specs.declared.text.TextPiece.TheVariants.{Run};
-ghost use Rattle.ft_tree_leaves.specs.TextLeaves.{new_text, text_author, text_units};
-ghost use Rattle.ft_tree_leaves.specs.TextRuns.{IsTextRun, longest_run};
+ghost use Rattle.ft_tree_leaves.specs.TextLeaves.{text_author, text_units};
+ghost use Rattle.ft_tree_leaves.specs.TextRuns.{longest_run};
 ghost use Rattle.ft_op.specs.Operation.{segment_contents};
 ghost use Rattle.ft_props.specs.Element.{Character};
 ghost use Rattle.ft_props.specs.Properties.{apply, max_safe_integer};
@@ -29,7 +29,7 @@ pub(crate) fn contents_of(alloc: Global, seg: &Seg) -> Result<Vec<TextContent>, 
     ensures one { IfOk result (λ v. length (segment_contents seg.now) ≤ longest_run → length v.items ≤ 1) }
 {
     match seg {
-        Seg::Chars { text } => runs_of(alloc, &characters(alloc, text.as_str())?),
+        Seg::Chars { text } => runs_of(alloc, text.as_str()),
         Seg::Marker { ref_type } => {
             let mut contents = Vec::new(alloc);
             contents.push(TextContent::marker(*ref_type))?;
@@ -46,44 +46,36 @@ pub(crate) fn push_character(run: &mut String, c: char) -> Result<(), OutOfMemor
     Ok(())
 }
 
-// The content of a leaf with these characters.
-fn run_of(alloc: Global, characters: &[char]) -> Result<TextContent, OutOfMemory>
-    requires { IsTextRun characters.now }
-    ensures { IfOk result (λ content. content ≡ new_text (Run characters.now)) }
-{
-    let mut run = String::new(alloc);
-    for c in characters {
-        push_character(&mut run, *c)?;
-    }
-    TextContent::run(alloc, run.as_str())
-}
-
-// How many of so many characters the next run has.
-fn run_length(count: usize) -> usize
-    requires { 1 ≤ count }
-    ensures some { 1 ≤ result }
-    ensures few { result ≤ 256 }
-    ensures within { result ≤ count }
-    ensures full { 256 ≤ count → result ≡ 256 }
-    ensures rest { count < 256 → result ≡ count }
-{
-    if count < 256 { count } else { 256 }
-}
-
 // The characters as runs of as many as a leaf may have, but for the last one.
-fn runs_of(alloc: Global, text: &[char]) -> Result<Vec<TextContent>, OutOfMemory>
-    ensures units { IfOk result (λ v. flat_map text_units v.items ≡ map Character text.now) }
+fn runs_of(alloc: Global, text: &str) -> Result<Vec<TextContent>, OutOfMemory>
+    ensures units { IfOk result (λ v. flat_map text_units v.items ≡ map Character (chars text.now)) }
     ensures new { IfOk result (λ v. are_new v.items ≡ true) }
-    ensures one { IfOk result (λ v. length text.now ≤ longest_run → length v.items ≤ 1) }
+    ensures one { IfOk result (λ v. length (chars text.now) ≤ longest_run → length v.items ≤ 1) }
 {
     let mut contents = Vec::new(alloc);
     let mut rest = text;
     while !rest.is_empty() {
-        let at = run_length(rest.len());
-        contents.push(run_of(alloc, &rest[..at])?)?;
+        let at = run_end(rest);
+        contents.push(TextContent::run(alloc, &rest[..at])?)?;
         rest = &rest[at..];
     }
     Ok(contents)
+}
+
+// How many bytes the first run of a text takes: as many characters as a leaf may have, or all.
+fn run_end(text: &str) -> usize
+    ensures boundary { IsCharBoundary text.now result }
+    ensures front { chars (take result text.now) ≡ take longest_run (chars text.now) }
+    ensures rear { chars (drop result text.now) ≡ drop longest_run (chars text.now) }
+{
+    if text.len() as u64 <= MAX_RUN {
+        return text.len();
+    }
+    let mut rest = text.chars();
+    for _ in 0..MAX_RUN {
+        rest.next();
+    }
+    text.len() - rest.as_str().len()
 }
 
 /// The characters of a text.
