@@ -1,6 +1,6 @@
 //! The references of a tree, and where they go.
 
-ghost use Rattle.std.specs.Prelude.{◌≡◌, ◌≢◌, ℕ, ◌+◌, ◌<◌, Some, None, IsTrue, IfOk, IfErr, IfSome, OnOk, true, false, option_and_then, option_map};
+ghost use Rattle.std.specs.Prelude.{◌≡◌, ◌≢◌, ℕ, ◌+◌, ◌<◌, Some, None, IsTrue, IfOk, IfErr, IfSome, OnOk, true, false, nat_lt, option_and_then, option_map};
 ghost use Rattle.ft_base.specs.Scan.{len};
 ghost use Rattle.ft_block.specs.declared.leaves.LenView.TheVariants.{Stage};
 ghost use Rattle.ft_block.specs.Leaves.{IsFromFloor};
@@ -19,7 +19,9 @@ use ft_refs::{Place, RefId};
 use ft_tree_blocks::settling::settled_on;
 use ft_tree_leaves::Content;
 use ft_tree_leaves::leaves::Standing;
-use ft_tree_steps::{elements_before, seen_before_on, seen_count, seen_offset, settled_number};
+use ft_tree_steps::{
+    elements_before, is_before, seen_before_on, seen_count, seen_offset, settled_number,
+};
 
 impl<C: Content> Tree<C> {
     /// Puts a pending reference on the element that the view sees with `p` seen ones before it.
@@ -70,6 +72,18 @@ impl<C: Content> Tree<C> {
         ensures place { option_map (place_on C.units C.by self.now.leaves) result ≡ reference_place self.now.refs r }
     {
         self.blocks.ref_place(r)
+    }
+
+    /// Whether the first element stands before the second in the whole list. Where they are of two leaves, it goes up from
+    /// both to the nearest block above both, and reads no length.
+    pub fn is_before(&self, first: &Place, second: &Place) -> bool
+        requires usable { IsTrue self.now.usable }
+        requires first { IsOnLeaf C.units self.now.leaves first.now }
+        requires second { IsOnLeaf C.units self.now.leaves second.now }
+        ensures { let leaves = self.now.leaves in
+            result ≡ nat_lt (place_on C.units C.by leaves first.now) (place_on C.units C.by leaves second.now) }
+    {
+        is_before(self.blocks.list(), first, second)
     }
 
     /// The element as it is settled at the stage: the same if the stage sees it, else the next one that it sees, else
