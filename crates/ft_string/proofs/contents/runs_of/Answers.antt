@@ -23,25 +23,27 @@ no_character : (bs : List ℕ) → length bs ≡ 0 → chars bs ≡ []
 no_character [] none = chars-nil
 no_character (b ∷ bs) none = absurd (omega arith)
 
-from_start : (bs : List ℕ) (at : ℕ) → slice_range bs 0 at ≡ take at bs
-from_start bs at = let whole : at - 0 ≡ at = omega arith in ap (λ n. take n bs) whole
+-- the characters of the slice that ends where the run does
+run-characters : (bs run : List ℕ) (at : ℕ) → run ≡ slice_range bs 0 at → chars (take at bs) ≡ take longest_run (chars bs) → chars run ≡ take longest_run (chars bs)
+run-characters bs run at is_run cut = let whole : at - 0 ≡ at = omega arith in ap chars (is_run ∙ ap (λ n. take n bs) whole) ∙ cut
 
 -- one run more, of the first characters ahead
 next-cut : (text cs front rear : List ℕ) (contents new : List TextContent) (x : TextContent) → RunsSoFar text contents cs → 1 ≤ length cs
     → front ≡ take longest_run cs → rear ≡ drop longest_run cs → x ≡ new_text (Run front) → new ≡ contents ++ (x ∷ []) → RunsSoFar text new rear
 next-cut text cs front rear contents new x h some is_front is_rear made pushed =
-    let whole : RunsSoFar text contents (take longest_run cs ++ drop longest_run cs) = subst (λ xs. RunsSoFar text contents xs) (sym (take-append-drop longest_run cs)) h in
+    let parts = sym (take-append-drop longest_run cs) in
+    let whole : RunsSoFar text contents (take longest_run cs ++ drop longest_run cs) = subst (RunsSoFar text contents) parts h in
     let size = length-take longest_run cs in
     let behind = length-drop longest_run cs in
     let next = next-run text (take longest_run cs) (drop longest_run cs) contents whole (omega arith) (omega arith) (λ l. omega arith) in
-    subst (λ xs. RunsSoFar text new xs) (sym is_rear)
-    (subst (λ us. RunsSoFar text us (drop longest_run cs)) (ap (λ ys. contents ++ (new_text (Run ys) ∷ [])) (sym is_front) ∙ ap (λ y. contents ++ (y ∷ [])) (sym made) ∙ sym pushed) next)
+    let run = ap (λ ys. contents ++ (new_text (Run ys) ∷ [])) (sym is_front) ∙ ap (λ y. contents ++ (y ∷ [])) (sym made) ∙ sym pushed in
+    subst (RunsSoFar text new) (sym is_rear) (subst (λ us. RunsSoFar text us (drop longest_run cs)) run next)
 
 pub run-requires : goal.run-requires
 run-requires c =
     let bs = c.loop-rest.rest.now in
     let some = some_character bs c.loop-rest.invariant.0 (search rules) in
-    let front : chars c.range.result.now ≡ take longest_run (chars bs) = ap chars (c.range.ensures.value ∙ from_start bs c.run_end-at.result) ∙ c.run_end-at.ensures.front in
+    let front = run-characters bs c.range.result.now c.run_end-at.result c.range.ensures.value c.run_end-at.ensures.front in
     let size = length-take longest_run (chars bs) in
     let same = ap length front in
     (omega arith, omega arith)
@@ -60,7 +62,7 @@ pub loop-rest-preserved : goal.loop-rest-preserved
 loop-rest-preserved c =
     let bs = c.loop-rest.rest.now in
     let some = some_character bs c.loop-rest.invariant.0 (search rules) in
-    let front : chars c.range.result.now ≡ take longest_run (chars bs) = ap chars (c.range.ensures.value ∙ from_start bs c.run_end-at.result) ∙ c.run_end-at.ensures.front in
+    let front = run-characters bs c.range.result.now c.run_end-at.result c.range.ensures.value c.run_end-at.ensures.front in
     let rear : chars c.range_from-rest.result.now ≡ drop longest_run (chars bs) = ap chars c.range_from-rest.ensures.value ∙ c.run_end-at.ensures.rear in (
       c.range_from-rest.utf8,
       next-cut (chars c.args.text.now) (chars bs) (chars c.range.result.now) (chars c.range_from-rest.result.now) c.loop-rest.contents.items c.push.new.self.items
