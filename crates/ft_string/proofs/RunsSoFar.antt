@@ -1,9 +1,7 @@
 -- A text cut into runs, from the front.
-use Rattle.std.proofs.Common.{◌≡◌, ℕ, ◌+◌, ◌-◌, ◌*◌, ◌≤◌, ◌<◌, Bool, true, false, nat_lt, is_none, List, [], ◌∷◌, ◌++◌, flat_map, map, length, take, drop, refl, sym, ◌∙◌, ap, subst, arith, append_assoc, append-nil, length-append, length-take, length-drop}
+use Rattle.std.proofs.Common.{◌≡◌, ℕ, ◌+◌, ◌*◌, ◌≤◌, true, is_none, List, [], ◌∷◌, ◌++◌, flat_map, map, length, refl, sym, ◌∙◌, ap, arith, append_assoc, append-nil, length-append}
 use Rattle.std.proofs.lemmas.Grind.{flat_map-append}
 use Rattle.std.proofs.lemmas.List.{map-append}
-use Rattle.std.proofs.lemmas.List.{take-append-drop}
-use Rattle.std.proofs.lemmas.Bool.Decides.{nat_tests}
 use Rattle.ft_base.proofs.Booleans.{both}
 use Rattle.ft_tree_leaves.specs.declared.text.TextContent.{TextContent}
 use Rattle.ft_tree_leaves.specs.declared.text.TextPiece.TheVariants.{Run}
@@ -37,33 +35,3 @@ next-run text front rest contents h some small whole =
       full = λ l. (let size = whole l in omega arith);
       few = omega arith;
     }
-
-take_of_length-le : (k : ℕ) (xs : List ℕ) → length xs ≤ k → take k xs ≡ xs
-take_of_length-le k xs l = step (take-append-drop k xs) (nothing (drop k xs) (omega (arith, length-drop k xs)))
-  where
-    nothing : (ys : List ℕ) → length ys ≡ 0 → ys ≡ []
-    nothing [] h = refl
-    nothing (y ∷ ys) h = absurd (omega arith)
-
-    step : take k xs ++ drop k xs ≡ xs → drop k xs ≡ [] → take k xs ≡ xs
-    step h g = sym (append-nil (take k xs)) ∙ ap (λ ys. take k xs ++ ys) (sym g) ∙ h
-
-long-if : (n at : ℕ) → at < n → (n < 256 → at ≡ n) → 256 ≤ n
-long-if n at l short = step (nat_lt n 256) refl
-  where
-    step : (b : Bool) → nat_lt n 256 ≡ b → 256 ≤ n
-    step true h = let few : n < 256 = grind (arith, nat_tests) in let e = short few in absurd (omega arith)
-    step false h = grind (arith, nat_tests)
-
--- the same where the run and what is left are told by slices
-pub next-of : (text rest : List ℕ) (contents new : List TextContent) (n at k : ℕ) (x : TextContent) → RunsSoFar text contents rest
-    → length rest ≡ n → 1 ≤ at → at ≤ 256 → at ≤ n → (n < 256 → at ≡ n) → (256 ≤ n → at ≡ 256) → new ≡ contents ++ (x ∷ []) → x ≡ new_text (Run (take at rest)) → k ≡ n - at
-    → RunsSoFar text new (take k (drop at rest))
-next-of text rest contents new n at k x h len some small within short fullest pushed made left =
-    let parts : take at rest ++ drop at rest ≡ rest = take-append-drop at rest in
-    let front : length (take at rest) ≡ at = omega (arith, length-take at rest) in
-    let behind : length (drop at rest) ≡ n - at = omega (arith, length-drop at rest) in
-    let whole : RunsSoFar text contents (take at rest ++ drop at rest) = subst (λ xs. RunsSoFar text contents xs) (sym parts) h in
-    let next = next-run text (take at rest) (drop at rest) contents whole (omega arith) (omega arith) (λ l. (let long : 256 ≤ n = long-if n at (omega arith) short in let e = fullest long in omega arith)) in
-    subst (λ xs. RunsSoFar text new xs) (sym (take_of_length-le k (drop at rest) (omega arith)))
-    (subst (λ us. RunsSoFar text us (drop at rest)) (ap (λ y. contents ++ (y ∷ [])) (sym made) ∙ sym pushed) next)
