@@ -10,7 +10,7 @@ use Rattle.ft_interval_store.specs.declared.intervals.Interval.{Interval}
 use Rattle.ft_interval_store.specs.declared.pending.Operation.{Operation}
 use Rattle.ft_interval_store.specs.Ends.{References, map_ends, places_of_ends, slid_end}
 use Rattle.ft_interval_store.specs.Intervals.{NamesRise, after_operation}
-use Rattle.ft_interval_store.specs.State.{AreOwnEnds, CollectionsState, IsAfter, IsAfterFirst, IsLive, KeepsReferences, ends_of_name, first_operation, placed, placed_intervals, text_elements, with_effect, with_first_acked}
+use Rattle.ft_interval_store.specs.State.{AreOwnEnds, CollectionsState, IsAfter, IsAfterFirst, IsFirst, IsLive, KeepsReferences, ends_of_name, first_operation, placed, placed_intervals, text_elements, with_effect, with_first_acked}
 use Rattle.ft_interval.specs.declared.indexes.LabelIndex.{LabelIndex}
 use Rattle.ft_interval.specs.Indexes.{AreEndsWithin, AreListed, ends_but}
 use Rattle.ft_interval.proofs.Listed.{some-is}
@@ -105,3 +105,9 @@ takes-first op g before after c d h a e = takes-of op g before after c.acked d c
 -- it is one alone
 pub same-first : (ts : List Operation) (a b : TextOp) → first_operation ts ≡ Some a → first_operation ts ≡ Some b → a ≡ b
 same-first ts a b p q = some-is (sym p ∙ q)
+
+-- where one is first there is one
+pub first-there : (k : ℕ) (acked : List (Interval ℕ)) (ts : List Operation) → first_operation ts ≡ None
+    → (let c : CollectionsState = record { acked = acked; pending = ts } in IsFirst k c) → ⊥
+first-there k acked [] none first = first
+first-there k acked (t ∷ ts) none first = absurd cc

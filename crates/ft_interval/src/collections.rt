@@ -208,8 +208,7 @@ impl Collections {
         // That names rise is read off its contract.
         let _first = self.store.first_stage();
         let Some(op) = self.store.first_operation() else {
-            tree.spoil();
-            return Err(OutOfMemory);
+            unreachable!();
         };
         let _had = unlist_changed(&mut self.indexes, &self.store, tree, op);
         let acked = self.store.ack(tree, stage)?;

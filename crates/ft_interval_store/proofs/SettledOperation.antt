@@ -4,6 +4,7 @@ use Rattle.std.specs.List.{list_any, position, position_or_len}
 use Rattle.std.proofs.lemmas.List.{drop_more, get_or_read, set_split, take-append-drop}
 use Rattle.std.proofs.lemmas.Bool.Decides.{nat_tests}
 use Rattle.std.proofs.lemmas.Grind.{flat_map-append}
+use Rattle.std.proofs.lemmas.Option.{none-some}
 use Rattle.ft_base.specs.Scan.{len}
 use Rattle.ft_tree_leaves.proofs.Runs.{len-append}
 use Rattle.ft_tree_leaves.specs.declared.references.Reference.{Reference}
@@ -287,6 +288,23 @@ place-at k i ts d h = by (nat_lt (position_or_len (is_at_stage k) ts) (length ts
 pub place-within : (k i : ℕ) (ts : List Operation) → position (is_at_stage k) ts ≡ Some i → i < length ts
 place-within k i [] h = absurd cc
 place-within k i (t ∷ ts) h = (place-at k i (t ∷ ts) t h).0
+
+-- where the stage has an operation, it has a place
+some-within : (k : ℕ) (ts : List Operation) → IsSome (operation_at k ts) → position_or_len (is_at_stage k) ts < length ts
+some-within k [] h = absurd cc
+some-within k (t ∷ ts) h = by (nat_eq t.stage k) h (some-within k ts)
+  where
+    by : (b : Bool) → IsSome (cond b (Some t) (operation_at k ts))
+        → (IsSome (operation_at k ts) → position_or_len (is_at_stage k) ts < length ts) → cond (not b) (1 + position_or_len (is_at_stage k) ts) 0 < length (t ∷ ts)
+    by true h f = omega arith
+    by false h f = (let l = f h in omega (arith, l))
+
+pub some-place : (k : ℕ) (ts : List Operation) → position (is_at_stage k) ts ≡ None → IsSome (operation_at k ts) → ⊥
+some-place k ts none some =
+    let l = some-within k ts some in
+    let yes : nat_lt (position_or_len (is_at_stage k) ts) (length ts) ≡ true = grind (arith, nat_tests) in
+    let found = ap (λ b. cond b (Some (position_or_len (is_at_stage k) ts)) None) yes in
+    none-some (position_or_len (is_at_stage k) ts) (sym none ∙ found)
 
 -- a list around one place
 pub around : (ts : List Operation) (i : ℕ) (d : Operation) → i < length ts → ts ≡ take i ts ++ get_or ts i d ∷ drop (i + 1) ts

@@ -339,8 +339,7 @@ impl Store {
         ensures err { OnErr result (tree.new.usable ≡ false) }
     {
         let Some(i) = place_of_stage(&self.pending, stage) else {
-            tree.spoil();
-            return Err(OutOfMemory);
+            unreachable!();
         };
         let numbers = settled_numbers(tree, self.pending[i].ends, stage);
         let Ok(op) = with_numbers(&self.pending[i].op, numbers) else {

@@ -4,8 +4,13 @@ use Rattle.ft_op.specs.declared.operations.TextOp.{TextOp}
 use Rattle.ft_interval_store.specs.Ends.{map_ends, slid_end}
 use Rattle.ft_interval_store.specs.State.{IsFirst, KeepsReferences, placed, text_elements, with_first_acked}
 use Rattle.ft_interval.specs.Indexes.{AreListed, IndexedState, StandsOn, ends_but}
-use Rattle.ft_interval.proofs.Effects.{out-after, same-first, takes-first, within-after}
+use Rattle.ft_interval.proofs.Effects.{first-there, out-after, same-first, takes-first, within-after}
 use Rattle.ft_interval.proofs.collections.Collections.ack.Goals as goal
+
+pub unreachable-requires : goal.unreachable-requires
+unreachable-requires c =
+    first-there c.args.stage c.self.inside.store.acked c.self.inside.store.pending (sym c.first_operation.ensures ∙ ap option_copied c.in_default.is)
+    (subst (λ (x : IndexedState). IsFirst c.args.stage x.state) (sym c.self.view_is) c.requires.first)
 
 pub unlist_changed-had-requires-clause-live : goal.unlist_changed-had-requires-clause-live
 unlist_changed-had-requires-clause-live c = (subst (λ (x : IndexedState). StandsOn c.args.tree.now x) (sym c.self.view_is) c.requires.stands).live

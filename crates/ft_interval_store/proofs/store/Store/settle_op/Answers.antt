@@ -1,4 +1,4 @@
-use Rattle.std.proofs.Common.{ℕ, refl, cond, None, get_or, set, List, Some, option_map, sym, ◌∙◌, ap, subst, arith}
+use Rattle.std.proofs.Common.{ℕ, refl, cond, None, IsSome, get_or, set, List, Some, option_map, sym, ◌∙◌, ap, subst, arith}
 use Rattle.std.specs.List.{position}
 use Rattle.ft_tree_leaves.specs.References.{reference_at}
 use Rattle.ft_op.specs.declared.operations.TextOp.{TextOp}
@@ -6,9 +6,15 @@ use Rattle.ft_interval_store.specs.declared.pending.Operation.{Operation}
 use Rattle.ft_interval_store.specs.Ends.{AreDistinctEnds, AreLiveEnds, holds_end, map_ends, places_of_ends}
 use Rattle.ft_interval_store.specs.Numbers.{AreNumbers}
 use Rattle.ft_interval_store.specs.Shown.{regenerated, settled_end}
-use Rattle.ft_interval_store.specs.State.{CollectionsState, IsInOrder, KeepsReferences, is_at_stage, placed, text_elements}
-use Rattle.ft_interval_store.proofs.SettledOperation.{StandsPending, place-within, settle-distinct, settle-in_order, settle-live, settle-live-mid, settle-operation, settle-own, settle-places, settle-references}
+use Rattle.ft_interval_store.specs.State.{CollectionsState, IsInOrder, KeepsReferences, is_at_stage, operation_at, placed, text_elements}
+use Rattle.ft_interval_store.proofs.SettledOperation.{StandsPending, place-within, settle-distinct, settle-in_order, settle-live, settle-live-mid, settle-operation, settle-own, settle-places, settle-references, some-place}
 use Rattle.ft_interval_store.proofs.store.Store.settle_op.Goals as goal
+
+pub unreachable-requires : goal.unreachable-requires
+unreachable-requires c =
+    let none = ap (λ (us : List Operation). position (is_at_stage c.args.stage) us) (sym c.deref.ensures.value) ∙ sym c.place_of_stage.ensures ∙ c.in_default.is in
+    some-place c.args.stage c.self.inside.pending.items none
+    (subst (λ (x : CollectionsState). IsSome (operation_at c.args.stage x.pending)) (sym c.self.view_is) c.requires.pending)
 
 pub index-requires : goal.index-requires
 index-requires c =
