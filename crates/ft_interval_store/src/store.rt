@@ -57,9 +57,9 @@ impl Model for Store {
     ghost invariant = { λ a. IsInOrder (record { acked = a.acked; pending = a.pending.items }) };
 }
 
-/// An operation that was acknowledged.
+/// An operation that was acknowledged, with the ends of its interval.
 #[derive(Drop)]
-pub struct Acked {
+pub struct AckedOperation {
     pub op: TextOp,
     /// The ends that its interval has now, none where it isn't there.
     pub ends: EndPair<RefId>,
@@ -188,7 +188,11 @@ impl Store {
     /// its ends slide. It returns the operation, with the ends of its interval.
     ///
     /// Returns `OutOfMemory` where there is no room, and then tree and collections may be used no more.
-    pub fn ack(&mut self, tree: &mut Tree<TextContent>, stage: u64) -> Result<Acked, OutOfMemory>
+    pub fn ack(
+        &mut self,
+        tree: &mut Tree<TextContent>,
+        stage: u64,
+    ) -> Result<AckedOperation, OutOfMemory>
         requires usable { IsTrue tree.old.usable }
         requires live { IsLive tree.old.refs self.old }
         requires first { IsFirst stage self.old }
@@ -203,7 +207,7 @@ impl Store {
     {
         let t = self.pending.remove(0);
         let ends = take_effect(&mut self.acked, tree, &t.op, &t.ends)?;
-        Ok(Acked { op: t.op, ends })
+        Ok(AckedOperation { op: t.op, ends })
     }
 
     /// The stage of the first pending operation: None exactly where nothing is pending.
