@@ -67,18 +67,21 @@ pub struct Interval<T> {
     pub props: Props,
 }
 
-// The order of two names: by label, then by id.
+// The order of two names: by label, then by id, which is read only where the labels are the same.
 fn name_order(label: &Text, id: &Text, other_label: &Text, other_id: &Text) -> Ordering
     ensures { result ≡ name_cmp (label.now, id.now) (other_label.now, other_id.now) }
 {
-    compare(label.as_str(), other_label.as_str()).then(compare(id.as_str(), other_id.as_str()))
+    match compare(label.as_str(), other_label.as_str()) {
+        Ordering::Equal => compare(id.as_str(), other_id.as_str()),
+        unequal => unequal,
+    }
 }
 
-/// Whether two names are the same.
+/// Whether two names are the same. Ids differ more often than labels, so they are compared first.
 pub fn is_same_name(label: &Text, id: &Text, other_label: &Text, other_id: &Text) -> bool
     ensures { result ≡ is_eq (name_cmp (label.now, id.now) (other_label.now, other_id.now)) }
 {
-    name_order(label, id, other_label, other_id).is_eq()
+    id.same(other_id) && label.same(other_label)
 }
 
 impl<T: Copy> Held<T> {
