@@ -179,10 +179,11 @@ impl Collections {
     {
         // That names rise is read off its contract.
         let _first = self.store.first_stage();
-        let had = unlist_changed(&mut self.indexes, &self.store, tree, op);
-        let now = self.store.apply(tree, op, at)?;
+        let found = self.store.find(op);
+        unlist_changed(&mut self.indexes, &self.store, tree, op, found.ends);
+        let now = self.store.apply(tree, op, at, &found)?;
         let fits = now.is_some();
-        let ends = now.unwrap_or(had);
+        let ends = now.unwrap_or(found.ends);
         let Ok(()) = enlist_changed(&mut self.indexes, &self.store, tree, op, ends) else {
             tree.spoil();
             return Err(OutOfMemory);
@@ -210,8 +211,9 @@ impl Collections {
         let Some(op) = self.store.first_operation() else {
             unreachable!();
         };
-        let _had = unlist_changed(&mut self.indexes, &self.store, tree, op);
-        let acked = self.store.ack(tree, stage)?;
+        let found = self.store.find(op);
+        unlist_changed(&mut self.indexes, &self.store, tree, op, found.ends);
+        let acked = self.store.ack(tree, stage, &found)?;
         let Ok(()) = enlist_changed(&mut self.indexes, &self.store, tree, &acked.op, acked.ends)
         else {
             tree.spoil();

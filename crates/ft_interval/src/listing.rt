@@ -1,6 +1,7 @@
 //! The indexes beside an operation on an interval, which is out of them while that takes effect.
 
 ghost use Rattle.std.specs.Prelude.{◌≡◌, ℕ, IsTrue, OnOk, length};
+ghost use Rattle.ft_props.specs.Keys.{Characters};
 ghost use Rattle.ft_interval.specs.Indexes.{AreEndsWithin, AreListed, AreNamedEndsWithin, ends_but, ends_without};
 ghost use Rattle.ft_interval_store.specs.State.{AreOwnEnds, IsLive, ends_of_name, text_elements};
 
@@ -12,26 +13,24 @@ use ft_op::TextOp;
 use ft_refs::RefId;
 use ft_tree::{TextContent, Tree};
 
-// Takes the interval of that label and id out of the index of its label, and returns its ends.
+// Takes the interval of that label which has these ends out of the index of the label.
 fn unlist_named(
     indexes: &mut Vec<LabelIndex>,
     store: &Store,
     tree: &Tree<TextContent>,
     label: &Text,
-    id: &Text,
-) -> EndPair<RefId>
+    ends: EndPair<RefId>,
+)
     requires usable { IsTrue tree.now.usable }
     requires live { IsLive tree.now.refs store.now }
     requires listed { AreListed (length (text_elements tree.now)) tree.now.refs (λ n. ends_of_name n store.now.acked) indexes.old.items }
-    ensures listed { AreListed (length (text_elements tree.now)) tree.now.refs (ends_without (label.now, id.now) store.now.acked) indexes.new.items }
-    ensures ends { result ≡ ends_of_name (label.now, id.now) store.now.acked }
+    ensures { (id : Characters) → ends ≡ ends_of_name (label.now, id) store.now.acked
+        → AreListed (length (text_elements tree.now)) tree.now.refs (ends_without (label.now, id) store.now.acked) indexes.new.items }
 {
     // That no end is kept twice, and that there are few elements, is read off their contracts.
     let _first = store.first_stage();
     let _made = tree.made();
-    let ends = store.ends(label, id);
     unlist(indexes, tree, label, &ends);
-    ends
 }
 
 // Puts the interval of that label and id, which has these ends, into the index of its label, if both are attached.
@@ -55,25 +54,26 @@ fn enlist_named(
     enlist(indexes, tree, label, id, ends)
 }
 
-/// Takes the interval that the operation is on out of the index of its label, and returns its ends, none where it isn't there.
+/// Takes the interval that the operation is on, which has these ends, out of the index of its label.
 pub fn unlist_changed(
     indexes: &mut Vec<LabelIndex>,
     store: &Store,
     tree: &Tree<TextContent>,
     op: &TextOp,
-) -> EndPair<RefId>
+    ends: EndPair<RefId>,
+)
     requires usable { IsTrue tree.now.usable }
     requires live { IsLive tree.now.refs store.now }
     requires listed { AreListed (length (text_elements tree.now)) tree.now.refs (λ n. ends_of_name n store.now.acked) indexes.old.items }
-    ensures listed { AreListed (length (text_elements tree.now)) tree.now.refs (ends_but op.now store.now.acked) indexes.new.items }
-    ensures ends { AreOwnEnds op.now store.now.acked result }
+    requires ends { AreOwnEnds op.now store.now.acked ends }
+    ensures { AreListed (length (text_elements tree.now)) tree.now.refs (ends_but op.now store.now.acked) indexes.new.items }
 {
     match op {
-        TextOp::IntervalAdd { label, id, .. } => unlist_named(indexes, store, tree, label, id),
-        TextOp::IntervalChange { label, id, .. } => unlist_named(indexes, store, tree, label, id),
-        TextOp::IntervalDelete { label, id } => unlist_named(indexes, store, tree, label, id),
-        TextOp::One(_) => EndPair::none(),
-        TextOp::Group(_) => EndPair::none(),
+        TextOp::IntervalAdd { label, .. } => unlist_named(indexes, store, tree, label, ends),
+        TextOp::IntervalChange { label, .. } => unlist_named(indexes, store, tree, label, ends),
+        TextOp::IntervalDelete { label, .. } => unlist_named(indexes, store, tree, label, ends),
+        TextOp::One(_) => {}
+        TextOp::Group(_) => {}
     }
 }
 

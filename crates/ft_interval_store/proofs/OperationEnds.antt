@@ -1,24 +1,48 @@
--- Which ends an operation leaves to its interval, and which to none, where that is there or not.
-use Rattle.std.proofs.Common.{◌≡◌, true, cond, is_some, List, Option, Some, None, Result, Ok, Err, refl, sym, ◌∙◌, ap}
+-- Where the interval of an operation stands; and which ends that leaves to it, and which to none, where it is there or not.
+use Rattle.std.proofs.Common.{◌≡◌, ℕ, ◌<◌, true, cond, is_some, length, get_or, List, Option, Some, None, Result, Ok, Err, refl, sym, ◌∙◌, ap}
 use Rattle.std.specs.Prelude.{IfOk, OnOk}
 use Rattle.ft_op.specs.declared.operations.Ends.{Ends}
 use Rattle.ft_op.specs.declared.operations.TextOp.{TextOp}
-use Rattle.ft_op.specs.declared.operations.TextOp.TheVariants.{IntervalAdd, IntervalChange, IntervalDelete}
+use Rattle.ft_op.specs.declared.operations.TextOp.TheVariants.{Group, One, IntervalAdd, IntervalChange, IntervalDelete}
 use Rattle.ft_props.specs.Keys.{Characters}
 use Rattle.ft_props.specs.Properties.{PropertySet}
 use Rattle.ft_interval_store.specs.declared.intervals.EndPair.{EndPair}
 use Rattle.ft_interval_store.specs.declared.intervals.EndsAfter.{EndsAfter}
 use Rattle.ft_interval_store.specs.declared.intervals.Interval.{Interval}
 use Rattle.ft_interval_store.specs.Ends.{no_ends}
-use Rattle.ft_interval_store.specs.Intervals.{Name, NamesRise, after_operation, after_own, interval_of, is_on}
-use Rattle.ft_interval_store.specs.State.{IsEndsAfter, ends_changed, ends_missing, ends_of_name, lost_ends, unused_ends}
+use Rattle.ft_interval_store.specs.Intervals.{Name, NamesRise, after_operation, after_own, interval_of, is_on, place_of_name, place_of_operation}
+use Rattle.ft_interval_store.specs.State.{AreOwnEnds, IsEndsAfter, ends_changed, ends_missing, ends_of_name, lost_ends, unused_ends}
 use Rattle.ft_interval_store.proofs.OneInterval.{interval_of-after, same_name}
+use Rattle.ft_interval_store.proofs.RisingNames.{found-in_range, interval_of-found, interval_of-missing}
 
 module _ {T : Type 0} where
   abbrev pub ends_in : Option (Interval T) → EndPair T
   ends_in o = elim o as (λ _. EndPair T) [ None ↦ no_ends | Some i ↦ i.ends ]
 
-  -- an operation on the interval of one name
+  -- ---- where it stands
+
+  pub operation-in_range : (op : TextOp) (i : ℕ) (is : List (Interval T)) → place_of_operation op is ≡ Ok i → i < length is
+  operation-in_range (IntervalAdd label id given props) i is h = found-in_range (label, id) i is h
+  operation-in_range (IntervalChange label id given props) i is h = found-in_range (label, id) i is h
+  operation-in_range (IntervalDelete label id) i is h = found-in_range (label, id) i is h
+  operation-in_range (One op) i is h = absurd cc
+  operation-in_range (Group ops) i is h = absurd cc
+
+  own-place : (op : TextOp) (n : Name) (is : List (Interval T)) → is_on n op ≡ true → place_of_name n is ≡ place_of_operation op is
+  own-place (IntervalAdd label id given props) n is on = ap (λ (m : Name). place_of_name m is) (same_name n (label, id) on)
+  own-place (IntervalChange label id given props) n is on = ap (λ (m : Name). place_of_name m is) (same_name n (label, id) on)
+  own-place (IntervalDelete label id) n is on = ap (λ (m : Name). place_of_name m is) (same_name n (label, id) on)
+  own-place (One op) n is on = absurd cc
+  own-place (Group ops) n is on = absurd cc
+
+  pub own-found : (op : TextOp) (i : ℕ) (d : Interval T) (is : List (Interval T)) → place_of_operation op is ≡ Ok i → AreOwnEnds op is (get_or is i d).ends
+  own-found op i d is h n on = sym (ap ends_in (interval_of-found n i d is (own-place op n is on ∙ h)))
+
+  pub own-missing : (op : TextOp) (i : ℕ) (is : List (Interval T)) → place_of_operation op is ≡ Err i → AreOwnEnds op is no_ends
+  own-missing op i is h n on = sym (ap ends_in (interval_of-missing n i is (own-place op n is on ∙ h)))
+
+  -- ---- an operation on the interval of one name
+
   module _ (op : TextOp) (ends : EndPair T) (is new : List (Interval T)) (rise : NamesRise is) (e : new ≡ after_operation op ends is)
       (m : Name) (on : (n : Name) → is_on n op ≡ true → n ≡ m) where
     own-ends : (n : Name) → is_on n op ≡ true → ends_of_name n new ≡ ends_in (after_own op ends (interval_of m is))

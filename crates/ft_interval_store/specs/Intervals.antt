@@ -58,6 +58,13 @@ module _ {T : Type 0} where
   place_of_name n [] = Err 0
   place_of_name n (i ∷ is) = elim (name_cmp n (name_of i)) [ Less ↦ Err 0 | Equal ↦ Ok 0 | Greater ↦ next_place (place_of_name n is) ]
 
+  -- the place of the name that an operation is on, in the same way; 0 where the operation isn't about an interval
+  abbrev pub place_of_operation : TextOp → List (Interval T) → Result ℕ ℕ
+  place_of_operation (IntervalAdd label id ends props) is = place_of_name (label, id) is
+  place_of_operation (IntervalChange label id ends props) is = place_of_name (label, id) is
+  place_of_operation (IntervalDelete label id) is = place_of_name (label, id) is
+  place_of_operation _ is = Err 0
+
   -- the interval of that name, if it is there
   abbrev pub interval_of : Name → List (Interval T) → Option (Interval T)
   interval_of n [] = None

@@ -2,38 +2,31 @@
 
 ghost use Rattle.std.specs.Prelude.{◌≡◌, IsTrue, IfOk, OnErr, OnOk, false};
 ghost use Rattle.ft_interval_store.specs.Ends.{map_ends, places_of_ends, slid_end};
-ghost use Rattle.ft_interval_store.specs.Intervals.{after_operation};
-ghost use Rattle.ft_interval_store.specs.State.{AreKeptOnce, AreOwnEnds, HandsOn, ends_of_name, placed_intervals, text_elements};
+ghost use Rattle.ft_interval_store.specs.Intervals.{after_operation, place_of_operation};
+ghost use Rattle.ft_interval_store.specs.State.{AreKeptOnce, AreOwnEnds, HandsOn, placed_intervals, text_elements};
 
 use crate::ends::{drop_ends, settle_ends};
 use crate::intervals::{EndPair, Intervals};
-use ft_base::{OutOfMemory, Text};
+use ft_base::OutOfMemory;
 use ft_op::TextOp;
 use ft_refs::RefId;
 use ft_tree::{TextContent, Tree};
 
-/// The ends of the interval of that label and id, none where it isn't there.
-pub fn ends_of(intervals: &Intervals<RefId>, label: &Text, id: &Text) -> EndPair<RefId>
-    ensures { result ≡ ends_of_name (label.now, id.now) intervals.now }
-{
-    match intervals.get(label, id) {
-        Some(interval) => interval.ends,
-        None => EndPair::none(),
-    }
-}
-
-/// Applies an operation with these ends to the acknowledged intervals. The references become acknowledged and slide, and
-/// those that no interval keeps any more end. It returns the ends of the operation's interval, none where it isn't there.
+/// Applies an operation with these ends, whose interval was found at that place, to the acknowledged intervals. The references
+/// become acknowledged and slide, and those that no interval keeps any more end. It returns the ends of the operation's
+/// interval, none where it isn't there.
 ///
 /// Returns `OutOfMemory` where there is no room for what it makes, and then the intervals are as they were, and the tree
 /// may be used no more.
 pub fn take_effect(
     intervals: &mut Intervals<RefId>,
     tree: &mut Tree<TextContent>,
+    place: Result<usize, usize>,
     op: &TextOp,
     ends: &EndPair<RefId>,
 ) -> Result<EndPair<RefId>, OutOfMemory>
     requires usable { IsTrue tree.old.usable }
+    requires place { place ≡ place_of_operation op.now intervals.old }
     requires kept { AreKeptOnce tree.old.refs ends.now intervals.old }
     ensures placed { let xs = text_elements tree.old in
         let places = map_ends (slid_end xs) (places_of_ends tree.old.refs ends.now) in
@@ -45,7 +38,7 @@ pub fn take_effect(
     ensures err { OnErr result (intervals.new ≡ intervals.old) }
     ensures unusable { OnErr result (tree.new.usable ≡ false) }
 {
-    match intervals.apply(op, *ends) {
+    match intervals.apply(place, op, *ends) {
         Ok(after) => {
             settle_ends(tree, *ends);
             drop_ends(tree, after.unused);

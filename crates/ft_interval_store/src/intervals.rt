@@ -4,8 +4,8 @@ ghost use Rattle.std.specs.Prelude.{◌≡◌, [], IfOk, OnOk, OnErr, option_cop
 ghost use Rattle.std.specs.Ordering.{is_eq};
 ghost use Rattle.ft_props.specs.Keys.{put_rising};
 ghost use Rattle.ft_interval_store.specs.Ends.{no_ends};
-ghost use Rattle.ft_interval_store.specs.Intervals.{added_interval, after_operation, changed_interval, interval_cmp, interval_of, name_cmp, name_of, place_of_name, with_changed, without_name};
-ghost use Rattle.ft_interval_store.specs.State.{IsEndsAfter, ends_changed, ends_missing};
+ghost use Rattle.ft_interval_store.specs.Intervals.{Name, added_interval, after_operation, changed_interval, interval_cmp, interval_of, name_cmp, name_of, place_of_name, place_of_operation, with_changed, without_name};
+ghost use Rattle.ft_interval_store.specs.State.{AreOwnEnds, IsEndsAfter, ends_changed, ends_missing};
 
 use ft_base::{Datum, OutOfMemory, Text};
 use ft_op::{Ends, TextOp};
@@ -179,6 +179,15 @@ impl<T> Held<T> {
     }
 }
 
+/// Where the interval that an operation is on was found, so that it is searched for only once.
+#[derive(Clone, Copy)]
+pub struct Found<T> {
+    // Its place, or else, as an error, the place where it would stand.
+    pub(crate) place: Result<usize, usize>,
+    /// Its ends, none where it isn't there.
+    pub ends: EndPair<T>,
+}
+
 // The interval that an operation adds, on the heap.
 //
 // Returns `OutOfMemory` where there is no room for it.
@@ -251,6 +260,35 @@ impl<T: Copy + Drop> Intervals<T> {
             .binary_search_by(|i| name_order(&i.get().label, &i.get().id, label, id))
     }
 
+    // The same of the interval that an operation is on.
+    fn place_of(&self, op: &TextOp) -> Result<usize, usize>
+        ensures { result ≡ place_of_operation op.now self.now }
+    {
+        match op {
+            TextOp::IntervalAdd { label, id, .. } => self.search(label, id),
+            TextOp::IntervalChange { label, id, .. } => self.search(label, id),
+            TextOp::IntervalDelete { label, id } => self.search(label, id),
+            TextOp::One(_) | TextOp::Group(_) => Err(0),
+        }
+    }
+
+    /// Where the interval that an operation is on stands, and its ends.
+    pub fn find(&self, op: &TextOp) -> Found<T>
+        ensures place { result.place ≡ place_of_operation op.now self.now }
+        ensures ends { AreOwnEnds op.now self.now result.ends }
+    {
+        match self.place_of(op) {
+            Ok(i) => Found {
+                place: Ok(i),
+                ends: self.items[i].ends(),
+            },
+            Err(i) => Found {
+                place: Err(i),
+                ends: EndPair::none(),
+            },
+        }
+    }
+
     /// The interval of that label and id: None exactly where it isn't there.
     pub fn get(&self, label: &Text, id: &Text) -> Option<&Interval<T>>
         ensures { option_copied result ≡ interval_of (label.now, id.now) self.now }
@@ -291,16 +329,18 @@ impl<T: Copy + Drop> Intervals<T> {
     // Returns `OutOfMemory` where there is no room for it, and then nothing changed.
     fn add(
         &mut self,
+        place: Result<usize, usize>,
         label: &Text,
         id: &Text,
         ends: EndPair<T>,
         props: &PropSet,
     ) -> Result<EndsAfter<T>, OutOfMemory>
+        requires place { place ≡ place_of_name (label.now, id.now) self.old }
         ensures ok { (given : Ends) → OnOk result (self.new ≡ after_operation (TextOp.IntervalAdd label.now id.now given props.now) ends self.old) }
         ensures ends { (given : Ends) → IfOk result (IsEndsAfter (TextOp.IntervalAdd label.now id.now given props.now) ends self.old self.new) }
         ensures err { OnErr result (self.new ≡ self.old) }
     {
-        match self.search(label, id) {
+        match place {
             Ok(i) => Ok(EndsAfter {
                 kept: self.items[i].ends(),
                 unused: ends,
@@ -318,49 +358,61 @@ impl<T: Copy + Drop> Intervals<T> {
         }
     }
 
-    // Gives the interval of that name, if it is there, the ends, if an operation gives some, and applies the set to
+    // Gives the interval at that place, if it is there, the ends, if an operation gives some, and applies the set to
     // its properties.
     //
     // Returns `OutOfMemory` where there is no room for its properties, and then nothing changed.
     fn change(
         &mut self,
-        label: &Text,
-        id: &Text,
+        place: Result<usize, usize>,
         given: Option<Ends>,
         ends: EndPair<T>,
         props: &PropSet,
     ) -> Result<EndsAfter<T>, OutOfMemory>
-        ensures ok { OnOk result (self.new ≡ with_changed (label.now, id.now) (changed_interval given ends props.now) self.old) }
-        ensures ends { IfOk result (IsEndsAfter (TextOp.IntervalChange label.now id.now given props.now) ends self.old self.new) }
+        requires place { (n : Name) × (place ≡ place_of_name n self.old) }
+        ensures ok { (n : Name) → place ≡ place_of_name n self.old
+            → OnOk result (self.new ≡ with_changed n (changed_interval given ends props.now) self.old) }
+        ensures ends { (n : Name) → place ≡ place_of_name n self.old
+            → IfOk result (IsEndsAfter (TextOp.IntervalChange n.0 n.1 given props.now) ends self.old self.new) }
         ensures err { OnErr result (self.new ≡ self.old) }
     {
-        match self.search(label, id) {
+        match place {
             Ok(i) => self.items[i].change(given, ends, props),
             Err(_) => Ok(EndsAfter::missing(ends)),
         }
     }
 
-    // Takes the interval of that name out, if it is there.
-    fn delete(&mut self, label: &Text, id: &Text, ends: EndPair<T>) -> EndsAfter<T>
-        ensures ok { self.new ≡ without_name (label.now, id.now) self.old }
-        ensures ends { IsEndsAfter (TextOp.IntervalDelete label.now id.now) ends self.old self.new result }
+    // Takes the interval at that place out, if it is there.
+    fn delete(&mut self, place: Result<usize, usize>, ends: EndPair<T>) -> EndsAfter<T>
+        requires place { (n : Name) × (place ≡ place_of_name n self.old) }
+        ensures ok { (n : Name) → place ≡ place_of_name n self.old → self.new ≡ without_name n self.old }
+        ensures ends { (n : Name) → place ≡ place_of_name n self.old → IsEndsAfter (TextOp.IntervalDelete n.0 n.1) ends self.old self.new result }
     {
-        let Ok(i) = self.search(label, id) else {
-            return EndsAfter::missing(ends);
-        };
-        let lost = self.items.remove(i).ends();
-        EndsAfter {
-            kept: EndPair::none(),
-            unused: ends,
-            lost,
+        match place {
+            Ok(i) => {
+                let lost = self.items.remove(i).ends();
+                EndsAfter {
+                    kept: EndPair::none(),
+                    unused: ends,
+                    lost,
+                }
+            }
+            Err(_) => EndsAfter::missing(ends),
         }
     }
 
-    /// Applies an operation with these ends: an add does nothing where the name is there, a change and a delete nothing
-    /// where it isn't. It returns which ends then belong to its interval, and which to none.
+    /// Applies an operation with these ends, whose interval was found at that place: an add does nothing where the name is
+    /// there, a change and a delete nothing where it isn't. It returns which ends then belong to its interval, and which to
+    /// none.
     ///
     /// Returns `OutOfMemory` where there is no room for what it makes, and then nothing changed.
-    pub fn apply(&mut self, op: &TextOp, ends: EndPair<T>) -> Result<EndsAfter<T>, OutOfMemory>
+    pub fn apply(
+        &mut self,
+        place: Result<usize, usize>,
+        op: &TextOp,
+        ends: EndPair<T>,
+    ) -> Result<EndsAfter<T>, OutOfMemory>
+        requires place { place ≡ place_of_operation op.now self.old }
         ensures ok { OnOk result (self.new ≡ after_operation op.now ends self.old) }
         ensures ends { IfOk result (IsEndsAfter op.now ends self.old self.new) }
         ensures err { OnErr result (self.new ≡ self.old) }
@@ -371,14 +423,13 @@ impl<T: Copy + Drop> Intervals<T> {
                 id,
                 props,
                 ..
-            } => self.add(label, id, ends, props),
+            } => self.add(place, label, id, ends, props),
             TextOp::IntervalChange {
-                label,
-                id,
                 ends: given,
                 props,
-            } => self.change(label, id, *given, ends, props),
-            TextOp::IntervalDelete { label, id } => Ok(self.delete(label, id, ends)),
+                ..
+            } => self.change(place, *given, ends, props),
+            TextOp::IntervalDelete { .. } => Ok(self.delete(place, ends)),
             TextOp::One(_) | TextOp::Group(_) => Ok(EndsAfter::missing(ends)),
         }
     }
@@ -390,7 +441,7 @@ impl<T: Copy + Drop> Intervals<T> {
         ensures ok { OnOk result (self.new ≡ after_operation op.now ends self.old) }
         ensures err { OnErr result (self.new ≡ self.old) }
     {
-        self.apply(op, ends)?;
+        self.apply(self.place_of(op), op, ends)?;
         Ok(())
     }
 }

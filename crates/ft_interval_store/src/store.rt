@@ -11,16 +11,16 @@ ghost use Rattle.ft_interval_store.specs.declared.faults.IntervalFault.TheVarian
 ghost use Rattle.ft_interval_store.specs.declared.intervals.Interval.{Interval};
 ghost use Rattle.ft_interval_store.specs.Ends.{map_ends, places_of_given, slid_end};
 ghost use Rattle.ft_interval_store.specs.Gathered.{Gathers, IsPartOf, is_on_any};
-ghost use Rattle.ft_interval_store.specs.Intervals.{NamesRise, interval_of, name_cmp, name_in};
+ghost use Rattle.ft_interval_store.specs.Intervals.{NamesRise, interval_of, name_cmp, name_in, place_of_operation};
 ghost use Rattle.ft_interval_store.specs.Shown.{last, numbers_at, regenerated, settled_end, settled_interval, shown_from, shown_intervals, shown_record};
 ghost use Rattle.ft_interval_store.specs.Standing.{ShowsAll};
-ghost use Rattle.ft_interval_store.specs.State.{AreOwnEnds, IsAboveAll, IsAfter, IsAfterFirst, IsAsBefore, IsFirst, IsInOrder, IsLive, IsRefusedEdit, KeepsReferences, Pushes, ends_of_name, first_operation, first_stage, is_add, is_at_stage, is_interval_operation, is_shown, operation_at, placed, placed_intervals, placed_operations, text_elements, with_effect, with_ends_at, with_first_acked};
+ghost use Rattle.ft_interval_store.specs.State.{AreOwnEnds, IsAboveAll, IsAfter, IsAfterFirst, IsAsBefore, IsFirst, IsInOrder, IsLive, IsRefusedEdit, KeepsReferences, Pushes, first_operation, first_stage, is_add, is_at_stage, is_interval_operation, is_shown, operation_at, placed, placed_intervals, placed_operations, text_elements, with_effect, with_ends_at, with_first_acked};
 
 use crate::all::{add_named, first_places, places_of_pending, shown_behind};
-use crate::effects::{ends_of, take_effect};
+use crate::effects::take_effect;
 use crate::ends::{add_ends, drop_ends, given_ends_fit};
 use crate::faults::IntervalFault;
-use crate::intervals::{EndPair, Intervals};
+use crate::intervals::{EndPair, Found, Intervals};
 use crate::numbers::{add_numbers, settled_numbers, with_numbers};
 use crate::pending::{Operation, given_ends, has_stage, is_add, place_of_stage, push_copy};
 use crate::shown::shown_ends;
@@ -148,6 +148,14 @@ impl Store {
         shown_ends(tree, &self.acked, &self.pending, label, id).is_some()
     }
 
+    /// Where the acknowledged interval that an operation is on stands, and its ends.
+    pub fn find(&self, op: &TextOp) -> Found<RefId>
+        ensures place { result.place ≡ place_of_operation op.now self.now.acked }
+        ensures ends { AreOwnEnds op.now self.now.acked result.ends }
+    {
+        self.acked.find(op)
+    }
+
     /// Applies a sequenced operation of another client, with its ends on the elements that its sender sees. It returns None
     /// exactly where they are given and are neither below the length that the sender sees nor both detached, and then nothing
     /// changed, and else the ends of the operation's interval, none where it isn't there. An add does nothing where the label has
@@ -159,11 +167,13 @@ impl Store {
         tree: &mut Tree<TextContent>,
         op: &TextOp,
         at: Perspective,
+        found: &Found<RefId>,
     ) -> Result<Option<EndPair<RefId>>, OutOfMemory>
         requires usable { IsTrue tree.old.usable }
         requires live { IsLive tree.old.refs self.old }
         requires kind { is_interval_operation op.now ≡ true }
         requires floor { tree.old.floor ≤ at.r }
+        requires found { found.now.place ≡ place_of_operation op.now self.old.acked }
         ensures fits { IfOk result (λ now. is_some now ≡ given_ends_fit (len (seen_in (At at)) (text_elements tree.old)) (ends_of op.now)) }
         ensures effect { let xs = text_elements tree.old in
             let ends = map_ends (slid_end xs) (places_of_given (seen_in (At at)) xs (ends_of op.now)) in
@@ -181,7 +191,7 @@ impl Store {
             return Ok(None);
         }
         let ends = add_ends(tree, given, view)?;
-        Ok(Some(take_effect(&mut self.acked, tree, op, &ends)?))
+        Ok(Some(take_effect(&mut self.acked, tree, found.place, op, &ends)?))
     }
 
     /// Acknowledges the pending operation of that stage, which is the first: it takes effect on the acknowledged intervals, and
@@ -192,10 +202,12 @@ impl Store {
         &mut self,
         tree: &mut Tree<TextContent>,
         stage: u64,
+        found: &Found<RefId>,
     ) -> Result<AckedOperation, OutOfMemory>
         requires usable { IsTrue tree.old.usable }
         requires live { IsLive tree.old.refs self.old }
         requires first { IsFirst stage self.old }
+        requires found { (op : TextOp) → first_operation self.old.pending ≡ Some op → found.now.place ≡ place_of_operation op self.old.acked }
         ensures effect { let xs = text_elements tree.old in
             OnOk result (placed tree.new.refs self.new ≡ with_first_acked (map_ends (slid_end xs)) (placed tree.old.refs self.old)) }
         ensures refs { OnOk result (KeepsReferences self.old self.new tree.old.refs tree.new.refs) }
@@ -206,7 +218,7 @@ impl Store {
         ensures err { OnErr result (tree.new.usable ≡ false) }
     {
         let t = self.pending.remove(0);
-        let ends = take_effect(&mut self.acked, tree, &t.op, &t.ends)?;
+        let ends = take_effect(&mut self.acked, tree, found.place, &t.op, &t.ends)?;
         Ok(AckedOperation { op: t.op, ends })
     }
 
@@ -234,13 +246,6 @@ impl Store {
             Some(t) => Some(&t.op),
             None => None,
         }
-    }
-
-    /// The ends of the acknowledged interval of that label and id, none where it isn't there.
-    pub fn ends(&self, label: &Text, id: &Text) -> EndPair<RefId>
-        ensures { result ≡ ends_of_name (label.now, id.now) self.now.acked }
-    {
-        ends_of(&self.acked, label, id)
     }
 
     /// Whether the operation of that stage is pending.

@@ -18,11 +18,11 @@ unlist-requires-clause-known c =
 pub unlist-requires-clause-order : goal.unlist-requires-clause-order
 unlist-requires-clause-order c = (c.requires.listed c.args.label.now).order
 
-pub returns-clause-listed : goal.returns-clause-listed
-returns-clause-listed c =
+pub returns : goal.returns
+returns c = λ id same.
     let tree = c.args.tree.now in
     let label = c.args.label.now in
     let is = c.args.store.now.acked in
-    unlisted label c.args.id.now is (length (text_elements tree)) tree.refs c.args.indexes.now.items c.unlist.new.indexes.items
+    unlisted label id is (length (text_elements tree)) tree.refs c.args.indexes.now.items c.unlist.new.indexes.items
     (starts-once-in c.args.store.now c.first_stage-first.ensures.order) c.unlist.ensures.others c.requires.listed
-    (subst (λ (e : EndPair ℕ). Unlists tree.refs e (index_of label c.args.indexes.now.items) (index_of label c.unlist.new.indexes.items)) c.ends-ends.ensures c.unlist.ensures.label)
+    (subst (λ (e : EndPair ℕ). Unlists tree.refs e (index_of label c.args.indexes.now.items) (index_of label c.unlist.new.indexes.items)) same c.unlist.ensures.label)

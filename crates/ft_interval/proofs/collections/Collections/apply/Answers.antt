@@ -9,11 +9,11 @@ use Rattle.ft_interval.specs.Indexes.{IndexedState, StandsOn}
 use Rattle.ft_interval.proofs.Effects.{live-applied, out-applied, own-applied, within-applied}
 use Rattle.ft_interval.proofs.collections.Collections.apply.Goals as goal
 
-pub unlist_changed-had-requires-clause-live : goal.unlist_changed-had-requires-clause-live
-unlist_changed-had-requires-clause-live c = (subst (λ (x : IndexedState). StandsOn c.args.tree.now x) (sym c.self.view_is) c.requires.stands).live
+pub unlist_changed-requires-clause-live : goal.unlist_changed-requires-clause-live
+unlist_changed-requires-clause-live c = (subst (λ (x : IndexedState). StandsOn c.args.tree.now x) (sym c.self.view_is) c.requires.stands).live
 
-pub unlist_changed-had-requires-clause-listed : goal.unlist_changed-had-requires-clause-listed
-unlist_changed-had-requires-clause-listed c = (subst (λ (x : IndexedState). StandsOn c.args.tree.now x) (sym c.self.view_is) c.requires.stands).listed
+pub unlist_changed-requires-clause-listed : goal.unlist_changed-requires-clause-listed
+unlist_changed-requires-clause-listed c = (subst (λ (x : IndexedState). StandsOn c.args.tree.now x) (sym c.self.view_is) c.requires.stands).listed
 
 pub apply-requires-clause-live : goal.apply-requires-clause-live
 apply-requires-clause-live c = (subst (λ (x : IndexedState). StandsOn c.args.tree.now x) (sym c.self.view_is) c.requires.stands).live
@@ -23,30 +23,30 @@ enlist_changed-requires-clause-live c =
     let s = subst (λ (x : IndexedState). StandsOn c.args.tree.now x) (sym c.self.view_is) c.requires.stands in
     let xs = text_elements c.args.tree.now in
     let places = places_of_given (seen_in (At c.args.at)) xs (ends_of c.args.op.now) in
-    live-applied c.args.tree.now c.apply.new.tree c.self.inside.store c.apply.new.self c.args.op.now c.self.inside.indexes.items c.unlist_changed-had.new.indexes.items c.first_stage-first.ensures.names
-    c.in_ok-now.ensures.rest s.listed c.unlist_changed-had.ensures.listed (is_some c.in_ok-now.now) places c.in_ok-now.ensures.effect c.in_ok-now.ensures.after c.in_ok-now.ensures.misfit c.in_ok-now.ensures.refs s.live
+    live-applied c.args.tree.now c.apply.new.tree c.self.inside.store c.apply.new.self c.args.op.now c.self.inside.indexes.items c.unlist_changed.new.indexes.items c.first_stage-first.ensures.names
+    c.in_ok-now.ensures.rest s.listed c.unlist_changed.ensures (is_some c.in_ok-now.now) places c.in_ok-now.ensures.effect c.in_ok-now.ensures.after c.in_ok-now.ensures.misfit c.in_ok-now.ensures.refs s.live
 
 pub enlist_changed-requires-clause-listed : goal.enlist_changed-requires-clause-listed
 enlist_changed-requires-clause-listed c =
     let s = subst (λ (x : IndexedState). StandsOn c.args.tree.now x) (sym c.self.view_is) c.requires.stands in
     let xs = text_elements c.args.tree.now in
     let places = places_of_given (seen_in (At c.args.at)) xs (ends_of c.args.op.now) in
-    out-applied c.args.tree.now c.apply.new.tree c.self.inside.store c.apply.new.self c.args.op.now c.self.inside.indexes.items c.unlist_changed-had.new.indexes.items c.first_stage-first.ensures.names
-    c.in_ok-now.ensures.rest s.listed c.unlist_changed-had.ensures.listed (is_some c.in_ok-now.now) places c.in_ok-now.ensures.effect c.in_ok-now.ensures.after c.in_ok-now.ensures.misfit
+    out-applied c.args.tree.now c.apply.new.tree c.self.inside.store c.apply.new.self c.args.op.now c.self.inside.indexes.items c.unlist_changed.new.indexes.items c.first_stage-first.ensures.names
+    c.in_ok-now.ensures.rest s.listed c.unlist_changed.ensures (is_some c.in_ok-now.now) places c.in_ok-now.ensures.effect c.in_ok-now.ensures.after c.in_ok-now.ensures.misfit
 
 pub enlist_changed-requires-clause-within : goal.enlist_changed-requires-clause-within
 enlist_changed-requires-clause-within c =
     let s = subst (λ (x : IndexedState). StandsOn c.args.tree.now x) (sym c.self.view_is) c.requires.stands in
     let xs = text_elements c.args.tree.now in
     let places = places_of_given (seen_in (At c.args.at)) xs (ends_of c.args.op.now) in
-    within-applied c.args.tree.now c.apply.new.tree c.self.inside.store c.apply.new.self c.args.op.now c.self.inside.indexes.items c.unlist_changed-had.new.indexes.items c.first_stage-first.ensures.names
-    c.in_ok-now.ensures.rest s.listed c.unlist_changed-had.ensures.listed (is_some c.in_ok-now.now) places c.in_ok-now.ensures.effect c.in_ok-now.ensures.after c.in_ok-now.ensures.misfit
+    within-applied c.args.tree.now c.apply.new.tree c.self.inside.store c.apply.new.self c.args.op.now c.self.inside.indexes.items c.unlist_changed.new.indexes.items c.first_stage-first.ensures.names
+    c.in_ok-now.ensures.rest s.listed c.unlist_changed.ensures (is_some c.in_ok-now.now) places c.in_ok-now.ensures.effect c.in_ok-now.ensures.after c.in_ok-now.ensures.misfit
 
 pub enlist_changed-requires-clause-ends : goal.enlist_changed-requires-clause-ends
 enlist_changed-requires-clause-ends c =
     subst (λ (e : EndPair ℕ). AreOwnEnds c.args.op.now c.apply.new.self.acked e) (sym c.unwrap_or-ends.ensures)
-    (own-applied c.args.tree.now c.apply.new.tree c.self.inside.store c.apply.new.self c.args.op.now c.in_ok-now.now c.unlist_changed-had.result
-    c.in_ok-now.ensures.ends c.in_ok-now.ensures.misfit c.unlist_changed-had.ensures.ends)
+    (own-applied c.args.tree.now c.apply.new.tree c.self.inside.store c.apply.new.self c.args.op.now c.in_ok-now.now c.find-found.result.ends
+    c.in_ok-now.ensures.ends c.in_ok-now.ensures.misfit c.find-found.ensures.ends)
 
 pub returns-clause-stands : goal.returns-clause-stands
 returns-clause-stands c =
@@ -54,8 +54,8 @@ returns-clause-stands c =
     let xs = text_elements c.args.tree.now in
     let places = places_of_given (seen_in (At c.args.at)) xs (ends_of c.args.op.now) in
     record {
-      live = live-applied c.args.tree.now c.apply.new.tree c.self.inside.store c.apply.new.self c.args.op.now c.self.inside.indexes.items c.unlist_changed-had.new.indexes.items c.first_stage-first.ensures.names
-          c.in_ok-now.ensures.rest s.listed c.unlist_changed-had.ensures.listed (is_some c.in_ok-now.now) places c.in_ok-now.ensures.effect c.in_ok-now.ensures.after c.in_ok-now.ensures.misfit c.in_ok-now.ensures.refs s.live;
+      live = live-applied c.args.tree.now c.apply.new.tree c.self.inside.store c.apply.new.self c.args.op.now c.self.inside.indexes.items c.unlist_changed.new.indexes.items c.first_stage-first.ensures.names
+          c.in_ok-now.ensures.rest s.listed c.unlist_changed.ensures (is_some c.in_ok-now.now) places c.in_ok-now.ensures.effect c.in_ok-now.ensures.after c.in_ok-now.ensures.misfit c.in_ok-now.ensures.refs s.live;
       listed = c.in-Ok.ensures;
     }
 

@@ -1,5 +1,6 @@
-use Rattle.std.proofs.Common.{sym, subst, arith}
-use Rattle.ft_interval_store.specs.State.{IsFirst, text_elements}
+use Rattle.std.proofs.Common.{sym, ◌∙◌, ap, subst, arith}
+use Rattle.ft_interval_store.specs.Intervals.{place_of_operation}
+use Rattle.ft_interval_store.specs.State.{CollectionsState, IsFirst, text_elements}
 use Rattle.ft_interval_store.proofs.AppliedEffect.{ack-failed, ack-in_order, ack-kept, ack-operation, ack-places, ack-references, first-split, some-first}
 use Rattle.ft_interval_store.proofs.store.Store.ack.Goals as goal
 
@@ -17,6 +18,17 @@ take_effect-requires-clause-kept c =
     let some = some-first c.args.stage is ps (subst (λ x. IsFirst c.args.stage x) (sym c.self.view_is) c.requires.first) in
     let split = first-split ps t t ts some c.remove-t.ensures.value c.remove-t.ensures.items in
     ack-kept is ps t ts split c.args.self.now c.self.view_is c.self.invariant c.args.tree.now.refs c.requires.live
+
+pub take_effect-requires-clause-place : goal.take_effect-requires-clause-place
+take_effect-requires-clause-place c =
+    let is = c.self.inside.acked in
+    let ps = c.self.inside.pending.items in
+    let t = c.remove-t.result in
+    let ts = c.remove-t.new.self.items in
+    let some = some-first c.args.stage is ps (subst (λ x. IsFirst c.args.stage x) (sym c.self.view_is) c.requires.first) in
+    let split = first-split ps t t ts some c.remove-t.ensures.value c.remove-t.ensures.items in
+    let first = ack-operation is ps t ts split c.args.self.now c.self.view_is c.self.invariant c.args.tree.now.refs c.requires.live in
+    c.requires.found t.op first ∙ sym (ap (λ (x : CollectionsState). place_of_operation t.op x.acked) c.self.view_is)
 
 pub invariant_of-self : goal.invariant_of-self
 invariant_of-self c =

@@ -5,7 +5,7 @@ use Rattle.ft_tree_leaves.specs.Elements.{seen_in}
 use Rattle.ft_op.specs.Document.{ends_of, given_ends_fit}
 use Rattle.ft_interval_store.specs.declared.intervals.Interval.{Interval}
 use Rattle.ft_interval_store.specs.Ends.{map_ends, places_of_ends, places_of_given, slid_end}
-use Rattle.ft_interval_store.specs.Intervals.{after_operation}
+use Rattle.ft_interval_store.specs.Intervals.{after_operation, place_of_operation}
 use Rattle.ft_interval_store.specs.State.{CollectionsState, IsInOrder, IsLive, KeepsReferences, placed, placed_intervals, text_elements, with_effect}
 use Rattle.ft_interval_store.proofs.AppliedEffect.{applied-in_order, applied-kept_once, applied-places, applied-references}
 use Rattle.ft_interval_store.proofs.store.Store.apply.Goals as goal
@@ -17,6 +17,9 @@ take_effect-requires-clause-kept c =
     let live : IsLive before old = subst (λ x. IsLive before x) (sym c.self.view_is) c.requires.live in
     let places = places_of_given (seen_in (At c.args.at)) (text_elements c.args.tree.now) c.given_ends-given.result in
     applied-kept_once places old c.in_ok-ends.ends before c.add_ends.new.tree.refs live c.in_ok-ends.ensures.ends c.self.invariant
+
+pub take_effect-requires-clause-place : goal.take_effect-requires-clause-place
+take_effect-requires-clause-place c = c.requires.found ∙ sym (ap (λ (x : CollectionsState). place_of_operation c.args.op.now x.acked) c.self.view_is)
 
 pub invariant_of-self-2 : goal.invariant_of-self-2
 invariant_of-self-2 c =
