@@ -3,6 +3,7 @@
 ghost use Rattle.std.specs.Prelude.{◌≡◌, [], IfOk, OnOk, OnErr, option_copied};
 ghost use Rattle.std.specs.Ordering.{is_eq};
 ghost use Rattle.ft_props.specs.Keys.{put_rising};
+ghost use Rattle.ft_props.specs.Properties.{apply};
 ghost use Rattle.ft_interval_store.specs.Ends.{no_ends};
 ghost use Rattle.ft_interval_store.specs.Intervals.{Name, added_interval, after_operation, changed_interval, interval_cmp, interval_of, name_cmp, name_of, place_of_name, place_of_operation, with_changed, without_name};
 ghost use Rattle.ft_interval_store.specs.State.{AreOwnEnds, IsEndsAfter, ends_changed, ends_missing};
@@ -84,6 +85,22 @@ pub fn is_same_name(label: &Text, id: &Text, other_label: &Text, other_id: &Text
     id.same(other_id) && label.same(other_label)
 }
 
+impl<T> Held<T> {
+    // Applies the set to its properties. Where that is empty, as in a change of ends alone, they aren't copied.
+    //
+    // Returns `OutOfMemory` where there is no room for them, and then nothing changed.
+    fn set_props(&mut self, set: &PropSet) -> Result<(), OutOfMemory>
+        ensures ok { OnOk result (self.new ≡ record self.old { props = apply self.old.props set.now }) }
+        ensures err { OnErr result (self.new ≡ self.old) }
+    {
+        if set.is_empty() {
+            return Ok(());
+        }
+        self.interval.props = self.interval.props.applied(set)?;
+        Ok(())
+    }
+}
+
 impl<T: Copy> Held<T> {
     // Gives it the ends, if an operation gives some, and applies the set to its properties.
     //
@@ -100,7 +117,7 @@ impl<T: Copy> Held<T> {
         ensures err { OnErr result (self.new ≡ self.old) }
     {
         let had = self.interval.ends;
-        self.interval.props = self.interval.props.applied(props)?;
+        self.set_props(props)?;
         if given.is_none() {
             return Ok(EndsAfter {
                 kept: had,
