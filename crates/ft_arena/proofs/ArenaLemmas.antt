@@ -1,18 +1,18 @@
 -- Lemmas on what the slots of an arena show.
-use Rattle.std.proofs.Common.{IsSome, ◌-◌, ◌≡◌, ℕ, zero, suc, ◌<◌, ◌≤◌, List, [], length, get_or, set, Option, Some, None, refl, sym, ap, subst, ◌∙◌, inl, inr, arith, cond, true≢false}
+use Rattle.std.proofs.Common.{IsSome, ◌-◌, ◌≡◌, ◌≢◌, ℕ, zero, suc, ◌<◌, ◌≤◌, List, [], length, get_or}
+use Rattle.std.proofs.Common.{set, Option, Some, None, refl, sym, ap, subst, ◌∙◌, inl, inr, arith, true≢false}
 use Rattle.std.proofs.lemmas.Bool.{cases_eq, cases_lt}
 use Rattle.std.proofs.lemmas.List.{get_or_past, length-map, get_or-map}
 use Rattle.std.specs.Option.{option_map, MatchOption}
 use Rattle.std.specs.Option.{is_some}
 use Rattle.std.proofs.lemmas.List.{map-set, set-get_or}
-use Rattle.std.proofs.lemmas.List.Sums.{sum_by-set}
-use Rattle.slab.specs.Slab.{Slab, get, slab_len, ContainsKey, with_value, Updates}
+use Rattle.slab.specs.Slab.{Slab, get, ContainsKey, with_value, Updates}
 use Rattle.slab.proofs.SlabLemmas.{ContainsKey-within, Updates-with_value}
-use Rattle.ft_arena.specs.declared.nodes.Slot.{Slot}
+use Rattle.ft_arena.specs.Links.{Slot}
 use Rattle.ft_arena.specs.declared.arena.Arena.TheInside.{Inside}
 use Rattle.ft_arena.specs.Ids.{times, points, first, after}
-use Rattle.ft_arena.specs.Forest.{Forest, Entry, IsForest, Changes, PutsChild, TakesChild, count_some, leaf_of_entry, kids_of_entry, parent_of_entry, entry}
-use Rattle.ft_arena.specs.Links.{walk, IsWalk, entries_of, entry_of, leaves_of, live_of, next_of, prev_of, view_of, IsChain, SetsNext, SetsPrev, next_of_slot, prev_of_slot}
+use Rattle.ft_arena.specs.Forest.{Forest, Entry, IsForest, Changes, PutsChild, TakesChild, count_some, leaf_of_entry, kids_of_entry, parent_of_entry, entry, IsPlace, leaf_value}
+use Rattle.ft_arena.specs.Links.{walk, IsWalk, entries_of, entry_of, leaves_of, live_of, next_of, prev_of, view_of, IsChain, next_of_slot, prev_of_slot}
 use Rattle.ft_arena.proofs.IdLemmas.{length_from_once}
 use Rattle.ft_arena.proofs.RingLemmas.{walk_is, IsWalk-first, IsWalk-after}
 
@@ -23,6 +23,11 @@ count_some_le (Some x) = omega arith
 pub count_is_some : {X : Type 0} (o : Option X) → IsSome o → count_some o ≡ 1
 count_is_some None h = cc
 count_is_some (Some x) h = refl
+
+-- a place is live
+pub place_is_live : {L B : Type 0} (s : Forest L B) (p : Option ℕ) → IsPlace s p → live_of s.nodes p ≡ 1
+place_is_live s None h = refl
+place_is_live s (Some a) h = count_is_some (leaf_value s a) h
 
 pub forest_eq : {L B : Type 0} (a b : Forest L B) → a.leaves ≡ b.leaves → a.nodes ≡ b.nodes → a.spare ≡ b.spare → a ≡ b
 forest_eq {L} {B} a b l n p =
@@ -158,21 +163,19 @@ module _ {L B : Type 0} where
       let here : get_or (entries_of s) id None ≡ Some (entry_of new) = entries_at s id ∙ ap (option_map entry_of) found ∙ ap Some (sym same) in
       map-set (option_map entry_of) s.slots id (Some new) ∙ subst (λ (e : Option (Entry L B)). set (entries_of s) id e ≡ entries_of s) here (set-get_or (entries_of s) id None)
 
-  pub len_kept : (s : Slab (Slot L B)) (id : ℕ) (old new : Slot L B) → get s id ≡ Some old → slab_len (with_value s id new) ≡ slab_len s
-  len_kept s id old new found =
-      let l : id < length s.slots = ContainsKey-within s id (rw found refl) in
-      let e = sum_by-set (λ (o : Option (Slot L B)). cond (is_some o) 1 0) s.slots id (Some new) None l in
-      let one : ℕ = 1 in let f : cond (is_some (get s id)) 1 0 ≡ one = rw found refl in
-      omega (arith, e, f)
+  -- the one place has this next, and nothing else changes
+  pub record SetsNext (old : Slab (Slot L B)) (old_head : Option ℕ) (new : Slab (Slot L B)) (new_head at to : Option ℕ) : Type 0 where
+    pub changed : next_of new new_head at ≡ to
+    pub others : (p : Option ℕ) → p ≢ at → next_of new new_head p ≡ next_of old old_head p
+    pub prevs : (tail p : Option ℕ) → prev_of new tail p ≡ prev_of old tail p
+    pub entries : entries_of new ≡ entries_of old
 
-  -- as many nodes are spare as before
-  pub room_written : (s : Slab (Slot L B)) (id n : ℕ) (old new : Slot L B) → get s id ≡ Some old → n ≤ s.capacity - slab_len s
-      → n ≤ (with_value s id new).capacity - slab_len (with_value s id new)
-  room_written s id n old new found h = omega (arith, h, len_kept s id old new found)
-
-  pub room_rewritten : (s : Slab (Slot L B)) (a b n : ℕ) (old new old' new' : Slot L B) → get s a ≡ Some old → get (with_value s a new) b ≡ Some old'
-      → n ≤ s.capacity - slab_len s → n ≤ (with_value (with_value s a new) b new').capacity - slab_len (with_value (with_value s a new) b new')
-  room_rewritten s a b n old new old' new' found found' h = room_written (with_value s a new) b n old' new' found' (room_written s a n old new found h)
+  -- the one place has this prev, and nothing else changes
+  pub record SetsPrev (old : Slab (Slot L B)) (old_tail : Option ℕ) (new : Slab (Slot L B)) (new_tail at to : Option ℕ) : Type 0 where
+    pub changed : prev_of new new_tail at ≡ to
+    pub others : (p : Option ℕ) → p ≢ at → prev_of new new_tail p ≡ prev_of old old_tail p
+    pub nexts : (head p : Option ℕ) → next_of new head p ≡ next_of old head p
+    pub entries : entries_of new ≡ entries_of old
 
   pub sets_next : (s : Slab (Slot L B)) (head to : Option ℕ) (id : ℕ) (slot : Slot L B) → get s id ≡ Some slot
       → SetsNext s head (with_value s id record { node = slot.node; parent = slot.parent; prev = slot.prev; next = to }) head (Some id) to
@@ -190,8 +193,6 @@ module _ {L B : Type 0} where
           ]
         ];
         entries = entries_kept s id slot new found refl;
-        len = len_kept s id slot new found;
-        capacity = refl;
       }
 
   pub sets_prev : (s : Slab (Slot L B)) (tail to : Option ℕ) (id : ℕ) (slot : Slot L B) → get s id ≡ Some slot
@@ -210,8 +211,6 @@ module _ {L B : Type 0} where
           ]
         ];
         entries = entries_kept s id slot new found refl;
-        len = len_kept s id slot new found;
-        capacity = refl;
       }
 
   -- what the link back says in terms of the list
@@ -219,6 +218,7 @@ module _ {L B : Type 0} where
       → MatchOption (prev_of s t (Some id)) (first (leaves_of s h) ≡ Some id) (λ p. after (leaves_of s h) p ≡ Some id)
   before_is s h t id f live = by_place (prev_of s t (Some id)) (f.0.ring.forth (Some id) live) (f.0.ring.prev_live (Some id) live)
     where
-      by_place : (q : Option ℕ) → next_of s h q ≡ Some id → live_of (entries_of s) q ≡ 1 → MatchOption q (first (leaves_of s h) ≡ Some id) (λ p. after (leaves_of s h) p ≡ Some id)
+      by_place : (q : Option ℕ) → next_of s h q ≡ Some id → live_of (entries_of s) q ≡ 1 → MatchOption q (first (leaves_of s h) ≡ Some id) (λ p. after (leaves_of s h) p
+          ≡ Some id)
       by_place None e v = sym (IsWalk-first (next_of s h) h (leaves_of s h) f.0.walks) ∙ e
       by_place (Some p) e v = sym (IsWalk-after (next_of s h) h (leaves_of s h) p f.0.walks (omega (arith, f.1.leaf_once p, v))) ∙ e

@@ -1,21 +1,22 @@
 -- What `put_child`, `take_child` and `leaf_mut` leave.
-use Rattle.std.proofs.Common.{◌-◌, IsSome, insert, remove, slice_get, ◌≡◌, ◌≢◌, ℕ, ◌<◌, ◌≤◌, List, length, set, Option, Some, None, refl, sym, ap, subst, ◌∙◌, inl, inr, arith}
-use Rattle.std.proofs.lemmas.Bool.{cases_eq}
+use Rattle.std.proofs.Common.{◌-◌, IsSome, insert, remove, slice_get, ◌≡◌, ◌≢◌, ℕ, ◌<◌, ◌≤◌, List, length, set, Option, Some, None, refl, sym, ap, subst, ◌∙◌, arith}
 use Rattle.std.specs.Option.{option_map}
 use Rattle.slab.specs.Slab.{Slab, get, Updates, with_value, ContainsKey}
 use Rattle.slab.proofs.SlabLemmas.{Updates-with_value}
 use Rattle.std.proofs.lemmas.List.{map-set}
 use Rattle.std.proofs.lemmas.Option.{slice_get_within}
-use Rattle.ft_arena.specs.declared.nodes.Slot.{Slot}
+use Rattle.ft_arena.specs.Links.{Slot}
 use Rattle.ft_arena.specs.declared.nodes.Node.{Node}
 use Rattle.ft_arena.specs.declared.nodes.Node.TheVariants.{Leaf, Block}
 use Rattle.ft_arena.specs.Ids.{points}
 use Rattle.ft_arena.specs.Forest.{Forest, Entry, IsForest, Changes, count_some, leaf_of_entry, kids_of_entry, parent_of_entry, block_of_entry, entry, kids_of, parent_of}
 use Rattle.ft_arena.specs.Forest.{leaf_value, block_value, leaf_of_node, block_of_node, kids_of_node, with_kids, with_leaf, with_block, with_block_entry, PutsChild}
 use Rattle.ft_arena.specs.Forest.{TakesChild}
-use Rattle.ft_arena.specs.Links.{entries_of, entry_of, leaves_of, nodes_of, IsChain}
+use Rattle.ft_arena.specs.declared.links.Links.{Links}
+use Rattle.ft_arena.specs.Links.{entries_of, entry_of, leaves_of, nodes_of, Chain, IsChain, links_under, parent_changed, slot_of, slots_of}
 use Rattle.ft_arena.proofs.IdLemmas.{times-remove, same_refl}
 use Rattle.ft_arena.proofs.ArenaLemmas.{entries_at, forest_eq}
+use Rattle.ft_arena.proofs.SlotLemmas.{some_value, still_there, has_node, found_slot, slots-with_node, slots-with_links}
 use Rattle.ft_arena.proofs.KidLemmas.{Linked, Linked-from, links_at, Changes-at, kept, IsForest-puts, IsForest-takes, sound_at}
 
 module _ {L B : Type 0} where
@@ -244,19 +245,73 @@ module _ {L B : Type 0} (s0 : Slab (Slot L B)) (h t : Option ℕ) (block at chil
         p,
       )
 
--- a child has a slot, after a write of its block too
-pub child_has_slot : {L B : Type 0} (s : Slab (Slot L B)) (h t : Option ℕ) (block at child : ℕ) (old new : Slot L B) → IsChain record { slots = s; head = h; tail = t }
-    → get s block ≡ Some old → slice_get (kids_of (nodes_of record { slots = s; head = h; tail = t }) block) at ≡ Some child → ContainsKey (with_value s block new) child
-child_has_slot {L} {B} s h t block at child old new f found there =
-    let a : Forest L B = nodes_of record { slots = s; head = h; tail = t } in
-    let one : 1 ≤ points (parent_of a child) block = omega (arith, f.1.child_once block child, times-remove (kids_of a block) at child child there, same_refl child) in
-    let had : IsSome (get s child) = has (get s child) (subst (λ (o : Option (Entry L B)). 1 ≤ points (parent_of_entry o) block) (entries_at s child) one) in
-    let u : Updates s (with_value s block new) block (Some new) = Updates-with_value s block new (rw found refl) in
-    elim (cases_eq child block) [
-      | inl e ↦ subst (λ (z : ℕ). IsSome (get (with_value s block new) z)) (sym e) (rw u.changed refl)
-      | inr d ↦ subst (λ (o : Option (Slot L B)). IsSome o) (sym (u.others child d)) had
-    ]
-  where
-    has : (o : Option (Slot L B)) → 1 ≤ points (parent_of_entry (option_map entry_of o)) block → IsSome o
-    has None h = absurd (omega arith)
-    has (Some x) h = refl
+module _ {L B : Type 0} (s : Slab (Node L B)) (ls : List Links) (h t : Option ℕ) (sound : IsChain record { slots = slots_of s ls; head = h; tail = t }) where
+  abbrev linked : Slab (Slot L B) → Chain L B
+  linked z = record { slots = z; head = h; tail = t }
+
+  abbrev shown : Slab (Slot L B) → Forest L B
+  shown z = nodes_of (linked z)
+
+  -- a child has a node
+  pub child_has_node : (block at child : ℕ) → slice_get (kids_of (shown (slots_of s ls)) block) at ≡ Some child → ContainsKey s child
+  child_has_node block at child there =
+      let a : Forest L B = shown (slots_of s ls) in
+      let one : 1 ≤ points (parent_of a child) block = omega (arith, sound.1.child_once block child, times-remove (kids_of a block) at child child there, same_refl child) in
+      has_node s ls child (has block (get (slots_of s ls) child) (subst (λ (o : Option (Entry L B)). 1 ≤ points (parent_of_entry o) block) (entries_at (slots_of s ls)
+      child) one))
+    where
+      has : (block : ℕ) (o : Option (Slot L B)) → 1 ≤ points (parent_of_entry (option_map entry_of o)) block → IsSome o
+      has block None h = absurd (omega arith)
+      has block (Some x) h = refl
+
+  module _ (block child : ℕ) (old node : Node L B) (links : Links) (found : get s block ≡ Some old) (there : ContainsKey s child) (within : child < length ls)
+      (read : links ≡ links_under ls child) where
+    last : (n : Node L B) × (get (with_value s block node) child ≡ Some n)
+    last = some_value (get (with_value s block node) child) (still_there s block old node found child there)
+
+    block_found : get (slots_of s ls) block ≡ Some (slot_of old (links_under ls block))
+    block_found = found_slot s ls block old found
+
+    child_found : get (with_value (slots_of s ls) block (with_node (slot_of old (links_under ls block)) node)) child ≡ Some (slot_of last.0 (links_under ls child))
+    child_found = subst (λ (z : Slab (Slot L B)). get z child ≡ Some (slot_of last.0 (links_under ls child))) (slots-with_node s ls block node)
+        (found_slot (with_value s block node) ls child last.0 last.1)
+
+    -- the node of the block and the links of the child, both written
+    both_written : (par : Option ℕ) → slots_of (with_value s block node) (set ls child (parent_changed links par))
+        ≡ slots_after (slots_of s ls) h t block 0 child (slot_of old (links_under ls block)) (slot_of last.0 (links_under ls child)) node sound block_found child_found par
+    both_written par = ap (λ l. slots_of (with_value s block node) (set ls child (parent_changed l par))) read
+        ∙ slots-with_links (with_value s block node) ls child (parent_changed (links_under ls child) par) last.0 last.1 within
+        ∙ ap (λ z. with_value z child (slot_of last.0 (parent_changed (links_under ls child) par))) (slots-with_node s ls block node)
+
+    pub put_written : (at : ℕ) → node ≡ with_kids old (insert (kids_of_node old) at child) → IsSome (block_value (shown (slots_of s ls)) block)
+        → at ≤ length (kids_of (shown (slots_of s ls)) block) → length (kids_of (shown (slots_of s ls)) block) < 8 → parent_of (shown (slots_of s ls)) child ≡ None
+        → IsChain (linked (slots_of (with_value s block node) (set ls child (parent_changed links (Some block)))))
+        × (leaves_of (slots_of (with_value s block node) (set ls child (parent_changed links (Some block)))) h ≡ leaves_of (slots_of s ls) h)
+        × PutsChild (shown (slots_of s ls)) (shown (slots_of (with_value s block node) (set ls child (parent_changed links (Some block))))) block at child
+    put_written at rest is_block fits room alone =
+        subst (λ (z : Slab (Slot L B)). IsChain (linked z) × (leaves_of z h ≡ leaves_of (slots_of s ls) h) × PutsChild (shown (slots_of s ls)) (shown z) block at child)
+        (sym (both_written (Some block))) (put_done (slots_of s ls) h t block at child (slot_of old (links_under ls block)) (slot_of last.0 (links_under ls child)) node sound
+        block_found child_found rest is_block fits room alone)
+
+    pub take_written : (at : ℕ) → node ≡ with_kids old (remove (kids_of_node old) at) → slice_get (kids_of (shown (slots_of s ls)) block) at ≡ Some child
+        → IsChain (linked (slots_of (with_value s block node) (set ls child (parent_changed links None))))
+        × (leaves_of (slots_of (with_value s block node) (set ls child (parent_changed links None))) h ≡ leaves_of (slots_of s ls) h)
+        × TakesChild (shown (slots_of s ls)) (shown (slots_of (with_value s block node) (set ls child (parent_changed links None)))) block at child
+    take_written at rest taken =
+        subst (λ (z : Slab (Slot L B)). IsChain (linked z) × (leaves_of z h ≡ leaves_of (slots_of s ls) h) × TakesChild (shown (slots_of s ls)) (shown z) block at child)
+        (sym (both_written None)) (take_done (slots_of s ls) h t block at child (slot_of old (links_under ls block)) (slot_of last.0 (links_under ls child)) node sound
+        block_found child_found rest taken)
+
+  -- a write of a leaf's value
+  pub leaf_written : (id : ℕ) (n : Node L B) (v w : L) → get s id ≡ Some n → leaf_of_node n ≡ Some v → IsChain (linked (slots_of (with_value s id (Leaf w)) ls))
+      × (shown (slots_of (with_value s id (Leaf w)) ls) ≡ with_leaf (shown (slots_of s ls)) id w)
+  leaf_written id n v w found leaf = subst (λ (z : Slab (Slot L B)). IsChain (linked z) × (shown z ≡ with_leaf (shown (slots_of s ls)) id w))
+      (sym (slots-with_node s ls id (Leaf w))) (written_sound (slots_of s ls) h t id (slot_of n (links_under ls id)) v w (found_slot s ls id n found) leaf sound)
+
+  -- a write of a block's value
+  pub block_written : (id : ℕ) (n : Node L B) (v w : B) → get s id ≡ Some n → block_of_node n ≡ Some v
+      → IsChain (linked (slots_of (with_value s id (Block (kids_of_node n) w)) ls))
+      × (shown (slots_of (with_value s id (Block (kids_of_node n) w)) ls) ≡ with_block (shown (slots_of s ls)) id w)
+  block_written id n v w found block = subst (λ (z : Slab (Slot L B)). IsChain (linked z) × (shown z ≡ with_block (shown (slots_of s ls)) id w))
+      (sym (slots-with_node s ls id (Block (kids_of_node n) w))) (block_written_sound (slots_of s ls) h t id (slot_of n (links_under ls id)) v w (found_slot s ls id n
+      found) block sound)

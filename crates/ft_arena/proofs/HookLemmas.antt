@@ -2,7 +2,7 @@
 use Rattle.std.proofs.Common.{◌≡◌, ◌≢◌, ℕ, ◌≤◌, List, get_or, Option, Some, None, refl, sym, ap, subst, ◌∙◌, inl, inr, arith}
 use Rattle.std.proofs.lemmas.Bool.{cases_eq}
 use Rattle.slab.specs.Slab.{Slab}
-use Rattle.ft_arena.specs.declared.nodes.Slot.{Slot}
+use Rattle.ft_arena.specs.Links.{Slot}
 use Rattle.ft_arena.specs.Ids.{same, times, put_after, insert_after, without}
 use Rattle.ft_arena.specs.Forest.{leaf_of_entry, kids_of_entry, parent_of_entry}
 use Rattle.ft_arena.specs.Links.{IsWalk, IsRing, IsChain, entries_of, leaves_of, live_of, next_of, prev_of, nodes_of, HasPlace}

@@ -5,7 +5,7 @@ use Rattle.std.proofs.lemmas.List.Edits.{length-insert, length-remove}
 use Rattle.std.proofs.lemmas.Option.{slice_get_within}
 use Rattle.std.specs.Option.{option_map}
 use Rattle.slab.specs.Slab.{Slab, get, Updates}
-use Rattle.ft_arena.specs.declared.nodes.Slot.{Slot}
+use Rattle.ft_arena.specs.Links.{Slot}
 use Rattle.ft_arena.specs.Ids.{same, times, points}
 use Rattle.ft_arena.specs.Forest.{Forest, Entry, IsForest, Changes, PutsChild, TakesChild, count_some, leaf_of_entry, kids_of_entry, parent_of_entry, entry, kids_of, parent_of}
 use Rattle.ft_arena.specs.Links.{IsWalk, AreLinks, entries_of, entry_of, leaves_of, live_of, next_of, prev_of, nodes_of, IsChain, next_of_slot, prev_of_slot}

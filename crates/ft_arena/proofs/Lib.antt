@@ -2,6 +2,7 @@ pub mod SeatLemmas
 pub mod IdLemmas
 pub mod RingLemmas
 pub mod ArenaLemmas
+pub mod SlotLemmas
 pub mod HookLemmas
 pub mod KidLemmas
 pub mod LinkLemmas

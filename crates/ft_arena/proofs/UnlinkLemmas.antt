@@ -1,15 +1,18 @@
 -- What `unlink` leaves.
-use Rattle.std.proofs.Common.{◌≡◌, ◌≢◌, ℕ, [], get_or, Option, Some, None, refl, sym, ap, ◌∙◌, arith}
+use Rattle.std.proofs.Common.{◌≡◌, ◌≢◌, ℕ, List, [], length, get_or, Option, Some, None, refl, sym, ap, ◌∙◌, arith}
 use Rattle.std.specs.Option.{option_map}
 use Rattle.slab.specs.Slab.{Slab, get, Updates}
-use Rattle.ft_arena.specs.declared.nodes.Slot.{Slot}
+use Rattle.ft_arena.specs.Links.{Slot}
 use Rattle.ft_arena.specs.declared.nodes.Node.{Node}
 use Rattle.ft_arena.specs.declared.nodes.Node.TheVariants.{Leaf, Block}
+use Rattle.ft_arena.specs.declared.links.Links.{Links}
+use Rattle.ft_arena.specs.Links.{links_under, with_next, with_prev, end_with, slot_of, slots_of}
 use Rattle.ft_arena.specs.Ids.{without}
 use Rattle.ft_arena.specs.Forest.{Forest, Entry, Changes, count_some, leaf_of_entry, kids_of_entry, parent_of_entry, entry, leaf_of_node, kids_of_node}
-use Rattle.ft_arena.specs.Links.{IsChain, entries_of, entry_of, leaves_of, live_of, next_of, prev_of, nodes_of, SetsNext, SetsPrev, next_of_slot, prev_of_slot, HasPlace}
-use Rattle.ft_arena.proofs.ArenaLemmas.{entries_at}
+use Rattle.ft_arena.specs.Links.{IsChain, entries_of, entry_of, leaves_of, live_of, next_of, prev_of, nodes_of, next_of_slot, prev_of_slot, HasPlace}
+use Rattle.ft_arena.proofs.ArenaLemmas.{SetsNext, SetsPrev, entries_at}
 use Rattle.ft_arena.proofs.KidLemmas.{kept}
+use Rattle.ft_arena.proofs.SlotLemmas.{node_place, found_slot, slots-updates, slots_next, slots_prev, length-with_next, length-with_prev}
 use Rattle.ft_arena.proofs.HookLemmas.{IsLinked, unhooked, next_apart, linked_from, leaves_from, sound_from, placed}
 
 no_kids : {L B : Type 0} (o : Option (Entry L B)) → count_some (leaf_of_entry o) ≡ 1 → kids_of_entry o ≡ []
@@ -81,3 +84,44 @@ module _ {L B : Type 0} (s0 s1 s2 s3 : Slab (Slot L B)) (h0 t0 h2 t3 : Option �
           let was : entry a id ≡ Some (entry_of slot) = entries_at s0 id ∙ ap (option_map entry_of) found in
           sound_from s0 s3 h0 t0 h2 t3 _ sound links (kept kids_of_entry a b id None unlinked_changes (sym (no_kids (entry a id) leaf)))
           (kept parent_of_entry a b id None unlinked_changes (sym alone ∙ sym (ap parent_of_entry was)))
+
+-- the same of nodes and the links beside them
+module _ {L B : Type 0} (n0 n1 : Slab (Node L B)) (l0 : List Links) (h0 t0 : Option ℕ) (id : ℕ) (node : Node L B) (links : Links)
+    (sound : IsChain record { slots = slots_of n0 l0; head = h0; tail = t0 }) (found : get n0 id ≡ Some node) (read : links ≡ links_under l0 id)
+    (leaf : live_of (entries_of (slots_of n0 l0)) (Some id) ≡ 1) (gone : Updates n0 n1 id None) (long : length l0 ≡ length n1.slots) where
+  pub found_links : get (slots_of n0 l0) id ≡ Some (slot_of node links)
+  found_links = found_slot n0 l0 id node found ∙ ap (λ l. Some (slot_of node l)) (sym read)
+
+  ups : Updates (slots_of n0 l0) (slots_of n1 l0) id None
+  ups = slots-updates n0 n1 l0 l0 id None (links_under l0 id) gone refl (λ x d. refl)
+
+  pub prev_has_node : HasPlace n1 links.prev
+  prev_has_node = node_place n1 l0 links.prev
+      (prev_has_place (slots_of n0 l0) (slots_of n1 l0) (slots_of n1 l0) (slots_of n1 l0) h0 t0 h0 t0 id (slot_of node links) sound found_links leaf ups)
+
+  module _ (l2 : List Links) (h2 : Option ℕ) (first : l2 ≡ with_next l0 links.prev links.next) (head : h2 ≡ end_with h0 links.prev links.next) where
+    nx : SetsNext (slots_of n1 l0) h0 (slots_of n1 l2) h2 links.prev links.next
+    nx = slots_next n1 l0 l2 h0 h2 links.prev links.next long prev_has_node first head
+
+    pub long2 : length l2 ≡ length n1.slots
+    long2 = ap length first ∙ length-with_next l0 links.prev links.next ∙ long
+
+    pub next_has_node : HasPlace n1 links.next
+    next_has_node = node_place n1 l2 links.next
+        (next_has_place (slots_of n0 l0) (slots_of n1 l0) (slots_of n1 l2) (slots_of n1 l2) h0 t0 h2 t0 id (slot_of node links) sound found_links leaf ups nx)
+
+    module _ (l3 : List Links) (t3 : Option ℕ) (second : l3 ≡ with_prev l2 links.next links.prev) (tail : t3 ≡ end_with t0 links.next links.prev) where
+      pv : SetsPrev (slots_of n1 l2) t0 (slots_of n1 l3) t3 links.next links.prev
+      pv = slots_prev n1 l2 l3 t0 t3 links.next links.prev long2 next_has_node second tail
+
+      pub unhooked_length : length l3 ≡ length n1.slots
+      unhooked_length = ap length second ∙ length-with_prev l2 links.next links.prev ∙ long2
+
+      pub unhooked_changes : Changes (nodes_of record { slots = slots_of n0 l0; head = h0; tail = t0 }) (nodes_of record { slots = slots_of n1 l3; head = h2; tail = t3 }) id None
+      unhooked_changes = unlinked_changes (slots_of n0 l0) (slots_of n1 l0) (slots_of n1 l2) (slots_of n1 l3) h0 t0 h2 t3 id (slot_of node links) sound found_links leaf ups nx pv
+
+      pub unhooked_leaves : leaves_of (slots_of n1 l3) h2 ≡ without (leaves_of (slots_of n0 l0) h0) id
+      unhooked_leaves = unlinked_leaves (slots_of n0 l0) (slots_of n1 l0) (slots_of n1 l2) (slots_of n1 l3) h0 t0 h2 t3 id (slot_of node links) sound found_links leaf ups nx pv
+
+      pub unhooked_sound : links.parent ≡ None → IsChain record { slots = slots_of n1 l3; head = h2; tail = t3 }
+      unhooked_sound = unlinked_sound (slots_of n0 l0) (slots_of n1 l0) (slots_of n1 l2) (slots_of n1 l3) h0 t0 h2 t3 id (slot_of node links) sound found_links leaf ups nx pv

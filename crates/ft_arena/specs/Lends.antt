@@ -4,10 +4,8 @@ use Rattle.std.specs.Borrow.{Lends, Fml, RattleType, MutBor}
 use Rattle.slab.specs.Slab.{Slab, with_value}
 use Rattle.ft_arena.specs.Forest.{Forest, with_leaf, with_block, kids_of_node}
 use Rattle.ft_arena.specs.contracts.arena.Arena as arena
-use Rattle.ft_arena.specs.contracts.nodes.Slot as slot
 use Rattle.ft_arena.specs.contracts.nodes.Node as node
 use Rattle.ft_arena.specs.contracts.slots.Slots as slots
-use Rattle.ft_arena.specs.declared.nodes.Slot.{Slot}
 use Rattle.ft_arena.specs.declared.nodes.Node.{Node}
 use Rattle.ft_arena.specs.declared.nodes.Node.TheVariants.{Leaf, Block}
 
@@ -15,17 +13,11 @@ module _ (L B : RattleType) where
   abbrev pub lends_leaf : MutBor (Forest L.Denot B.Denot) → ℕ → MutBor L.Denot → Fml
   lends_leaf s id r = Lends (arena.the_row L B) L s r (with_leaf s.now id)
 
-  abbrev pub lends_slot_leaf : MutBor (Slot L.Denot B.Denot) → MutBor L.Denot → Fml
-  lends_slot_leaf s r = Lends (slot.the_row L B) L s r (λ w. record { node = Leaf w; parent = s.now.parent; prev = s.now.prev; next = s.now.next })
-
   abbrev pub lends_node_leaf : MutBor (Node L.Denot B.Denot) → MutBor L.Denot → Fml
   lends_node_leaf s r = Lends (node.the_row L B) L s r Leaf
 
   abbrev pub lends_block : MutBor (Forest L.Denot B.Denot) → ℕ → MutBor B.Denot → Fml
   lends_block s id r = Lends (arena.the_row L B) B s r (with_block s.now id)
-
-  abbrev pub lends_slot_block : MutBor (Slot L.Denot B.Denot) → MutBor B.Denot → Fml
-  lends_slot_block s r = Lends (slot.the_row L B) B s r (λ w. record { node = Block (kids_of_node s.now.node) w; parent = s.now.parent; prev = s.now.prev; next = s.now.next })
 
   abbrev pub lends_node_block : MutBor (Node L.Denot B.Denot) → MutBor B.Denot → Fml
   lends_node_block s r = Lends (node.the_row L B) B s r (λ w. Block (kids_of_node s.now) w)

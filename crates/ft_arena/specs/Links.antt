@@ -1,11 +1,88 @@
--- How an `Arena` keeps its list of leaves. No public clause cites this module.
-use Rattle.std.specs.Prelude.{◌≡◌, ◌≢◌, ℕ, zero, suc, ◌-◌, ◌≤◌, List, [], ◌∷◌, map, length, Option, Some, None, option_map, slice_index_or}
+-- How an `Arena` keeps its nodes, their links and its list of leaves. No public clause cites this module.
+use Rattle.std.specs.Prelude.{◌≡◌, ◌≢◌, ℕ, zero, suc, ◌+◌, ◌-◌, ◌<◌, ◌≤◌, List, []}
+use Rattle.std.specs.Prelude.{◌∷◌, map, length, max, Option, Some, None, option_map, slice_index_or, slice_set, vec_capacity}
 use Rattle.slab.specs.Slab.{Slab, get, slab_len, ContainsKey}
-use Rattle.ft_arena.specs.declared.nodes.Slot.{Slot}
+use Rattle.ft_arena.specs.declared.nodes.Node.{Node}
+use Rattle.ft_arena.specs.declared.links.Links.{Links}
 use Rattle.ft_arena.specs.Forest.{Forest, Entry, IsForest, count_some, leaf_of_entry}
 use Rattle.ft_arena.specs.declared.arena.Arena.TheInside.{Inside}
 
+-- links to nothing
+abbrev pub no_links : Links
+no_links = record { parent = None; prev = None; next = None }
+
+-- the links under a number
+abbrev pub links_under : List Links → ℕ → Links
+links_under ls id = slice_index_or ls id no_links
+
+-- the number has these links, and every other keeps what it had
+pub record PutsLinks (old new : List Links) (id : ℕ) (to : Links) : Type 0 where
+  pub changed : links_under new id ≡ to
+  pub others : (other : ℕ) → other ≢ id → links_under new other ≡ links_under old other
+  pub grown : length new ≡ max (length old) (id + 1)
+
+abbrev pub next_changed : Links → Option ℕ → Links
+next_changed l to = record { parent = l.parent; prev = l.prev; next = to }
+
+abbrev pub prev_changed : Links → Option ℕ → Links
+prev_changed l to = record { parent = l.parent; prev = to; next = l.next }
+
+abbrev pub parent_changed : Links → Option ℕ → Links
+parent_changed l to = record { parent = to; prev = l.prev; next = l.next }
+
+-- the links after a write of what follows a place, or stands before it
+abbrev pub with_next : List Links → Option ℕ → Option ℕ → List Links
+with_next ls None to = ls
+with_next ls (Some id) to = slice_set ls id (next_changed (links_under ls id) to)
+
+abbrev pub with_prev : List Links → Option ℕ → Option ℕ → List Links
+with_prev ls None to = ls
+with_prev ls (Some id) to = slice_set ls id (prev_changed (links_under ls id) to)
+
+-- the first leaf after a write of what follows a place, or the last one after a write of what stands before it
+abbrev pub end_with : Option ℕ → Option ℕ → Option ℕ → Option ℕ
+end_with end None to = to
+end_with end (Some id) to = end
+
+-- what follows a place by the links; the first leaf follows none
+abbrev pub next_in : List Links → Option ℕ → Option ℕ → Option ℕ
+next_in ls head None = head
+next_in ls head (Some id) = (links_under ls id).next
+
+-- the place is None or one of so many numbers
+abbrev pub IsWithin : ℕ → Option ℕ → Type 0
+IsWithin n None = Unit {0}
+IsWithin n (Some id) = id < n
+
+-- the place is None or has a value
+abbrev pub HasPlace : {T : Type 0} → Slab T → Option ℕ → Type 0
+HasPlace s None = Unit {0}
+HasPlace s (Some id) = ContainsKey s id
+
+-- a node with its links
+pub record Slot (L B : Type 0) : Type 0 where
+  pub node : Node L B
+  pub parent : Option ℕ
+  pub prev : Option ℕ
+  pub next : Option ℕ
+
 module _ {L B : Type 0} where
+  abbrev pub slot_of : Node L B → Links → Slot L B
+  slot_of n l = record { node = n; parent = l.parent; prev = l.prev; next = l.next }
+
+  abbrev pub slot_at : Option (Node L B) → Links → Option (Slot L B)
+  slot_at None l = None
+  slot_at (Some n) l = Some (slot_of n l)
+
+  -- each node with the links at its number
+  abbrev pub zipped : List (Option (Node L B)) → List Links → List (Option (Slot L B))
+  zipped [] ls = []
+  zipped (n ∷ ns) [] = slot_at n no_links ∷ zipped ns []
+  zipped (n ∷ ns) (l ∷ ls) = slot_at n l ∷ zipped ns ls
+
+  abbrev pub slots_of : Slab (Node L B) → List Links → Slab (Slot L B)
+  slots_of s ls = record { slots = zipped s.slots ls; vacant_key = s.vacant_key; capacity = s.capacity }
+
   abbrev pub entry_of : Slot L B → Entry L B
   entry_of slot = record { node = slot.node; parent = slot.parent }
 
@@ -80,34 +157,17 @@ module _ {L B : Type 0} where
   IsChain a = AreLinks a.slots a.head a.tail × IsForest (nodes_of a)
 
   abbrev pub chain_of : Inside L B → Chain L B
-  chain_of a = record { slots = a.slots; head = a.head; tail = a.tail }
+  chain_of a = record { slots = slots_of a.nodes a.links.items; head = a.head; tail = a.tail }
 
   abbrev pub view_of : Inside L B → Forest L B
   view_of a = forest_of (chain_of a) a.spare
 
-  -- the leaves are a chain, and the slots have room for as many nodes as are spare
+  -- there are links for so many numbers as nodes have, and both have room for so many nodes more
+  pub record HaveRoom (nodes : Slab (Node L B)) (numbers capacity spare : ℕ) : Type 0 where
+    pub numbered : numbers ≡ length nodes.slots
+    pub nodes_fit : spare ≤ nodes.capacity - slab_len nodes
+    pub links_fit : slab_len nodes + spare ≤ capacity
+
+  -- the leaves are a chain, and there is room for as many nodes as are spare
   abbrev pub IsSound : Inside L B → Type 0
-  IsSound a = IsChain (chain_of a) × (a.spare ≤ a.slots.capacity - slab_len a.slots)
-
-  -- the one place has this next, and nothing else changes
-  pub record SetsNext (old : Slab (Slot L B)) (old_head : Option ℕ) (new : Slab (Slot L B)) (new_head at to : Option ℕ) : Type 0 where
-    pub changed : next_of new new_head at ≡ to
-    pub others : (p : Option ℕ) → p ≢ at → next_of new new_head p ≡ next_of old old_head p
-    pub prevs : (tail p : Option ℕ) → prev_of new tail p ≡ prev_of old tail p
-    pub entries : entries_of new ≡ entries_of old
-    pub len : slab_len new ≡ slab_len old
-    pub capacity : new.capacity ≡ old.capacity
-
-  -- the one place has this prev, and nothing else changes
-  pub record SetsPrev (old : Slab (Slot L B)) (old_tail : Option ℕ) (new : Slab (Slot L B)) (new_tail at to : Option ℕ) : Type 0 where
-    pub changed : prev_of new new_tail at ≡ to
-    pub others : (p : Option ℕ) → p ≢ at → prev_of new new_tail p ≡ prev_of old old_tail p
-    pub nexts : (head p : Option ℕ) → next_of new head p ≡ next_of old head p
-    pub entries : entries_of new ≡ entries_of old
-    pub len : slab_len new ≡ slab_len old
-    pub capacity : new.capacity ≡ old.capacity
-
-  -- the place is None or has a slot
-  abbrev pub HasPlace : Slab (Slot L B) → Option ℕ → Type 0
-  HasPlace s None = Unit {0}
-  HasPlace s (Some id) = ContainsKey s id
+  IsSound a = IsChain (chain_of a) × HaveRoom a.nodes (length a.links.items) (vec_capacity a.links) a.spare

@@ -1,12 +1,14 @@
 //! The arena itself: leaves in one list, and blocks with children, each node under a number.
 
-ghost use Rattle.std.specs.Prelude.{◌≡◌, ◌≢◌, ℕ, ◌+◌, ◌^◌, ◌<◌, ◌≤◌, [], length, Some, None, OnOk, OnErr, IsSome, MatchOption, slice_get};
+ghost use Rattle.std.specs.Prelude.{◌≡◌, ◌≢◌, ℕ, ◌+◌, ◌^◌, ◌<◌, ◌≤◌, [], length, Some, None, OnOk, OnErr, IsSome, MatchOption, slice_get, vec_capacity};
 ghost use Rattle.std.specs.Borrow.{sem};
 ghost use Rattle.ft_arena.specs.Forest.{Forest, IsForest, Changes, IsPlace, entry, leaf_value, block_value, parent_of, kids_of, PutsChild, TakesChild};
+ghost use Rattle.slab.specs.Slab.{get, ContainsKey, Updates};
+ghost use Rattle.ft_arena.specs.Links.{HaveRoom, slots_of, slot_of};
 ghost use Rattle.ft_arena.specs.Ids.{put_after, without, first, after};
 
-use crate::links::{next_at, raw, set_next, set_prev, wrap};
-use crate::nodes::{Node, Slot};
+use crate::links::{Links, next_at, put_links, raw, set_next, set_prev, wrap};
+use crate::nodes::Node;
 use crate::numbers::{Kids, Link, NodeId};
 use crate::slots::Slots;
 use ft_base::{OutOfMemory, Steps};
@@ -17,9 +19,14 @@ use std::sync::ledger::Ledger;
 /// Nodes by number: leaves, which stand in one list, and blocks, which have children. A contract sees
 /// the list of leaves from first to last, the node and its parent at each number, and how many nodes
 /// may be made before memory is needed again. There are at most `MOST_SLOTS` nodes at a time.
+///
+/// The links of the nodes stand in a list of their own, under the same numbers. A walk along links then
+/// reads nothing of a node, and what it reads is small enough to stay in a processor's cache.
 #[derive(Drop)]
 pub struct Arena<L, B> {
-    slots: Slots<Slot<L, B>>,
+    nodes: Slots<Node<L, B>>,
+    // at the number of each node its links
+    links: Vec<Links>,
     head: Link,
     tail: Link,
     spare: usize,
@@ -47,7 +54,8 @@ impl<L, B> Arena<L, B> {
         ensures sound { IsForest result }
     {
         Arena {
-            slots: Slots::new(alloc),
+            nodes: Slots::new(alloc),
+            links: Vec::new(alloc),
             head: Link::NONE,
             tail: Link::NONE,
             spare: 0,
@@ -64,7 +72,9 @@ impl<L, B> Arena<L, B> {
         ensures kept { self.new ≡ record self.old { spare = self.new.spare } }
         ensures err { OnErr result (self.new ≡ self.old) }
     {
-        self.slots.reserve(n)?;
+        self.nodes.reserve(n)?;
+        let free = self.nodes.free();
+        self.links.reserve(n.saturating_sub(free))?;
         self.spare = self.spare.max(n);
         Ok(())
     }
@@ -79,19 +89,23 @@ impl<L, B> Arena<L, B> {
         ensures spare { self.old.spare ≡ self.new.spare + 1 }
         ensures sound { IsForest self.new }
     {
-        let at = raw(&self.slots, at);
-        let next = next_at(&self.slots, self.head, at);
-        let slot = Slot {
-            node: Node::Leaf { value: leaf },
+        let at = raw(&self.nodes, at);
+        let next = next_at(&self.links, self.head, at);
+        let links = Links {
             parent: Link::NONE,
             prev: at,
             next,
         };
-        let id = self.slots.insert_reserved(slot);
+        let id = insert(
+            &mut self.nodes,
+            &mut self.links,
+            Node::Leaf { value: leaf },
+            links,
+        );
         self.spare -= 1;
-        let here = raw(&self.slots, Some(NodeId(id)));
-        set_next(&mut self.slots, &mut self.head, at, here);
-        set_prev(&mut self.slots, &mut self.tail, next, here);
+        let here = raw(&self.nodes, Some(NodeId(id)));
+        set_next(&mut self.links, &mut self.head, at, here);
+        set_prev(&mut self.links, &mut self.tail, next, here);
         NodeId(id)
     }
 
@@ -105,15 +119,10 @@ impl<L, B> Arena<L, B> {
         ensures spare { self.new.spare ≡ self.old.spare }
         ensures sound { IsForest self.new }
     {
-        let slot = self.slots.remove(id.0);
-        let Slot {
-            node,
-            parent: _,
-            prev: before,
-            next: after,
-        } = slot;
-        set_next(&mut self.slots, &mut self.head, before, after);
-        set_prev(&mut self.slots, &mut self.tail, after, before);
+        let links = self.links[id.0];
+        let node = self.nodes.remove(id.0);
+        set_next(&mut self.links, &mut self.head, links.prev, links.next);
+        set_prev(&mut self.links, &mut self.tail, links.next, links.prev);
         node.into_leaf()
     }
 
@@ -127,18 +136,19 @@ impl<L, B> Arena<L, B> {
         ensures spare { self.new.spare ≡ self.old.spare }
         ensures sound { IsForest self.new }
     {
-        let at = raw(&self.slots, at);
+        let at = raw(&self.nodes, at);
         let id = id.0;
-        let here = raw(&self.slots, Some(NodeId(id)));
-        let prev = self.slots[id].prev;
-        let next = self.slots[id].next;
-        set_next(&mut self.slots, &mut self.head, prev, next);
-        set_prev(&mut self.slots, &mut self.tail, next, prev);
-        let after = next_at(&self.slots, self.head, at);
-        set_next(&mut self.slots, &mut self.head, here, after);
-        set_prev(&mut self.slots, &mut self.tail, here, at);
-        set_next(&mut self.slots, &mut self.head, at, here);
-        set_prev(&mut self.slots, &mut self.tail, after, here);
+        let here = raw(&self.nodes, Some(NodeId(id)));
+        let links = self.links[id];
+        let prev = links.prev;
+        let next = links.next;
+        set_next(&mut self.links, &mut self.head, prev, next);
+        set_prev(&mut self.links, &mut self.tail, next, prev);
+        let after = next_at(&self.links, self.head, at);
+        set_next(&mut self.links, &mut self.head, here, after);
+        set_prev(&mut self.links, &mut self.tail, here, at);
+        set_next(&mut self.links, &mut self.head, at, here);
+        set_prev(&mut self.links, &mut self.tail, after, here);
     }
 
     /// Takes a block without children and parent out, and returns its value.
@@ -152,13 +162,7 @@ impl<L, B> Arena<L, B> {
         ensures spare { self.new.spare ≡ self.old.spare }
         ensures sound { IsForest self.new }
     {
-        let slot = self.slots.remove(id.0);
-        let Slot {
-            node,
-            parent: _,
-            prev: _,
-            next: _,
-        } = slot;
+        let node = self.nodes.remove(id.0);
         node.into_block()
     }
 
@@ -168,8 +172,8 @@ impl<L, B> Arena<L, B> {
         ensures sound { IsForest self.now }
         ensures few { length self.now.leaves < 2 ^ 64 }
     {
-        // That there are few slots is read off its contract.
-        let _capacity = self.slots.capacity();
+        // That there are few nodes is read off its contract.
+        let _capacity = self.nodes.capacity();
         wrap(self.head)
     }
 
@@ -178,7 +182,7 @@ impl<L, B> Arena<L, B> {
         requires { IsSome (leaf_value self.now id) }
         ensures { result ≡ after self.now.leaves id }
     {
-        wrap(self.slots[id.0].next)
+        wrap(self.links[id.0].next)
     }
 
     /// The leaf before this one: None exactly where it is the first.
@@ -186,7 +190,7 @@ impl<L, B> Arena<L, B> {
         requires { IsSome (leaf_value self.now id) }
         ensures { MatchOption result (first self.now.leaves ≡ Some id) (λ p. after self.now.leaves p ≡ Some id) }
     {
-        wrap(self.slots[id.0].prev)
+        wrap(self.links[id.0].prev)
     }
 
     /// Makes a block without children and parent.
@@ -198,16 +202,16 @@ impl<L, B> Arena<L, B> {
         ensures spare { self.old.spare ≡ self.new.spare + 1 }
         ensures sound { IsForest self.new }
     {
-        let slot = Slot {
-            node: Node::Block {
-                kids: Kids::new(),
-                value,
-            },
+        let node = Node::Block {
+            kids: Kids::new(),
+            value,
+        };
+        let links = Links {
             parent: Link::NONE,
             prev: Link::NONE,
             next: Link::NONE,
         };
-        let id = self.slots.insert_reserved(slot);
+        let id = insert(&mut self.nodes, &mut self.links, node, links);
         self.spare -= 1;
         NodeId(id)
     }
@@ -226,12 +230,10 @@ impl<L, B> Arena<L, B> {
         ensures sound { IsForest self.new }
     {
         // That the child's number fits into 32 bits is read off its contract.
-        let _capacity = self.slots.capacity();
-        let parent = raw(&self.slots, Some(block));
-        let slot = &mut self.slots[block.0];
-        slot.node.put_kid(at, child.0);
-        let slot = &mut self.slots[child.0];
-        slot.parent = parent;
+        let _capacity = self.nodes.capacity();
+        let parent = raw(&self.nodes, Some(block));
+        self.nodes[block.0].put_kid(at, child.0);
+        self.links[child.0].parent = parent;
     }
 
     /// Takes the child at this place out of the block's children, after which it has no parent.
@@ -243,10 +245,8 @@ impl<L, B> Arena<L, B> {
         ensures spare { self.new.spare ≡ self.old.spare }
         ensures sound { IsForest self.new }
     {
-        let slot = &mut self.slots[block.0];
-        let child = slot.node.take_kid(at);
-        let slot = &mut self.slots[child];
-        slot.parent = Link::NONE;
+        let child = self.nodes[block.0].take_kid(at);
+        self.links[child].parent = Link::NONE;
         NodeId(child)
     }
 
@@ -255,7 +255,7 @@ impl<L, B> Arena<L, B> {
         requires { IsSome (entry self.now id) }
         ensures { result ≡ parent_of self.now id }
     {
-        wrap(self.slots[id.0].parent)
+        wrap(self.links[id.0].parent)
     }
 
     /// The node, with its value and children, for one step.
@@ -265,7 +265,7 @@ impl<L, B> Arena<L, B> {
         ensures tick { steps.new ≡ steps.old + 1 }
     {
         steps.tick();
-        &self.slots[id.0].node
+        &self.nodes[id.0]
     }
 
     /// The value of a leaf, for writing.
@@ -274,8 +274,7 @@ impl<L, B> Arena<L, B> {
         ensures* writes_back { sem 𝓛 (lends_leaf L.row B.row self.entry id result) }
         ensures value { leaf_value self.old id ≡ Some result.now }
     {
-        let slot = &mut self.slots[id.0];
-        slot.leaf_mut()
+        self.nodes[id.0].leaf_mut()
     }
 
     /// The value of a block, for writing.
@@ -284,7 +283,25 @@ impl<L, B> Arena<L, B> {
         ensures* writes_back { sem 𝓛 (lends_block L.row B.row self.entry id result) }
         ensures value { block_value self.old id ≡ Some result.now }
     {
-        let slot = &mut self.slots[id.0];
-        slot.block_mut()
+        self.nodes[id.0].block_mut()
     }
+}
+
+// Puts a node and its links under a number that has none.
+fn insert<L, B>(
+    nodes: &mut Slots<Node<L, B>>,
+    links: &mut Vec<Links>,
+    node: Node<L, B>,
+    to: Links,
+) -> usize
+    requires { HaveRoom nodes.old (length links.old.items) (vec_capacity links.old) 1 }
+    ensures was_vacant { get nodes.old result ≡ None }
+    ensures updates { Updates (slots_of nodes.old links.old.items) (slots_of nodes.new links.new.items) result (Some (slot_of node to)) }
+    ensures there { ContainsKey nodes.new result }
+    ensures others { (other : ℕ) → ContainsKey nodes.old other → ContainsKey nodes.new other }
+    ensures room { (n : ℕ) → HaveRoom nodes.old (length links.old.items) (vec_capacity links.old) (n + 1) → HaveRoom nodes.new (length links.new.items) (vec_capacity links.new) n }
+{
+    let id = nodes.insert_reserved(node);
+    put_links(links, id, to);
+    id
 }

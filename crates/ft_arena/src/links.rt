@@ -1,12 +1,22 @@
-//! The links between leaves. In each function `None` is the place before the first leaf and after
-//! the last, and `head` and `tail` are what that place leads to.
+//! The links of the nodes, in a list apart from them: whoever walks along links, up to the blocks above
+//! or from leaf to leaf, reads twelve bytes of each node that it passes. In the functions on leaves `None`
+//! is the place before the first leaf and after the last, and `head` and `tail` are what that place leads to.
 
-ghost use Rattle.std.specs.Prelude.{◌≡◌};
-ghost use Rattle.ft_arena.specs.Links.{HasPlace, SetsNext, SetsPrev, next_of};
+ghost use Rattle.std.specs.Prelude.{◌≡◌, ◌<◌, ◌≤◌, length, vec_capacity};
+ghost use Rattle.ft_arena.specs.Links.{HasPlace, IsWithin, PutsLinks, with_next, with_prev, end_with, next_in};
 
-use crate::nodes::Slot;
+use crate::nodes::Node;
 use crate::numbers::{Link, NodeId};
 use crate::slots::Slots;
+
+// The links of a node: to its parent, and those of a leaf to the leaves beside it; a block has none of these.
+// The links of a number without a node say nothing.
+#[derive(Clone, Copy, Drop)]
+pub(crate) struct Links {
+    pub(crate) parent: Link,
+    pub(crate) prev: Link,
+    pub(crate) next: Link,
+}
 
 // The node that is linked.
 pub(crate) fn wrap(at: Link) -> Option<NodeId>
@@ -19,47 +29,65 @@ pub(crate) fn wrap(at: Link) -> Option<NodeId>
 }
 
 // The link to a node.
-pub(crate) fn raw<L, B>(slots: &Slots<Slot<L, B>>, at: Option<NodeId>) -> Link
-    requires { HasPlace slots.now at }
+pub(crate) fn raw<L, B>(nodes: &Slots<Node<L, B>>, at: Option<NodeId>) -> Link
+    requires { HasPlace nodes.now at }
     ensures { result ≡ at }
 {
-    // That there are few slots is read off its contract.
-    let _capacity = slots.capacity();
+    // That there are few nodes is read off its contract.
+    let _capacity = nodes.capacity();
     match at {
         Some(id) => Link::to(id.0),
         None => Link::NONE,
     }
 }
 
+// Writes the links of a number: of one that has some, or of the first without, for which there is room.
+pub(crate) fn put_links(links: &mut Vec<Links>, id: usize, to: Links)
+    requires within { id ≤ length links.old.items }
+    requires room { id ≡ length links.old.items → id < vec_capacity links.old }
+    ensures puts { PutsLinks links.old.items links.new.items id to }
+    ensures capacity { vec_capacity links.new ≡ vec_capacity links.old }
+{
+    if id == links.len() {
+        links.push_reserved(to);
+    } else {
+        links[id] = to;
+    }
+}
+
 // The leaf that follows this place.
-pub(crate) fn next_at<L, B>(slots: &Slots<Slot<L, B>>, head: Link, at: Link) -> Link
-    requires { HasPlace slots.now at }
-    ensures { result ≡ next_of slots.now head at }
+pub(crate) fn next_at(links: &Vec<Links>, head: Link, at: Link) -> Link
+    requires { IsWithin (length links.now.items) at }
+    ensures { result ≡ next_in links.now.items head at }
 {
     match at.get() {
-        Some(id) => slots[id].next,
+        Some(id) => links[id].next,
         None => head,
     }
 }
 
 // Writes what follows this leaf, or which leaf is the first.
-pub(crate) fn set_next<L, B>(slots: &mut Slots<Slot<L, B>>, head: &mut Link, at: Link, to: Link)
-    requires { HasPlace slots.old at }
-    ensures { SetsNext slots.old head.old slots.new head.new at to }
+pub(crate) fn set_next(links: &mut Vec<Links>, head: &mut Link, at: Link, to: Link)
+    requires { IsWithin (length links.old.items) at }
+    ensures links { links.new.items ≡ with_next links.old.items at to }
+    ensures head { head.new ≡ end_with head.old at to }
+    ensures capacity { vec_capacity links.new ≡ vec_capacity links.old }
 {
     match at.get() {
-        Some(id) => slots[id].next = to,
+        Some(id) => links[id].next = to,
         None => *head = to,
     }
 }
 
 // Writes what stands before this leaf, or which leaf is the last.
-pub(crate) fn set_prev<L, B>(slots: &mut Slots<Slot<L, B>>, tail: &mut Link, at: Link, to: Link)
-    requires { HasPlace slots.old at }
-    ensures { SetsPrev slots.old tail.old slots.new tail.new at to }
+pub(crate) fn set_prev(links: &mut Vec<Links>, tail: &mut Link, at: Link, to: Link)
+    requires { IsWithin (length links.old.items) at }
+    ensures links { links.new.items ≡ with_prev links.old.items at to }
+    ensures tail { tail.new ≡ end_with tail.old at to }
+    ensures capacity { vec_capacity links.new ≡ vec_capacity links.old }
 {
     match at.get() {
-        Some(id) => slots[id].prev = to,
+        Some(id) => links[id].prev = to,
         None => *tail = to,
     }
 }

@@ -1,10 +1,10 @@
-//! A node of an arena, and the slot that holds it.
+//! A node of an arena. Its links stand apart from it, in `links.rt`.
 
 ghost use Rattle.std.specs.Prelude.{◌≡◌, ◌^◌, ◌<◌, ◌≤◌, length, IsSome, Some, slice_get, insert, remove};
 ghost use Rattle.std.specs.Borrow.{sem};
 ghost use Rattle.ft_arena.specs.Forest.{leaf_of_node, block_of_node, kids_of_node, with_kids};
 
-use crate::numbers::{Kids, Link};
+use crate::numbers::Kids;
 
 /// A node of a tree.
 #[derive(Drop)]
@@ -13,35 +13,6 @@ pub enum Node<L, B> {
     Leaf { value: L },
     /// A block of at most eight nodes, with its value.
     Block { kids: Kids, value: B },
-}
-
-/// A node with its links. `prev` and `next` are those of a leaf; a block has none.
-#[derive(Drop)]
-pub(crate) struct Slot<L, B> {
-    pub(crate) node: Node<L, B>,
-    pub(crate) parent: Link,
-    pub(crate) prev: Link,
-    pub(crate) next: Link,
-}
-
-impl<L, B> Slot<L, B> {
-    ghost use Rattle.ft_arena.specs.Lends.{lends_slot_leaf, lends_slot_block};
-
-    pub(crate) fn leaf_mut(&mut self) -> &mut L
-        requires { IsSome (leaf_of_node self.old.node) }
-        ensures* writes_back { sem 𝓛 (lends_slot_leaf L.row B.row self.entry result) }
-        ensures value { leaf_of_node self.old.node ≡ Some result.now }
-    {
-        self.node.leaf_mut()
-    }
-
-    pub(crate) fn block_mut(&mut self) -> &mut B
-        requires { IsSome (block_of_node self.old.node) }
-        ensures* writes_back { sem 𝓛 (lends_slot_block L.row B.row self.entry result) }
-        ensures value { block_of_node self.old.node ≡ Some result.now }
-    {
-        self.node.block_mut()
-    }
 }
 
 impl<L, B> Node<L, B> {

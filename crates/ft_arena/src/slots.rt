@@ -1,6 +1,6 @@
 //! Values by number, of which there are few enough that a link of 32 bits can hold each number.
 
-ghost use Rattle.std.specs.Prelude.{◌≡◌, ◌+◌, ◌^◌, ◌<◌, ◌≤◌, [], length, IsSome, OnOk, OnErr, Some, None};
+ghost use Rattle.std.specs.Prelude.{◌≡◌, ◌+◌, ◌^◌, ◌<◌, ◌≤◌, [], length, max, IsSome, OnOk, OnErr, Some, None};
 ghost use Rattle.std.specs.Borrow.{Lends, sem};
 ghost use Rattle.slab.specs.Slab.{get, ContainsKey, slab_len, HasRoomFor, Updates};
 ghost use Rattle.ft_arena.specs.Seats.{value_of_seat};
@@ -109,9 +109,16 @@ impl<T> Slots<T> {
         if additional > MOST_SLOTS - self.len {
             return Err(OutOfMemory);
         }
-        let free = self.seats.len() - self.len;
+        let free = self.free();
         self.seats.reserve(additional.saturating_sub(free))?;
         Ok(())
+    }
+
+    // How many numbers have no value, of those that had one before.
+    pub(crate) fn free(&self) -> usize
+        ensures { result + slab_len self.now ≡ length self.now.slots }
+    {
+        self.seats.len() - self.len
     }
 
     /// Puts a value under a number that has none.
@@ -120,6 +127,9 @@ impl<T> Slots<T> {
         ensures was_vacant { get self.old result ≡ None }
         ensures updates { Updates self.old self.new result (Some value) }
         ensures len { slab_len self.new ≡ slab_len self.old + 1 }
+        ensures numbers { length self.new.slots ≡ max (length self.old.slots) (result + 1) }
+        ensures within { result ≤ length self.old.slots }
+        ensures reuses { result ≡ length self.old.slots → slab_len self.old ≡ result }
         ensures capacity { self.new.capacity ≡ self.old.capacity }
     {
         let key = self.next;
@@ -142,6 +152,7 @@ impl<T> Slots<T> {
         ensures value { get self.old key ≡ Some result }
         ensures updates { Updates self.old self.new key None }
         ensures len { slab_len self.new + 1 ≡ slab_len self.old }
+        ensures numbers { length self.new.slots ≡ length self.old.slots }
         ensures capacity { self.new.capacity ≡ self.old.capacity }
     {
         let free = Seat::Free(self.next);
