@@ -1,5 +1,5 @@
 -- What `put_child`, `take_child` and `leaf_mut` leave.
-use Rattle.std.proofs.Common.{◌-◌, IsSome, insert, remove, slice_get, ◌≡◌, ◌≢◌, ℕ, ◌<◌, ◌≤◌, List, length, set, Option, Some, None, refl, sym, ap, subst, ◌∙◌, arith}
+use Rattle.std.proofs.Common.{IsSome, insert, remove, slice_get, ◌≡◌, ◌≢◌, ℕ, ◌<◌, ◌≤◌, List, length, set, Option, Some, None, refl, sym, ap, subst, ◌∙◌, arith}
 use Rattle.std.specs.Option.{option_map}
 use Rattle.slab.specs.Slab.{Slab, get, Updates, with_value, ContainsKey}
 use Rattle.slab.proofs.SlabLemmas.{Updates-with_value}
