@@ -3,12 +3,11 @@
 ghost use Rattle.std.specs.Prelude.{◌≡◌, ℕ, ◌<◌, ◌≤◌, ◌^◌, List, [], ◌++◌, IfOk, OnOk, OnErr};
 ghost use Rattle.ft_partial.specs.Entries.{AddsEntries, IsRising};
 ghost use Rattle.ft_partial.specs.Items.{Item, length_seen};
-ghost use Rattle.ft_partial.specs.SameStamps.{ExchangesItem};
-ghost use Rattle.ft_partial.specs.Tables.{length_at, CountsItems, Exchanges, AddsAll, AddsChange};
+ghost use Rattle.ft_partial.specs.Tables.{length_at, CountsItems, AddsAll, AddsChange};
 
 use crate::changes::Change;
 use crate::entries::{Entry, add_entries, drop_nothing, make_room, unseen};
-use ft_base::{Element, OutOfMemory, Perspective};
+use ft_base::{OutOfMemory, Perspective};
 use std::alloc::Global;
 use std::marker::Model;
 
@@ -92,27 +91,6 @@ impl Stages {
             Some(recent) => last.wrapping_add(unseen(recent.entries.as_slice(), at)),
             None => last,
         }
-    }
-
-    /// Puts `new_len` elements of the stamps `new` in the place of `len` elements of the stamps `e`,
-    /// of which the items have that many.
-    ///
-    /// Returns `OutOfMemory` where there is no room, and then the table is as it was.
-    pub fn replace(
-        &mut self,
-        e: &Element,
-        len: u64,
-        new: &Element,
-        new_len: u64,
-    ) -> Result<(), OutOfMemory>
-        ensures ok { OnOk result ((xs ys : List Item) → CountsItems self.old xs → ExchangesItem xs ys e.now len new.now new_len → CountsItems self.new ys) }
-        ensures exchanges { OnOk result (Exchanges self.old self.new e.now len new.now new_len) }
-        ensures floor { self.new.floor ≡ self.old.floor }
-        ensures low { self.old.floor ≡ 0 }
-        ensures err { OnErr result (self.new ≡ self.old) }
-    {
-        let change = Change::of(self.alloc, 0, e, len, new, new_len)?;
-        self.add_change(&change)
     }
 
     /// Adds a change.
