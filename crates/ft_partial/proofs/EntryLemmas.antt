@@ -5,7 +5,7 @@ use Rattle.std.specs.Prelude.{insert}
 use Rattle.std.proofs.Math.Seq.{drop-cons}
 use Rattle.std.proofs.lemmas.Bool.Decides.{nat_tests}
 use Rattle.ft_partial.specs.declared.entries.Entry.{Entry}
-use Rattle.ft_partial.specs.Entries.{amount, is_for, counts, share, unseen, AreUpTo, AreFrom, IsRising, IsPlace, IsAlikeAt, AddsEntry, AddsEntries, DropsOld}
+use Rattle.ft_partial.specs.Entries.{amount, is_for, counts, share, unseen, AreUpTo, AreFrom, IsRising, last_number, IsPlace, IsAlikeAt, AddsEntry, AddsEntries, DropsOld}
 
 -- a default to read lists with
 abbrev pub no_entry : Entry
@@ -189,8 +189,8 @@ adds_none old x rising e = record { rising = rising; sums = λ r c. omega (arith
 
 -- entries one after another
 pub added_none : (old more : List Entry) → IsRising old → AddsEntries old old (take 0 more)
-added_none old [] rising = record { rising = rising; sums = λ r c. omega arith }
-added_none old (x ∷ xs) rising = record { rising = rising; sums = λ r c. omega arith }
+added_none old [] rising = record { rising = rising; numbers = tt; sums = λ r c. omega arith }
+added_none old (x ∷ xs) rising = record { rising = rising; numbers = tt; sums = λ r c. omega arith }
 
 unseen-take : (r c i : ℕ) (d : Entry) (xs : List Entry) → i < length xs → unseen r c (take (i + 1) xs) ≡ unseen r c (take i xs) + share r c (get_or xs i d)
 unseen-take r c i d xs h =
@@ -206,10 +206,18 @@ unseen-take r c i d xs h =
         nothing (z ∷ zs) = refl
     go (suc i) (y ∷ ys) l = omega (arith, go i ys (omega arith))
 
-pub added_more : (old now new more : List Entry) (i : ℕ) (d : Entry) → i < length more → AddsEntries old now (take i more) → AddsEntry now new (get_or more i d)
+up_to_next : (k i : ℕ) (d : Entry) (xs : List Entry) → i < length xs → AreUpTo k (take i xs) → (get_or xs i d).seq ≤ k → AreUpTo k (take (suc i) xs)
+up_to_next k i d [] h a l = tt
+up_to_next k zero d (x ∷ xs) h a l = (l, up_to_none k xs)
+up_to_next k (suc i) d (x ∷ xs) h a l = (a.0, up_to_next k i d xs (omega arith) a.1 l)
+
+pub added_more : (old now new more : List Entry) (i : ℕ) (d : Entry) → i < length more → (get_or more i d).seq ≤ last_number → AddsEntries old now (take i more) → AddsEntry now new (get_or more i d)
     → AddsEntries old new (take (i + 1) more)
-added_more old now new more i d h before one = record {
+added_more old now new more i d h fits before one = record {
   rising = one.rising;
+  numbers =
+      let up : suc i ≡ i + 1 = omega arith in
+      subst (λ n. AreUpTo last_number (take n more)) up (up_to_next last_number i d more h before.numbers fits);
   sums = λ r c. omega (arith, before.sums r c, one.sums r c, unseen-take r c i d more h);
 }
 
@@ -278,6 +286,7 @@ pub adds_tidied : (old room now new more : List Entry) → room ≡ old → Adds
 adds_tidied old room now new more same adds drops =
     record {
       rising = drops.rising;
+      numbers = adds.numbers;
       sums = λ r c. omega (arith, ap (unseen r c) same, adds.sums r c, drops.sums r c (omega arith));
     }
 
@@ -285,5 +294,5 @@ pub drops_none : (xs : List Entry) (floor : ℕ) → IsRising xs → DropsOld xs
 drops_none xs floor rising = record { rising = rising; up_to = λ k h. h; sums = λ r c h. refl }
 
 pub added_nothing : (old entries more : List Entry) → IsRising old → old ≡ entries → length more ≡ 0 → AddsEntries entries entries more
-added_nothing old entries [] rising same none = record { rising = subst IsRising same rising; sums = λ r c. omega arith }
+added_nothing old entries [] rising same none = record { rising = subst IsRising same rising; numbers = tt; sums = λ r c. omega arith }
 added_nothing old entries (x ∷ more) rising same none = absurd (omega arith)

@@ -7,7 +7,8 @@ use Rattle.ft_base.specs.declared.stamps.Stamp.TheVariants.{Acked, Local}
 use Rattle.ft_base.specs.declared.elements.Element.{Element}
 use Rattle.ft_base.specs.Visibility.{has_occurred, is_acked, is_present, sees}
 use Rattle.ft_partial.specs.declared.entries.Entry.{Entry}
-use Rattle.ft_partial.specs.Entries.{amount, unseen, AreUpTo, AddsEntries, DropsOld}
+use Rattle.ft_partial.specs.Entries.{amount, unseen, last_number, AreUpTo, AddsEntries, DropsOld}
+use Rattle.ft_partial.specs.Stages.{AreStages}
 use Rattle.ft_partial.specs.Elements.{last_length, AddsItem}
 use Rattle.ft_partial.specs.Items.{Item, item_of, length_where, length_seen, is_at_most, folded_stamp, folded_item, folded_items}
 use Rattle.ft_partial.specs.SameStamps.{ExchangesItem, SameByStamps}
@@ -30,6 +31,20 @@ pub length_at-latest : (t : Lengths) (latest last : ℕ) (entries : List Entry) 
 unfolding length_at
 length_at-latest t latest last entries r c el ee up h fits =
     omega (arith, el, sym (ap (unseen r c) ee), unseen_none r c entries (up_to_weaker latest r entries h up))
+
+-- so does who has seen the last number that there is
+pub length_at-last : (t : Lengths) (last : ℕ) (entries : List Entry) (r c : ℕ) → last ≡ t.last → entries ≡ t.entries → AreStages entries → r ≡ last_number → last < 2 ^ 64
+    → last ≡ length_at t r c
+unfolding length_at
+length_at-last t last entries r c el ee stages is fits =
+    omega (arith, el, sym (ap (unseen r c) ee), ap (λ k. unseen k c entries) is, stages.at_last c)
+
+-- entries of stages, and more of them
+pub stages_more : (old new more : List Entry) → AreStages old → AddsEntries old new more → AreStages new
+stages_more old new more stages adds = record {
+  rising = adds.rising;
+  at_last = λ c. omega (arith, adds.sums last_number c, stages.at_last c, unseen_none last_number c more adds.numbers);
+}
 
 -- no list is seen to be longer than it is
 pub seen-le : (r c : ℕ) (xs : List Item) → length_seen r c xs ≤ length_where (λ e. true) xs

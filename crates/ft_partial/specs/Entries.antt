@@ -29,6 +29,10 @@ abbrev pub AreUpTo : ℕ → List Entry → Type 0
 AreUpTo k [] = Unit {0}
 AreUpTo k (x ∷ xs) = (x.seq ≤ k) × AreUpTo k xs
 
+-- the last number that there is
+abbrev pub last_number : ℕ
+last_number = 18446744073709551615
+
 -- no entry's number is below k
 abbrev pub AreFrom : ℕ → List Entry → Type 0
 AreFrom k [] = Unit {0}
@@ -54,9 +58,10 @@ pub record AddsEntry (old new : List Entry) (x : Entry) : Type 0 where
   pub rising : IsRising new
   pub sums : (r c : ℕ) → unseen r c new % 2 ^ 64 ≡ (unseen r c old + share r c x) % 2 ^ 64
 
--- each perspective counts the entries `more` more, round 2 ^ 64
+-- each perspective counts the entries `more` more, round 2 ^ 64, none of which has a number above the last one
 pub record AddsEntries (old new more : List Entry) : Type 0 where
   pub rising : IsRising new
+  pub numbers : AreUpTo last_number more
   pub sums : (r c : ℕ) → unseen r c new % 2 ^ 64 ≡ (unseen r c old + unseen r c more) % 2 ^ 64
 
 -- each perspective from the floor up counts what it did, and no number is higher

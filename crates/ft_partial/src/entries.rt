@@ -3,7 +3,7 @@
 //! They stand by rising number, so that what is new to a perspective is read from the end back.
 
 ghost use Rattle.std.specs.Prelude.{◌≡◌, ◌+◌, ◌/◌, ◌≤◌, ◌<◌, ◌%◌, ◌^◌, [], take, true, IfSome, OnOk, length, insert, vec_len, vec_capacity};
-ghost use Rattle.ft_partial.specs.Entries.{counts, share, unseen, AreUpTo, IsRising, IsPlace, IsAlikeAt, AddsEntry, AddsEntries, DropsOld};
+ghost use Rattle.ft_partial.specs.Entries.{counts, share, unseen, last_number, AreUpTo, IsRising, IsPlace, IsAlikeAt, AddsEntry, AddsEntries, DropsOld};
 
 use ft_base::{OutOfMemory, Perspective};
 
@@ -136,6 +136,7 @@ fn add_entry(entries: &mut Vec<Entry>, x: Entry)
     requires rising { IsRising entries.old.items }
     requires room { vec_len entries.old < vec_capacity entries.old }
     ensures adds { AddsEntry entries.old.items entries.new.items x }
+    ensures number { x.seq ≤ last_number }
     ensures len { vec_len entries.new ≤ vec_len entries.old + 1 }
     ensures capacity { vec_capacity entries.old ≤ vec_capacity entries.new }
 {

@@ -1,8 +1,9 @@
 //! A table whose floor stays 0.
 
 ghost use Rattle.std.specs.Prelude.{◌≡◌, ℕ, ◌<◌, ◌≤◌, ◌^◌, List, [], ◌++◌, IfOk, OnOk, OnErr};
-ghost use Rattle.ft_partial.specs.Entries.{AddsEntries, IsRising};
+ghost use Rattle.ft_partial.specs.Entries.{AddsEntries};
 ghost use Rattle.ft_partial.specs.Items.{Item, length_seen};
+ghost use Rattle.ft_partial.specs.Stages.{AreStages};
 ghost use Rattle.ft_partial.specs.Tables.{length_at, CountsItems, AddsAll, AddsChange};
 
 use crate::changes::Change;
@@ -10,6 +11,9 @@ use crate::entries::{Entry, add_entries, drop_nothing, make_room, unseen};
 use ft_base::{OutOfMemory, Perspective};
 use std::alloc::Global;
 use std::marker::Model;
+
+// The stage behind all others: what is seen there is what is seen in the end.
+const LAST: u64 = u64::MAX;
 
 /// A table whose floor stays 0, for changes that are mostly taken back soon: those that a client has made
 /// and that aren't sequenced yet. Contracts see the same as of a `Table`.
@@ -27,15 +31,14 @@ pub struct Stages {
 
 impl Model for Stages {
     ghost use Rattle.ft_partial.specs.Tables.{Lengths};
-    ghost use Rattle.ft_partial.specs.Entries.{IsRising};
 
     ghost Value = { Lengths };
 
-    ghost use Rattle.ft_partial.specs.Stages.{recent_entries};
+    ghost use Rattle.ft_partial.specs.Stages.{AreStages, recent_entries};
 
     ghost view = { λ a. record { floor = 0; last = a.last; entries = recent_entries a.recent } };
 
-    ghost invariant = { λ a. IsRising (recent_entries a.recent) };
+    ghost invariant = { λ a. AreStages (recent_entries a.recent) };
 }
 
 // The entries of a table of stages.
@@ -47,7 +50,8 @@ struct Recent {
 impl Recent {
     // The entries, in any order.
     fn new(alloc: Global, more: &[Entry]) -> Result<Box<Recent>, OutOfMemory>
-        ensures { IfOk result (λ recent. AddsEntries [] recent.value.entries.items more.now) }
+        ensures adds { IfOk result (λ recent. AddsEntries [] recent.value.entries.items more.now) }
+        ensures stages { IfOk result (λ recent. AreStages recent.value.entries.items) }
     {
         let mut entries = Vec::new(alloc);
         put_entries(&mut entries, more)?;
@@ -56,9 +60,9 @@ impl Recent {
 
     // Adds entries, in any order.
     fn put(&mut self, more: &[Entry]) -> Result<(), OutOfMemory>
-        requires { IsRising self.old.entries.items }
+        requires { AreStages self.old.entries.items }
         ensures ok { OnOk result (AddsEntries self.old.entries.items self.new.entries.items more.now) }
-        ensures rising { IsRising self.new.entries.items }
+        ensures stages { AreStages self.new.entries.items }
         ensures err { OnErr result (self.new.entries.items ≡ self.old.entries.items) }
     {
         put_entries(&mut self.entries, more)
@@ -87,6 +91,10 @@ impl Stages {
         ensures at { result ≡ length_at self.now at.r at.c }
     {
         let last = self.last;
+        // A client's own view needs no look at what is behind the box.
+        if at.r == LAST {
+            return last;
+        }
         match &self.recent {
             Some(recent) => last.wrapping_add(unseen(recent.entries.as_slice(), at)),
             None => last,
@@ -158,9 +166,9 @@ impl Stages {
 
 // Adds entries, in any order, and takes those of nothing out.
 fn put_entries(entries: &mut Vec<Entry>, more: &[Entry]) -> Result<(), OutOfMemory>
-    requires { IsRising entries.old.items }
+    requires { AreStages entries.old.items }
     ensures ok { OnOk result (AddsEntries entries.old.items entries.new.items more.now) }
-    ensures rising { IsRising entries.new.items }
+    ensures stages { AreStages entries.new.items }
     ensures err { OnErr result (entries.new.items ≡ entries.old.items) }
 {
     make_room(entries, more.len())?;
