@@ -12,7 +12,7 @@ use Rattle.ft_partial.specs.Stages.{AreStages}
 use Rattle.ft_partial.specs.Elements.{last_length, AddsItem}
 use Rattle.ft_partial.specs.Items.{Item, item_of, length_where, length_seen, is_at_most, folded_stamp, folded_item, folded_items}
 use Rattle.ft_partial.specs.SameStamps.{ExchangesItem, SameByStamps}
-use Rattle.ft_partial.specs.Tables.{Lengths, length_at, CountsItems, Adds, Exchanges, AddsAll, AddsChange, SameFrom}
+use Rattle.ft_partial.specs.Tables.{Lengths, length_at, CountsItems, Adds, Exchanges, AddsAll, AddsChange, AddsForAll, SameFrom}
 use Rattle.ft_partial.proofs.EntryLemmas.{up_to_weaker, unseen_none}
 use Rattle.ft_partial.proofs.SumsByStamps.{same_sums}
 
@@ -69,6 +69,11 @@ pub adds_change : (old new : Lengths) (entries more : List Entry) (last by : ℕ
     → new.last ≡ (last + by) % 2 ^ 64 → AddsChange old new more by
 unfolding length_at
 adds_change old new entries more last by ee el adds is r c = omega (arith, adds.sums r c, is, el, ap (unseen r c) ee)
+
+-- elements that all see
+pub adds_for_all : (old new : Lengths) (n last : ℕ) → last ≡ old.last → new.entries ≡ old.entries → new.last ≡ (last + n) % 2 ^ 64 → AddsForAll old new n
+unfolding length_at
+adds_for_all old new n last el entries is r c = omega (arith, el, is, ap (unseen r c) entries)
 
 opposite : (b : Bool) (n less : ℕ) → n < 2 ^ 64 → less ≡ (2 ^ 64 - n) % 2 ^ 64 → (amount b n + amount b less) % 2 ^ 64 ≡ 0
 opposite true n less h e = omega arith

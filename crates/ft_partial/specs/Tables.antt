@@ -44,6 +44,10 @@ AddsAll old other new = (r c : ℕ) → r < 2 ^ 64 → c < 2 ^ 32 → length_at 
 abbrev pub AddsChange : Lengths → Lengths → List Entry → ℕ → Type 0
 AddsChange old new more last = (r c : ℕ) → length_at new r c ≡ (length_at old r c + (last + unseen r c more)) % 2 ^ 64
 
+-- each length is higher by n
+abbrev pub AddsForAll : Lengths → Lengths → ℕ → Type 0
+AddsForAll old new n = (r c : ℕ) → length_at new r c ≡ (length_at old r c + n) % 2 ^ 64
+
 -- from the floor up all lengths stay
 abbrev pub SameFrom : ℕ → Lengths → Lengths → Type 0
 SameFrom floor old new = (r c : ℕ) → floor ≤ r → r < 2 ^ 64 → c < 2 ^ 32 → length_at new r c ≡ length_at old r c

@@ -1,6 +1,6 @@
 //! What an exchange of elements adds to a table.
 
-ghost use Rattle.std.specs.Prelude.{IfOk};
+ghost use Rattle.std.specs.Prelude.{◌≡◌, ◌+◌, ◌%◌, ◌^◌, [], IfOk};
 ghost use Rattle.ft_partial.specs.Tables.{IsExchange};
 
 use crate::entries::Entry;
@@ -47,5 +47,16 @@ impl Change {
             last: come.wrapping_sub(gone),
             entries,
         })
+    }
+
+    /// What `come` elements that all see in the place of `gone` such elements add. It takes no memory.
+    pub fn for_all(alloc: Global, gone: u64, come: u64) -> Change
+        ensures last { (result.last + gone) % 2 ^ 64 ≡ come }
+        ensures entries { result.entries ≡ [] }
+    {
+        Change {
+            last: come.wrapping_sub(gone),
+            entries: Vec::new(alloc),
+        }
     }
 }

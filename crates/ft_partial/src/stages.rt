@@ -4,7 +4,7 @@ ghost use Rattle.std.specs.Prelude.{◌≡◌, ℕ, ◌<◌, ◌≤◌, ◌^◌,
 ghost use Rattle.ft_partial.specs.Entries.{AddsEntries};
 ghost use Rattle.ft_partial.specs.Items.{Item, length_seen};
 ghost use Rattle.ft_partial.specs.Stages.{AreStages};
-ghost use Rattle.ft_partial.specs.Tables.{length_at, CountsItems, AddsAll, AddsChange};
+ghost use Rattle.ft_partial.specs.Tables.{length_at, CountsItems, AddsAll, AddsChange, AddsForAll};
 
 use crate::changes::Change;
 use crate::entries::{Entry, add_entries, drop_nothing, make_room, unseen};
@@ -99,6 +99,14 @@ impl Stages {
             Some(recent) => last.wrapping_add(unseen(recent.entries.as_slice(), at)),
             None => last,
         }
+    }
+
+    /// Adds `len` elements that all see.
+    pub fn add_for_all(&mut self, len: u64)
+        ensures lengths { AddsForAll self.old self.new len }
+        ensures floor { self.new.floor ≡ self.old.floor }
+    {
+        self.last = self.last.wrapping_add(len);
     }
 
     /// Adds a change.

@@ -3,7 +3,7 @@
 ghost use Rattle.std.specs.Prelude.{◌≡◌, ℕ, ◌+◌, ◌≤◌, ◌<◌, ◌^◌, List, [], ◌∷◌, ◌++◌, OnOk, OnErr};
 ghost use Rattle.ft_partial.specs.Items.{Item, item_of, inserted_element, removed, length_seen, folded_items};
 ghost use Rattle.ft_partial.specs.SameStamps.{SameByStamps, ExchangesItem};
-ghost use Rattle.ft_partial.specs.Tables.{length_at, CountsItems, Adds, Exchanges, AddsAll, AddsChange, SameFrom};
+ghost use Rattle.ft_partial.specs.Tables.{length_at, CountsItems, Adds, Exchanges, AddsAll, AddsChange, AddsForAll, SameFrom};
 
 use crate::changes::Change;
 use crate::entries::{Entry, add_entries, clear, drop_old, is_half_old, make_room, newest, unseen};
@@ -137,6 +137,14 @@ impl Table {
     {
         let change = Change::of(self.alloc, self.floor, e, len, new, new_len)?;
         self.add_change(&change)
+    }
+
+    /// Adds `len` elements that all see.
+    pub fn add_for_all(&mut self, len: u64)
+        ensures lengths { AddsForAll self.old self.new len }
+        ensures floor { self.new.floor ≡ self.old.floor }
+    {
+        self.last = self.last.wrapping_add(len);
     }
 
     /// Adds a change.
