@@ -11,14 +11,14 @@ use Rattle.ft_base.specs.Visibility.{has_occurred, has_occurred_at_stage, sees, 
 use Rattle.ft_arena.specs.declared.nodes.Node.{Node}
 use Rattle.ft_arena.specs.declared.nodes.Node.TheVariants.{Leaf, Block}
 use Rattle.ft_arena.specs.Forest.{Forest, Changes, entry, block_value, block_of_entry}
-use Rattle.ft_partial.specs.Entries.{amount}
-use Rattle.ft_partial.specs.Tables.{length_at, SameFrom, Exchanges}
+use Rattle.ft_partial.specs.Entries.{amount, unseen}
+use Rattle.ft_partial.specs.Tables.{Lengths, length_at, SameFrom, Exchanges, IsExchange}
 use Rattle.ft_shape.specs.declared.headed.Headed.{Headed}
 use Rattle.ft_block.specs.declared.summaries.Summary.{Summary}
 use Rattle.ft_block.specs.declared.leaves.View.{View}
 use Rattle.ft_block.specs.declared.leaves.View.TheVariants.{Of, Removed}
 use Rattle.ft_block.specs.declared.leaves.LenView.TheVariants.{At, Stage, All}
-use Rattle.ft_block.specs.Tree.{staged_stamp, staged, shows, shown_length, AreFromFloor, IsNodeFrom, kept_length, HasRange, KeepsLengths, KeepsExchange, KeepsNode}
+use Rattle.ft_block.specs.Tree.{staged_stamp, staged, is_pending, has_pending, ExchangesAtStages, shows, shown_length, AreFromFloor, IsNodeFrom, kept_length, HasRange, KeepsLengths, KeepsExchange, KeepsNode}
 
 exchanged_local : (local gone come now : ℕ) → gone < 2 ^ 64 → now ≡ (local + (come + (18446744073709551616 - gone)) % 18446744073709551616) % 2 ^ 64
     → (now + gone) % 2 ^ 64 ≡ (local + come) % 2 ^ 64
@@ -43,24 +43,50 @@ sees-staged k e =
     ap (λ b. b && not (list_any (has_occurred k 1) (map staged_stamp e.dels))) (staged-occurred k e.ins)
     ∙ ap (λ b. has_occurred_at_stage k e.ins && not b) (any-staged k e.dels)
 
--- what is kept after elements were exchanged
-pub exchange_keeps : (floor : ℕ) (old new : Summary) (cleared removed n m : ℕ) (e f old_staged new_staged : Element) → n < 2 ^ 64 → cleared < 2 ^ 64
-    → cleared ≡ amount (shows Removed e) n → removed ≡ amount (shows Removed f) m → old.table.floor ≡ floor → old.stages.floor ≡ 0
-    → old_staged ≡ staged e → new_staged ≡ staged f
-    → new.whole ≡ (old.whole + (m + (18446744073709551616 - n)) % 18446744073709551616) % 2 ^ 64
-    → new.removed ≡ (old.removed + (removed + (18446744073709551616 - cleared)) % 18446744073709551616) % 2 ^ 64
-    → Exchanges old.table new.table e n f m → Exchanges old.stages new.stages old_staged n new_staged m → KeepsExchange floor old new e n f m
-exchange_keeps floor old new cleared removed n m e f old_staged new_staged few cl kr ks from none es et all gone ex staged_ex (Of (At at)) (low, high, conn) =
-    ex at.r at.c (omega (arith, from, low)) high conn
-exchange_keeps floor old new cleared removed n m e f old_staged new_staged few cl kr ks from none es et all gone ex staged_ex (Of (Stage k)) low =
+-- what a change for elements as they are kept for stages exchanges
+pub staged_exchange : (change : Lengths) (e f old_staged new_staged : Element) (n m : ℕ) → old_staged ≡ staged e → new_staged ≡ staged f
+    → IsExchange 0 change.entries change.last old_staged n new_staged m → ExchangesAtStages change e n f m
+staged_exchange change e f old_staged new_staged n m es et ex old new none adds k low =
     let less : amount (seen_at e k) n ≡ amount (sees old_staged k 1) n =
     sym (ap (λ z. amount (sees z k 1) n) es ∙ ap (λ b. amount b n) (sees-staged k e)) in
     let more : amount (sees new_staged k 1) m ≡ amount (seen_at f k) m = ap (λ z. amount (sees z k 1) m) et ∙ ap (λ b. amount b m) (sees-staged k f) in
-    ap (λ (x : ℕ). (length_at new.stages k 1 + x) % 2 ^ 64) less ∙ staged_ex k 1 (omega (arith, none)) low (omega arith)
-    ∙ ap (λ (x : ℕ). (length_at old.stages k 1 + x) % 2 ^ 64) more
-exchange_keeps floor old new cleared removed n m e f old_staged new_staged few cl kr ks from none es et all gone ex staged_ex (Of All) h =
-    exchanged_local old.whole n m new.whole few all
-exchange_keeps floor old new cleared removed n m e f old_staged new_staged few cl kr ks from none es et all gone ex staged_ex Removed h =
+    ap (λ (x : ℕ). (length_at new k 1 + x) % 2 ^ 64) less ∙ ex old new none adds k 1 (omega (arith, none)) low (omega arith)
+    ∙ ap (λ (x : ℕ). (length_at old k 1 + x) % 2 ^ 64) more
+
+-- where nothing is pending a stage sees what stage 0 does
+any_settled : (k : ℕ) (dels : List Stamp) → list_any is_pending dels ≡ false → list_any (has_occurred_at_stage k) dels ≡ list_any (has_occurred_at_stage 0) dels
+any_settled k [] h = refl
+any_settled k (Acked seq conn ∷ dels) h = refl
+any_settled k (Local stage ∷ dels) h = cc
+
+seen_settled : (k : ℕ) (e : Element) → has_pending e ≡ false → seen_at e k ≡ seen_at e 0
+seen_settled k e h = go e.ins e.dels h
+  where
+    go : (s : Stamp) (dels : List Stamp) → (is_pending s || list_any is_pending dels) ≡ false
+        → (has_occurred_at_stage k s && not (list_any (has_occurred_at_stage k) dels)) ≡ (has_occurred_at_stage 0 s && not (list_any (has_occurred_at_stage 0) dels))
+    go (Acked seq conn) dels h = ap (λ b. not b) (any_settled k dels h)
+    go (Local stage) dels h = cc
+
+pub settled_exchange : (change : Lengths) (e f : Element) (n m gone come : ℕ) → has_pending e ≡ false → has_pending f ≡ false → gone ≡ amount (seen_at e 0) n
+    → come ≡ amount (seen_at f 0) m → (change.last + gone) % 2 ^ 64 ≡ come → change.entries ≡ [] → ExchangesAtStages change e n f m
+settled_exchange change e f n m gone come he hf eg ec sum none old new low adds k fits =
+    let less : amount (seen_at e k) n ≡ gone = ap (λ b. amount b n) (seen_settled k e he) ∙ sym eg in
+    let more : amount (seen_at f k) m ≡ come = ap (λ b. amount b m) (seen_settled k f hf) ∙ sym ec in
+    omega (arith, less, more, sum, adds k 1, ap (unseen k 1) none)
+
+-- what is kept after elements were exchanged
+pub exchange_keeps : (floor : ℕ) (old new : Summary) (cleared removed n m : ℕ) (e f : Element) → n < 2 ^ 64 → cleared < 2 ^ 64
+    → cleared ≡ amount (shows Removed e) n → removed ≡ amount (shows Removed f) m → old.table.floor ≡ floor
+    → new.whole ≡ (old.whole + (m + (18446744073709551616 - n)) % 18446744073709551616) % 2 ^ 64
+    → new.removed ≡ (old.removed + (removed + (18446744073709551616 - cleared)) % 18446744073709551616) % 2 ^ 64
+    → Exchanges old.table new.table e n f m
+    → ((k : ℕ) → k < 2 ^ 64 → (length_at new.stages k 1 + amount (seen_at e k) n) % 2 ^ 64 ≡ (length_at old.stages k 1 + amount (seen_at f k) m) % 2 ^ 64)
+    → KeepsExchange floor old new e n f m
+exchange_keeps floor old new cleared removed n m e f few cl kr ks from all gone ex stages (Of (At at)) (low, high, conn) =
+    ex at.r at.c (omega (arith, from, low)) high conn
+exchange_keeps floor old new cleared removed n m e f few cl kr ks from all gone ex stages (Of (Stage k)) low = stages k low
+exchange_keeps floor old new cleared removed n m e f few cl kr ks from all gone ex stages (Of All) h = exchanged_local old.whole n m new.whole few all
+exchange_keeps floor old new cleared removed n m e f few cl kr ks from all gone ex stages Removed h =
     ap (λ (x : ℕ). (new.removed + x) % 2 ^ 64) (sym kr)
     ∙ exchanged_local old.removed cleared removed new.removed cl gone ∙ ap (λ (x : ℕ). (old.removed + x) % 2 ^ 64) ks
 

@@ -1,8 +1,10 @@
 -- What the blocks of a tree keep of each view. No public clause cites this module.
-use Rattle.std.specs.Prelude.{◌≡◌, ℕ, ◌+◌, ◌%◌, ◌^◌, ◌<◌, ◌≤◌, List, map, Option, Some, Bool, if◌then◌else◌}
+use Rattle.std.specs.Prelude.{◌≡◌, ℕ, ◌+◌, ◌%◌, ◌^◌, ◌<◌, ◌≤◌, List, map, Option, Some, Bool, ◌||◌, not, if◌then◌else◌}
+use Rattle.std.specs.List.{list_any}
 use Rattle.ft_base.specs.declared.stamps.Stamp.{Stamp}
 use Rattle.ft_base.specs.declared.stamps.Stamp.TheVariants.{Acked, Local}
 use Rattle.ft_base.specs.declared.elements.Element.{Element}
+use Rattle.ft_base.specs.Visibility.{is_acked, seen_at}
 use Rattle.ft_arena.specs.declared.nodes.Node.{Node}
 use Rattle.ft_arena.specs.declared.nodes.Node.TheVariants.{Leaf, Block}
 use Rattle.ft_arena.specs.Forest.{Forest, block_value}
@@ -12,7 +14,7 @@ use Rattle.ft_block.specs.declared.summaries.Summary.{Summary}
 use Rattle.ft_block.specs.declared.summaries.Exchange.{Exchange}
 use Rattle.ft_block.specs.declared.leaves.LenView.TheVariants.{At, Stage, All}
 use Rattle.ft_partial.specs.Entries.{amount}
-use Rattle.ft_partial.specs.Tables.{length_at, AddsChange}
+use Rattle.ft_partial.specs.Tables.{Lengths, length_at, AddsChange}
 use Rattle.ft_block.specs.declared.leaves.View.{View}
 use Rattle.ft_block.specs.declared.leaves.View.TheVariants.{Of, Removed}
 use Rattle.ft_block.specs.Leaves.{sees_in, is_removed, IsFromFloor}
@@ -25,6 +27,14 @@ staged_stamp (Local stage) = Acked stage 0
 -- the element with its stamps as blocks keep them for stages
 abbrev pub staged : Element → Element
 staged e = record { ins = staged_stamp e.ins; dels = map staged_stamp e.dels }
+
+-- the stamp is pending
+abbrev pub is_pending : Stamp → Bool
+is_pending s = not (is_acked s)
+
+-- one of the element's stamps is pending
+abbrev pub has_pending : Element → Bool
+has_pending e = is_pending e.ins || list_any is_pending e.dels
 
 -- whether the view counts the element
 abbrev pub shows : View → Element → Bool
@@ -70,6 +80,11 @@ pub record AddsExchange (old : Summary) (exchange : Exchange) (new : Summary) : 
   pub removed : new.removed ≡ (old.removed + exchange.removed) % 2 ^ 64
   pub stages : AddsChange old.stages new.stages exchange.stages.entries exchange.stages.last
   pub table : AddsChange old.table new.table exchange.table.entries exchange.table.last
+
+-- once the change is added to a block's table of stages, each stage sees m elements f more and n elements e less
+abbrev pub ExchangesAtStages : Lengths → Element → ℕ → Element → ℕ → Type 0
+ExchangesAtStages change e n f m = (old new : Lengths) → old.floor ≡ 0 → AddsChange old new change.entries change.last
+    → (k : ℕ) → k < 2 ^ 64 → (length_at new k 1 + amount (seen_at e k) n) % 2 ^ 64 ≡ (length_at old k 1 + amount (seen_at f k) m) % 2 ^ 64
 
 -- once it is added to what a block with this floor keeps, each view sees m elements f more and n elements e less
 abbrev pub MakesExchange : ℕ → Exchange → Element → ℕ → Element → ℕ → Type 0

@@ -1,10 +1,11 @@
 //! What a leaf of the tree has to offer, and what a view sees of it.
 
 ghost use Rattle.std.specs.Prelude.{◌≡◌, ℕ, ◌+◌, ◌<◌, ◌≤◌, Bool, IsTrue, IfOk, IfErr, OnOk, OnErr};
+ghost use Rattle.std.specs.List.{list_any};
 ghost use Rattle.ft_base.specs.declared.elements.Element.{Element};
 ghost use Rattle.ft_partial.specs.Entries.{amount};
 ghost use Rattle.ft_block.specs.Leaves.{sees_in, is_removed, IsFromFloor};
-ghost use Rattle.ft_block.specs.Tree.{KeepsLengths, shows, shown_length, staged_stamp, staged};
+ghost use Rattle.ft_block.specs.Tree.{KeepsLengths, has_pending, is_pending, shows, shown_length, staged_stamp, staged};
 ghost use Rattle.ft_block.specs.declared.leaves.View.TheVariants.{Of};
 
 use ft_base::{Element, OutOfMemory, Perspective, Stamp, Stamps, seen_at, sees};
@@ -174,6 +175,30 @@ pub(crate) fn kept_view(view: LenView, _floor: u64) -> View
     match view {
         LenView::At(_) | LenView::Stage(_) | LenView::All => View::Of(view),
     }
+}
+
+// Whether the stamp is pending.
+fn is_pending(stamp: &Stamp) -> bool
+    ensures { result ≡ is_pending stamp.now }
+{
+    match stamp {
+        Stamp::Acked { .. } => false,
+        Stamp::Local { .. } => true,
+    }
+}
+
+// Whether one of the stamps is pending.
+fn is_any_pending(stamps: &[Stamp]) -> bool
+    ensures { result ≡ list_any is_pending stamps.now }
+{
+    stamps.iter().any(|stamp| is_pending(stamp))
+}
+
+/// Whether one of the element's stamps is pending: if none is, each stage sees it or none does.
+pub(crate) fn has_pending(e: &Element) -> bool
+    ensures { result ≡ has_pending e.now }
+{
+    is_pending(&e.ins) || is_any_pending(e.dels.as_slice())
 }
 
 // A stamp as blocks keep it for stages: as one by nobody that is sequenced at its stage, or at 0 where it is

@@ -2,9 +2,9 @@
 
 ghost use Rattle.std.specs.Prelude.{◌≡◌, ◌≤◌, ℕ, IfOk, OnOk};
 ghost use Rattle.ft_base.specs.declared.elements.Element.{Element};
-ghost use Rattle.ft_block.specs.Tree.{AddsExchange, IsFrom, kept_length, KeepsNothing, KeepsExchange, KeepsSum, MakesExchange, KeepsNode, IsNodeFrom, HasRange};
+ghost use Rattle.ft_block.specs.Tree.{AddsExchange, ExchangesAtStages, IsFrom, kept_length, KeepsNothing, KeepsExchange, KeepsSum, MakesExchange, KeepsNode, IsNodeFrom, HasRange};
 
-use crate::leaves::{Leaf, LenView, View, shown_in, staged};
+use crate::leaves::{Leaf, LenView, View, has_pending, shown_in, staged};
 use ft_arena::Node;
 use ft_base::{Element, OutOfMemory, Perspective};
 use ft_partial::{Change, Stages, Table};
@@ -141,15 +141,37 @@ impl Exchange {
         let alloc = e.dels.allocator();
         let cleared = shown_in(e, len, View::Removed);
         let removed = shown_in(new, new_len, View::Removed);
-        let old_staged = staged(e)?;
-        let new_staged = staged(new)?;
         Ok(Exchange {
             whole: new_len.wrapping_sub(len),
             removed: removed.wrapping_sub(cleared),
-            stages: Change::of(alloc, 0, &old_staged, len, &new_staged, new_len)?,
+            stages: stages_change(e, len, new, new_len)?,
             table: Change::of(alloc, floor, e, len, new, new_len)?,
         })
     }
+}
+
+// What an exchange adds to the tables of stages. Where nothing is pending all stages see the same, and it takes no copy
+// of the elements.
+fn stages_change(e: &Element, len: u64, new: &Element, new_len: u64) -> Result<Change, OutOfMemory>
+    ensures { IfOk result (λ change. ExchangesAtStages change e.now len new.now new_len) }
+{
+    if has_pending(e) || has_pending(new) {
+        return staged_change(e, len, new, new_len);
+    }
+    let stage = View::Of(LenView::Stage(0));
+    let gone = shown_in(e, len, stage);
+    let come = shown_in(new, new_len, stage);
+    Ok(Change::for_all(e.dels.allocator(), gone, come))
+}
+
+// The same for any elements.
+fn staged_change(e: &Element, len: u64, new: &Element, new_len: u64) -> Result<Change, OutOfMemory>
+    ensures { IfOk result (λ change. ExchangesAtStages change e.now len new.now new_len) }
+{
+    let old_staged = staged(e)?;
+    let new_staged = staged(new)?;
+    let alloc = e.dels.allocator();
+    Change::of(alloc, 0, &old_staged, len, &new_staged, new_len)
 }
 
 // Puts in the leaf, or what the block keeps.
