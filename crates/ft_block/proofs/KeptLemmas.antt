@@ -1,5 +1,5 @@
 -- What a block keeps, after a change of its leaves.
-use Rattle.std.proofs.Common.{◌≡◌, ℕ, ◌+◌, ◌-◌, ◌^◌, ◌%◌, ◌<◌, List, [], ◌∷◌, ◌&&◌, ◌||◌, nat_le, Option, Some, None, inl, inr, Bool, true, false, cond, refl, sym, ap, ◌∙◌, arith}
+use Rattle.std.proofs.Common.{◌≡◌, ℕ, ◌+◌, ◌-◌, ◌^◌, ◌%◌, ◌<◌, ◌≤◌, List, [], ◌∷◌, ◌&&◌, ◌||◌, nat_le, Option, Some, None, inl, inr, Bool, true, false, cond, refl, sym, ap, subst, ◌∙◌, arith}
 use Rattle.std.proofs.lemmas.Bool.{cases_eq}
 use Rattle.std.specs.Prelude.{map, not, OnOk, Result, Ok, Err}
 use Rattle.std.specs.List.{list_any}
@@ -12,13 +12,15 @@ use Rattle.ft_arena.specs.declared.nodes.Node.{Node}
 use Rattle.ft_arena.specs.declared.nodes.Node.TheVariants.{Leaf, Block}
 use Rattle.ft_arena.specs.Forest.{Forest, Changes, entry, block_value, block_of_entry}
 use Rattle.ft_partial.specs.Entries.{amount, unseen}
-use Rattle.ft_partial.specs.Tables.{Lengths, length_at, SameFrom, Exchanges, IsExchange}
+use Rattle.ft_partial.specs.Tables.{Lengths, length_at, AddsForAll, SameFrom, Exchanges, IsExchange}
 use Rattle.ft_shape.specs.declared.headed.Headed.{Headed}
 use Rattle.ft_block.specs.declared.summaries.Summary.{Summary}
 use Rattle.ft_block.specs.declared.leaves.View.{View}
 use Rattle.ft_block.specs.declared.leaves.View.TheVariants.{Of, Removed}
+use Rattle.ft_block.specs.declared.leaves.LenView.{LenView}
 use Rattle.ft_block.specs.declared.leaves.LenView.TheVariants.{At, Stage, All}
-use Rattle.ft_block.specs.Tree.{staged_stamp, staged, is_pending, has_pending, ExchangesAtStages, shows, shown_length, AreFromFloor, IsNodeFrom, kept_length, HasRange, KeepsLengths, KeepsExchange, KeepsNode}
+use Rattle.ft_block.specs.Leaves.{sees_in, is_removed}
+use Rattle.ft_block.specs.Tree.{staged_stamp, staged, is_pending, has_pending, ExchangesAtStages, shows, shown_length, AreFromFloor, IsForAll, IsNodeFrom, kept_length, HasRange, KeepsForAll, KeepsLengths, KeepsExchange, KeepsNode}
 
 exchanged_local : (local gone come now : ℕ) → gone < 2 ^ 64 → now ≡ (local + (come + (18446744073709551616 - gone)) % 18446744073709551616) % 2 ^ 64
     → (now + gone) % 2 ^ 64 ≡ (local + come) % 2 ^ 64
@@ -129,6 +131,41 @@ exchange_adds size element floor old new leaf e n is many low ex view kept =
     let here : amount (shows view e) n ≡ shown_length size element view leaf =
     ap (λ z. amount (shows view z) n) is ∙ ap (λ (k : ℕ). cond (shows view (element leaf)) k 0) many in
     omega (arith, ex view kept, amount_none (shows view e), here, kept_low new low view)
+
+-- an element that is sequenced up to the floor, and that nobody removed
+for_all_from : (floor seq conn : ℕ) → seq ≤ floor → IsForAll floor (record { ins = Acked seq conn; dels = [] })
+for_all_from floor seq conn h = record { seen = seen; present = refl }
+  where
+    seen : (view : LenView) → KeepsLengths floor (Of view) → sees_in view (record { ins = Acked seq conn; dels = [] }) ≡ true
+    seen (At at) (low, high, few) = grind (arith, nat_tests)
+    seen (Stage k) low = refl
+    seen All k = refl
+
+pub for_all : (floor : ℕ) (e : Element) (seq conn : ℕ) → e.ins ≡ Acked seq conn → e.dels ≡ [] → seq ≤ floor → IsForAll floor e
+for_all floor e seq conn ins dels h =
+    let P : Stamp → Type 0 = λ s. IsForAll floor (record { ins = s; dels = e.dels }) in
+    let Q : List Stamp → Type 0 = λ xs. IsForAll floor (record { ins = Acked seq conn; dels = xs }) in
+    subst P (sym ins) (subst Q (sym dels) (for_all_from floor seq conn h))
+
+-- elements that all see come
+pub keeps_for_all : (old new : Summary) (n whole : ℕ) → AddsForAll old.stages new.stages n → AddsForAll old.table new.table n → whole ≡ old.whole
+    → new.whole ≡ (whole + n) % 2 ^ 64 → new.removed ≡ old.removed → KeepsForAll old n new
+keeps_for_all old new n whole stages table was is removed = record { seen = seen; removed = removed }
+  where
+    seen : (view : LenView) → kept_length (Of view) new ≡ (kept_length (Of view) old + n) % 2 ^ 64
+    seen (At at) = table at.r at.c
+    seen (Stage k) = stages k 1
+    seen All = omega (arith, was, is)
+
+pub for_all_adds : {L : Type 0} (size : L → ℕ) (element : L → Element) (floor : ℕ) (old new : Summary) (leaf : L) (e : Element) (n : ℕ) → e ≡ element leaf
+    → n ≡ size leaf → HasRange new → IsForAll floor e → KeepsForAll old n new → KeepsNode size element floor old (Leaf leaf) new
+for_all_adds size element floor old new leaf e n is many low all keeps (Of view) kept =
+    let here : cond (sees_in view (element leaf)) (size leaf) 0 ≡ n =
+    ap (λ b. cond b (size leaf) 0) (ap (sees_in view) (sym is) ∙ all.seen view kept) ∙ sym many in
+    omega (arith, keeps.seen view, here)
+for_all_adds size element floor old new leaf e n is many low all keeps Removed kept =
+    let here : cond (is_removed (element leaf)) (size leaf) 0 ≡ 0 = ap (λ b. cond b (size leaf) 0) (ap is_removed (sym is) ∙ all.present) in
+    omega (arith, keeps.removed, low.1, here)
 
 -- what is kept has one more node's length, where the sum of all is small
 pub one_more : (kept kept' n rest whole : ℕ) → kept' ≡ (kept + n) % 2 ^ 64 → kept + (n + rest) ≡ whole → whole < 2 ^ 64 → kept' + rest ≡ whole

@@ -1,5 +1,5 @@
 -- What the blocks of a tree keep of each view. No public clause cites this module.
-use Rattle.std.specs.Prelude.{◌≡◌, ℕ, ◌+◌, ◌%◌, ◌^◌, ◌<◌, ◌≤◌, List, map, Option, Some, Bool, ◌||◌, not, if◌then◌else◌}
+use Rattle.std.specs.Prelude.{◌≡◌, ℕ, ◌+◌, ◌%◌, ◌^◌, ◌<◌, ◌≤◌, List, map, Option, Some, Bool, true, false, ◌||◌, not, if◌then◌else◌}
 use Rattle.std.specs.List.{list_any}
 use Rattle.ft_base.specs.declared.stamps.Stamp.{Stamp}
 use Rattle.ft_base.specs.declared.stamps.Stamp.TheVariants.{Acked, Local}
@@ -12,6 +12,7 @@ use Rattle.ft_shape.specs.declared.headed.Headed.{Headed}
 use Rattle.ft_shape.specs.Tree.{Measure, length_of, length_of_node, SumsBut, OwesAt, OwesAbove}
 use Rattle.ft_block.specs.declared.summaries.Summary.{Summary}
 use Rattle.ft_block.specs.declared.summaries.Exchange.{Exchange}
+use Rattle.ft_block.specs.declared.leaves.LenView.{LenView}
 use Rattle.ft_block.specs.declared.leaves.LenView.TheVariants.{At, Stage, All}
 use Rattle.ft_partial.specs.Entries.{amount}
 use Rattle.ft_partial.specs.Tables.{Lengths, length_at, AddsChange}
@@ -89,6 +90,16 @@ ExchangesAtStages change e n f m = (old new : Lengths) → old.floor ≡ 0 → A
 -- once it is added to what a block with this floor keeps, each view sees m elements f more and n elements e less
 abbrev pub MakesExchange : ℕ → Exchange → Element → ℕ → Element → ℕ → Type 0
 MakesExchange floor exchange e n f m = (old new : Summary) → old.table.floor ≡ floor → old.stages.floor ≡ 0 → AddsExchange old exchange new → KeepsExchange floor old new e n f m
+
+-- every view that blocks with this floor keep sees the element, and it isn't removed
+pub record IsForAll (floor : ℕ) (e : Element) : Type 0 where
+  pub seen : (view : LenView) → KeepsLengths floor (Of view) → sees_in view e ≡ true
+  pub present : is_removed e ≡ false
+
+-- every view sees n elements more, and as many are removed
+pub record KeepsForAll (old : Summary) (n : ℕ) (new : Summary) : Type 0 where
+  pub seen : (view : LenView) → kept_length (Of view) new ≡ (kept_length (Of view) old + n) % 2 ^ 64
+  pub removed : new.removed ≡ old.removed
 
 -- each view sees what it sees of both
 abbrev pub KeepsSum : ℕ → Summary → Summary → Summary → Type 0

@@ -1,11 +1,11 @@
 //! What a leaf of the tree has to offer, and what a view sees of it.
 
-ghost use Rattle.std.specs.Prelude.{◌≡◌, ℕ, ◌+◌, ◌<◌, ◌≤◌, Bool, IsTrue, IfOk, IfErr, OnOk, OnErr};
+ghost use Rattle.std.specs.Prelude.{◌≡◌, ℕ, ◌+◌, ◌<◌, ◌≤◌, Bool, true, IsTrue, IfOk, IfErr, OnOk, OnErr};
 ghost use Rattle.std.specs.List.{list_any};
 ghost use Rattle.ft_base.specs.declared.elements.Element.{Element};
 ghost use Rattle.ft_partial.specs.Entries.{amount};
 ghost use Rattle.ft_block.specs.Leaves.{sees_in, is_removed, IsFromFloor};
-ghost use Rattle.ft_block.specs.Tree.{KeepsLengths, has_pending, is_pending, shows, shown_length, staged_stamp, staged};
+ghost use Rattle.ft_block.specs.Tree.{IsForAll, KeepsLengths, has_pending, is_pending, shows, shown_length, staged_stamp, staged};
 ghost use Rattle.ft_block.specs.declared.leaves.View.TheVariants.{Of};
 
 use ft_base::{Element, OutOfMemory, Perspective, Stamp, Stamps, seen_at, sees};
@@ -174,6 +174,20 @@ pub(crate) fn kept_view(view: LenView, _floor: u64) -> View
 {
     match view {
         LenView::At(_) | LenView::Stage(_) | LenView::All => View::Of(view),
+    }
+}
+
+/// Whether all see the element from the floor up: it is sequenced up to there, and nobody removed it. An element that all
+/// see for another reason isn't told.
+pub(crate) fn is_for_all(e: &Element, floor: u64) -> bool
+    ensures { result ≡ true → IsForAll floor e.now }
+{
+    if !e.dels.is_empty() {
+        return false;
+    }
+    match e.ins {
+        Stamp::Acked { seq, .. } => seq <= floor,
+        Stamp::Local { .. } => false,
     }
 }
 

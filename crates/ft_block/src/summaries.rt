@@ -2,9 +2,9 @@
 
 ghost use Rattle.std.specs.Prelude.{◌≡◌, ◌≤◌, ℕ, IfOk, OnOk};
 ghost use Rattle.ft_base.specs.declared.elements.Element.{Element};
-ghost use Rattle.ft_block.specs.Tree.{AddsExchange, ExchangesAtStages, IsFrom, kept_length, KeepsNothing, KeepsExchange, KeepsSum, MakesExchange, KeepsNode, IsNodeFrom, HasRange};
+ghost use Rattle.ft_block.specs.Tree.{AddsExchange, ExchangesAtStages, IsFrom, kept_length, KeepsForAll, KeepsNothing, KeepsExchange, KeepsSum, MakesExchange, KeepsNode, IsNodeFrom, HasRange};
 
-use crate::leaves::{Leaf, LenView, View, has_pending, shown_in, staged};
+use crate::leaves::{Leaf, LenView, View, has_pending, is_for_all, shown_in, staged};
 use ft_arena::Node;
 use ft_base::{Element, OutOfMemory, Perspective};
 use ft_partial::{Change, Stages, Table};
@@ -72,6 +72,19 @@ impl Summary {
     {
         let exchange = Exchange::of(floor, e, len, new, new_len)?;
         self.add_exchange(&exchange)
+    }
+
+    // Puts in elements that all see.
+    fn add_for_all(&mut self, len: u64)
+        ensures floor { self.new.table.floor ≡ self.old.table.floor }
+        ensures low { HasRange self.new }
+        ensures keeps { KeepsForAll self.old len self.new }
+    {
+        // That it is a number of 64 bits is read off the field.
+        let _removed = self.removed;
+        self.whole = self.whole.wrapping_add(len);
+        self.stages.add_for_all(len);
+        self.table.add_for_all(len);
     }
 
     // Makes an exchange.
@@ -189,7 +202,12 @@ pub(crate) fn add_node<L: Leaf>(
     match node {
         Node::Leaf { value } => {
             let e = value.element();
-            sum.exchange(floor, e, 0, e, value.len())
+            let len = value.len();
+            if is_for_all(e, floor) {
+                sum.add_for_all(len);
+                return Ok(());
+            }
+            sum.exchange(floor, e, 0, e, len)
         }
         Node::Block { value, .. } => sum.add_all(floor, &value.sum),
     }
