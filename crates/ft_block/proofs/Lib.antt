@@ -1,5 +1,6 @@
 pub mod ViewLemmas
 pub mod KeptLemmas
+pub mod SettledLemmas
 pub mod ExchangeLemmas
 pub mod MovedLemmas
 pub mod SoundLemmas

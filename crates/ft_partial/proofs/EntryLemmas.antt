@@ -211,8 +211,8 @@ up_to_next k i d [] h a l = tt
 up_to_next k zero d (x ∷ xs) h a l = (l, up_to_none k xs)
 up_to_next k (suc i) d (x ∷ xs) h a l = (a.0, up_to_next k i d xs (omega arith) a.1 l)
 
-pub added_more : (old now new more : List Entry) (i : ℕ) (d : Entry) → i < length more → (get_or more i d).seq ≤ last_number → AddsEntries old now (take i more) → AddsEntry now new (get_or more i d)
-    → AddsEntries old new (take (i + 1) more)
+pub added_more : (old now new more : List Entry) (i : ℕ) (d : Entry) → i < length more → (get_or more i d).seq ≤ last_number
+    → AddsEntries old now (take i more) → AddsEntry now new (get_or more i d) → AddsEntries old new (take (i + 1) more)
 added_more old now new more i d h fits before one = record {
   rising = one.rising;
   numbers =

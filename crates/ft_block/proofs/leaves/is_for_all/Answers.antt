@@ -1,5 +1,5 @@
 use Rattle.std.proofs.Common.{leb-true, rules}
-use Rattle.ft_block.proofs.KeptLemmas.{for_all}
+use Rattle.ft_block.proofs.SettledLemmas.{for_all}
 use Rattle.ft_block.proofs.leaves.is_for_all.Goals as goal
 
 pub returns-in-Acked : goal.returns-in-Acked

@@ -4,7 +4,8 @@ use Rattle.ft_arena.specs.declared.nodes.Node.{Node}
 use Rattle.ft_shape.specs.declared.headed.Headed.{Headed}
 use Rattle.ft_block.specs.Tree.{KeepsNode}
 use Rattle.ft_block.specs.declared.summaries.Summary.{Summary}
-use Rattle.ft_block.proofs.KeptLemmas.{exchange_adds, for_all_adds, on_ok_both}
+use Rattle.ft_block.proofs.KeptLemmas.{exchange_adds, on_ok_both}
+use Rattle.ft_block.proofs.SettledLemmas.{for_all_adds}
 use Rattle.ft_block.proofs.summaries.add_node.Goals as goal
 
 pub returns-then-is_for_all-clause-sum : goal.returns-then-is_for_all-clause-sum

@@ -1,6 +1,6 @@
 use Rattle.std.proofs.lemmas.Result.{IfOk-weaker}
 use Rattle.ft_partial.specs.Tables.{Lengths}
-use Rattle.ft_block.proofs.KeptLemmas.{staged_exchange}
+use Rattle.ft_block.proofs.SettledLemmas.{staged_exchange}
 use Rattle.ft_block.proofs.summaries.staged_change.Goals as goal
 
 pub returns : goal.returns

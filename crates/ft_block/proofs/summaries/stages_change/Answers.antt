@@ -1,5 +1,5 @@
 use Rattle.std.proofs.Common.{sym, ◌∙◌}
-use Rattle.ft_block.proofs.KeptLemmas.{settled_exchange}
+use Rattle.ft_block.proofs.SettledLemmas.{settled_exchange}
 use Rattle.ft_block.proofs.summaries.stages_change.Goals as goal
 
 pub returns : goal.returns

@@ -1,5 +1,5 @@
 use Rattle.std.proofs.Common.{refl}
-use Rattle.ft_block.proofs.KeptLemmas.{keeps_for_all}
+use Rattle.ft_block.proofs.SettledLemmas.{keeps_for_all}
 use Rattle.ft_block.proofs.summaries.Summary.add_for_all.Goals as goal
 
 pub returns-clause-keeps : goal.returns-clause-keeps
