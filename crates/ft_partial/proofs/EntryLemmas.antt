@@ -180,12 +180,12 @@ adds_at old new j x z by rising inside alike is sum e =
           omega (arith, unseen-set r c j z y old inside, here, one, share_case (counts r c z) z.by x.by by sum);
     }
 
+share_none : (b : Bool) (n : ℕ) → n ≡ 0 → amount b n ≡ 0
+share_none true n h = h
+share_none false n h = refl
+
 pub adds_none : (old : List Entry) (x : Entry) → IsRising old → x.by ≡ 0 → AddsEntry old old x
-adds_none old x rising e = record { rising = rising; sums = λ r c. omega (arith, none (counts r c x) x.by e) }
-  where
-    none : (b : Bool) (n : ℕ) → n ≡ 0 → amount b n ≡ 0
-    none true n h = h
-    none false n h = refl
+adds_none old x rising e = record { rising = rising; sums = λ r c. omega (arith, share_none (counts r c x) x.by e) }
 
 -- entries one after another
 pub added_none : (old more : List Entry) → IsRising old → AddsEntries old old (take 0 more)
@@ -290,8 +290,33 @@ adds_tidied old room now new more same adds drops =
       sums = λ r c. omega (arith, ap (unseen r c) same, adds.sums r c, drops.sums r c (omega arith));
     }
 
+-- an entry of nothing is no entry
+pub drops_single : (x : Entry) → x.by ≡ 0 → DropsOld (x ∷ []) [] 0
+drops_single x e = record { rising = tt; up_to = λ k h. tt; sums = λ r c h. omega (arith, share_none (counts r c x) x.by e) }
+
 pub drops_none : (xs : List Entry) (floor : ℕ) → IsRising xs → DropsOld xs xs floor
 drops_none xs floor rising = record { rising = rising; up_to = λ k h. h; sums = λ r c h. refl }
+
+-- the list of its one entry
+pub single_is : (xs : List Entry) (d : Entry) → 1 ≤ length xs → length xs < 2 → get_or xs 0 d ∷ [] ≡ xs
+single_is [] d some one = absurd (omega arith)
+single_is (x ∷ []) d some one = refl
+single_is (x ∷ y ∷ xs) d some one = absurd (omega arith)
+
+-- an entry where there was none, and where there was one that is for the same
+pub added_first : (old : List Entry) (x : Entry) → length old < 1 → x.seq ≤ last_number → AddsEntries old (x ∷ []) (x ∷ [])
+added_first [] x none fits = record { rising = (tt, tt); numbers = (fits, tt); sums = λ r c. omega arith }
+added_first (y ∷ old) x none fits = absurd (omega arith)
+
+pub added_alike : (x y z : Entry) → y.seq ≤ last_number → x.seq ≡ y.seq → x.conn ≡ y.conn → x.own ≡ y.own → z ≡ record x { by = (x.by + y.by) % 2 ^ 64 }
+    → AddsEntries (x ∷ []) (z ∷ []) (y ∷ [])
+added_alike x y z fits seq conn own e =
+    let one : (r c : ℕ) → share r c y ≡ amount (counts r c x) y.by = λ r c. ap (λ b. amount b y.by) (sym (same_counts r c y x x seq conn own)) in
+    subst (λ (w : Entry). AddsEntries (x ∷ []) (w ∷ []) (y ∷ [])) (sym e) record {
+      rising = (tt, tt);
+      numbers = (fits, tt);
+      sums = λ r c. omega (arith, one r c, share_case (counts r c x) x.by y.by ((x.by + y.by) % 2 ^ 64) refl);
+    }
 
 pub added_nothing : (old entries more : List Entry) → IsRising old → old ≡ entries → length more ≡ 0 → AddsEntries entries entries more
 added_nothing old entries [] rising same none = record { rising = subst IsRising same rising; numbers = tt; sums = λ r c. omega arith }

@@ -1,5 +1,6 @@
 pub mod Elements
 pub mod Entries
+pub mod EntryLists
 pub mod Items
 pub mod SameStamps
 pub mod Tables

@@ -2,13 +2,13 @@
 //!
 //! They stand by rising number, so that what is new to a perspective is read from the end back.
 
-ghost use Rattle.std.specs.Prelude.{◌≡◌, ◌+◌, ◌/◌, ◌≤◌, ◌<◌, ◌%◌, ◌^◌, [], take, true, IfSome, OnOk, length, insert, vec_len, vec_capacity};
+ghost use Rattle.std.specs.Prelude.{◌≡◌, ◌+◌, ◌/◌, ◌≤◌, ◌<◌, ◌%◌, ◌^◌, take, true, IfSome, length, insert, vec_len, vec_capacity};
 ghost use Rattle.ft_partial.specs.Entries.{counts, share, unseen, last_number, AreUpTo, IsRising, IsPlace, IsAlikeAt, AddsEntry, AddsEntries, DropsOld};
 
-use ft_base::{OutOfMemory, Perspective};
+use ft_base::Perspective;
 
-// Below this number of entries a list is as long as what it holds.
-const FEW: usize = 4;
+/// So many entries have room in a new vector, and in one that entries were taken out of.
+pub const FEW: usize = 4;
 
 /// What is counted besides by those who haven't seen the sequence number `seq`: by all but connection
 /// `conn`, or where `own` is set by that connection alone. `by` is a number round 2^64.
@@ -87,13 +87,22 @@ fn entry_place(entries: &[Entry], seq: u64) -> usize
     low
 }
 
-// Whether both entries have one number and are for the same connections.
-fn is_alike(x: &Entry, y: &Entry) -> bool
+/// Whether both entries have one number and are for the same connections.
+pub fn is_alike(x: &Entry, y: &Entry) -> bool
     ensures number { result ≡ true → x.now.seq ≡ y.now.seq }
     ensures conn { result ≡ true → x.now.conn ≡ y.now.conn }
     ensures own { result ≡ true → x.now.own ≡ y.now.own }
 {
     x.seq == y.seq && x.conn == y.conn && x.own == y.own
+}
+
+/// What two entries that are alike come to.
+pub fn sum_of(x: &Entry, y: &Entry) -> Entry
+    ensures { result ≡ record x.now { by = (x.now.by + y.now.by) % 2 ^ 64 } }
+{
+    let mut sum = *x;
+    sum.by = sum.by.wrapping_add(y.by);
+    sum
 }
 
 // The entry with the number of `x`, and for the same connections, looked for from the `end`-th back.
@@ -159,8 +168,7 @@ fn add_at(entries: &mut Vec<Entry>, j: usize, x: Entry)
     ensures len { vec_len entries.new ≡ vec_len entries.old }
     ensures capacity { vec_capacity entries.old ≤ vec_capacity entries.new }
 {
-    let mut sum = entries[j];
-    sum.by = sum.by.wrapping_add(x.by);
+    let sum = sum_of(&entries[j], &x);
     entries[j] = sum;
 }
 
@@ -175,27 +183,6 @@ pub fn add_entries(entries: &mut Vec<Entry>, more: &[Entry])
     }
 }
 
-/// Makes room for so many more entries: no more than that where there are few, as in most lists.
-pub fn make_room(entries: &mut Vec<Entry>, more: usize) -> Result<(), OutOfMemory>
-    ensures items { entries.new.items ≡ entries.old.items }
-    ensures room { OnOk result (vec_len entries.new + more ≤ vec_capacity entries.new) }
-{
-    if entries.len() < FEW && more < FEW {
-        entries.reserve_exact(more)?;
-    } else {
-        entries.reserve(more)?;
-    }
-    Ok(())
-}
-
-/// Takes all entries out, and gives the room of more than a few back.
-pub fn clear(entries: &mut Vec<Entry>)
-    ensures { entries.new.items ≡ [] }
-{
-    entries.clear();
-    entries.shrink_to(FEW);
-}
-
 /// Whether half of the entries or more are up to the floor.
 pub fn is_half_old(entries: &[Entry], floor: u64) -> bool
     requires { IsRising entries.now }
@@ -206,7 +193,7 @@ pub fn is_half_old(entries: &[Entry], floor: u64) -> bool
 }
 
 /// Takes out the entries up to the floor, which nobody counts from there on, and those of nothing, and gives
-/// back room where most is spare then; that of a few stays, since a list that was filled once is filled again.
+/// back room where most is spare then.
 pub fn drop_old(entries: &mut Vec<Entry>, floor: u64)
     requires { IsRising entries.old.items }
     ensures { DropsOld entries.old.items entries.new.items floor }

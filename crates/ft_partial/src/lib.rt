@@ -9,6 +9,7 @@
 
 mod changes;
 mod entries;
+mod entry_list;
 mod items;
 mod stages;
 mod table;

@@ -2,12 +2,14 @@
 
 ghost use Rattle.std.specs.Prelude.{◌≡◌, ℕ, ◌<◌, ◌≤◌, ◌^◌, List, [], ◌++◌, IfOk, OnOk, OnErr};
 ghost use Rattle.ft_partial.specs.Entries.{AddsEntries};
+ghost use Rattle.ft_partial.specs.EntryLists.{entries_of};
 ghost use Rattle.ft_partial.specs.Items.{Item, length_seen};
 ghost use Rattle.ft_partial.specs.Stages.{AreStages};
 ghost use Rattle.ft_partial.specs.Tables.{length_at, CountsItems, AddsAll, AddsChange, AddsForAll};
 
 use crate::changes::Change;
-use crate::entries::{Entry, add_entries, drop_nothing, make_room, unseen};
+use crate::entries::{Entry, unseen};
+use crate::entry_list::EntryList;
 use ft_base::{OutOfMemory, Perspective};
 use std::alloc::Global;
 use std::marker::Model;
@@ -44,28 +46,28 @@ impl Model for Stages {
 // The entries of a table of stages.
 #[derive(Drop)]
 struct Recent {
-    entries: Vec<Entry>,
+    entries: EntryList,
 }
 
 impl Recent {
     // The entries, in any order.
     fn new(alloc: Global, more: &[Entry]) -> Result<Box<Recent>, OutOfMemory>
-        ensures adds { IfOk result (λ recent. AddsEntries [] recent.value.entries.items more.now) }
-        ensures stages { IfOk result (λ recent. AreStages recent.value.entries.items) }
+        ensures adds { IfOk result (λ recent. AddsEntries [] (entries_of recent.value.entries) more.now) }
+        ensures stages { IfOk result (λ recent. AreStages (entries_of recent.value.entries)) }
     {
-        let mut entries = Vec::new(alloc);
-        put_entries(&mut entries, more)?;
+        let mut entries = EntryList::Empty;
+        put_entries(&mut entries, alloc, more)?;
         Ok(Box::new(alloc, Recent { entries })?)
     }
 
     // Adds entries, in any order.
-    fn put(&mut self, more: &[Entry]) -> Result<(), OutOfMemory>
-        requires { AreStages self.old.entries.items }
-        ensures ok { OnOk result (AddsEntries self.old.entries.items self.new.entries.items more.now) }
-        ensures stages { AreStages self.new.entries.items }
-        ensures err { OnErr result (self.new.entries.items ≡ self.old.entries.items) }
+    fn put(&mut self, alloc: Global, more: &[Entry]) -> Result<(), OutOfMemory>
+        requires { AreStages (entries_of self.old.entries) }
+        ensures ok { OnOk result (AddsEntries (entries_of self.old.entries) (entries_of self.new.entries) more.now) }
+        ensures stages { AreStages (entries_of self.new.entries) }
+        ensures err { OnErr result (entries_of self.new.entries ≡ entries_of self.old.entries) }
     {
-        put_entries(&mut self.entries, more)
+        put_entries(&mut self.entries, alloc, more)
     }
 }
 
@@ -163,7 +165,7 @@ impl Stages {
             return Ok(());
         }
         match &mut self.recent {
-            Some(recent) => recent.put(more),
+            Some(recent) => recent.put(self.alloc, more),
             None => {
                 self.recent = Some(Recent::new(self.alloc, more)?);
                 Ok(())
@@ -173,14 +175,13 @@ impl Stages {
 }
 
 // Adds entries, in any order, and takes those of nothing out.
-fn put_entries(entries: &mut Vec<Entry>, more: &[Entry]) -> Result<(), OutOfMemory>
-    requires { AreStages entries.old.items }
-    ensures ok { OnOk result (AddsEntries entries.old.items entries.new.items more.now) }
-    ensures stages { AreStages entries.new.items }
-    ensures err { OnErr result (entries.new.items ≡ entries.old.items) }
+fn put_entries(entries: &mut EntryList, alloc: Global, more: &[Entry]) -> Result<(), OutOfMemory>
+    requires { AreStages (entries_of entries.old) }
+    ensures ok { OnOk result (AddsEntries (entries_of entries.old) (entries_of entries.new) more.now) }
+    ensures stages { AreStages (entries_of entries.new) }
+    ensures err { OnErr result (entries_of entries.new ≡ entries_of entries.old) }
 {
-    make_room(entries, more.len())?;
-    add_entries(entries, more);
-    drop_nothing(entries);
+    entries.add(alloc, more)?;
+    entries.drop_nothing();
     Ok(())
 }

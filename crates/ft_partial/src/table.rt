@@ -6,7 +6,8 @@ ghost use Rattle.ft_partial.specs.SameStamps.{SameByStamps, ExchangesItem};
 ghost use Rattle.ft_partial.specs.Tables.{length_at, CountsItems, Adds, Exchanges, AddsAll, AddsChange, AddsForAll, SameFrom};
 
 use crate::changes::Change;
-use crate::entries::{Entry, add_entries, clear, drop_old, is_half_old, make_room, newest, unseen};
+use crate::entries::{Entry, is_half_old, newest, unseen};
+use crate::entry_list::EntryList;
 use ft_base::{Datum, Element, OutOfMemory, Perspective, Stamp, Stamps};
 use std::alloc::Global;
 use std::marker::Model;
@@ -29,19 +30,20 @@ pub struct Table {
     // how many elements all see whose reference number is `latest` or higher
     last: u64,
     // what the others count besides
-    entries: Vec<Entry>,
+    entries: EntryList,
     latest: u64,
     alloc: Global,
 }
 
 impl Model for Table {
+    ghost use Rattle.ft_partial.specs.EntryLists.{entries_of};
     ghost use Rattle.ft_partial.specs.Tables.{Lengths, IsSoundTable};
 
     ghost Value = { Lengths };
 
-    ghost view = { λ a. record { floor = a.floor; last = a.last; entries = a.entries.items } };
+    ghost view = { λ a. record { floor = a.floor; last = a.last; entries = entries_of a.entries } };
 
-    ghost invariant = { λ a. IsSoundTable (record { floor = a.floor; last = a.last; entries = a.entries.items }) a.latest };
+    ghost invariant = { λ a. IsSoundTable (record { floor = a.floor; last = a.last; entries = entries_of a.entries }) a.latest };
 }
 
 impl Table {
@@ -53,7 +55,7 @@ impl Table {
         Table {
             floor: 0,
             last: 0,
-            entries: Vec::new(alloc),
+            entries: EntryList::Empty,
             latest: 0,
             alloc,
         }
@@ -164,8 +166,7 @@ impl Table {
         ensures floor { self.new.floor ≡ self.old.floor }
         ensures err { OnErr result (self.new ≡ self.old) }
     {
-        make_room(&mut self.entries, more.len())?;
-        add_entries(&mut self.entries, more);
+        self.entries.add(self.alloc, more)?;
         self.last = self.last.wrapping_add(last);
         self.latest = newest(self.entries.as_slice());
         Ok(())
@@ -198,9 +199,9 @@ impl Table {
     {
         self.floor = floor;
         if self.latest <= floor {
-            clear(&mut self.entries);
+            self.entries.clear();
         } else if is_half_old(self.entries.as_slice(), floor) {
-            drop_old(&mut self.entries, floor);
+            self.entries.drop_old(floor);
         }
     }
 }

@@ -1,5 +1,6 @@
 use Rattle.std.proofs.Common.{[], ap, sym, ◌∙◌}
 use Rattle.ft_partial.specs.declared.stages.Recent.{Recent}
+use Rattle.ft_partial.specs.EntryLists.{entries_of}
 use Rattle.ft_partial.specs.Stages.{recent_entries}
 use Rattle.std.proofs.lemmas.Result.{on_ok_weaker}
 use Rattle.ft_partial.proofs.TableLemmas.{adds_all, stands-all}
@@ -9,7 +10,7 @@ pub returns-in-Some-clause-adds : goal.returns-in-Some-clause-adds
 returns-in-Some-clause-adds c =
     on_ok_weaker c.put_in.result
     (adds_all c.args.self.now c.args.other.now c.put_in.new.self c.as_slice.result.now c.other.inside.last
-    (c.as_slice.ensures.value ∙ ap (λ (z : Recent). z.entries.items) c.deref.ensures ∙ ap recent_entries (sym c.in-Some.is) ∙ ap (λ t. t.entries) c.other.view_is)
+    (c.as_slice.ensures ∙ ap (λ (z : Recent). entries_of z.entries) c.deref.ensures ∙ ap recent_entries (sym c.in-Some.is) ∙ ap (λ t. t.entries) c.other.view_is)
     (ap (λ t. t.last) c.other.view_is)) c.put_in.ensures.lengths
 
 pub returns-in-Some-clause-ok : goal.returns-in-Some-clause-ok

@@ -1,5 +1,6 @@
 use Rattle.std.proofs.Common.{◌<◌, ◌^◌, [], arith, ap, refl, sym, ◌∙◌}
 use Rattle.ft_partial.specs.declared.stages.Recent.{Recent}
+use Rattle.ft_partial.specs.EntryLists.{entries_of}
 use Rattle.ft_partial.specs.Stages.{recent_entries}
 use Rattle.ft_partial.proofs.TableLemmas.{length_at_is, length_at-last}
 use Rattle.ft_partial.proofs.stages.Stages.length.Goals as goal
@@ -19,7 +20,7 @@ returns-then-at-eq-LAST-clause-sum c = λ xs from stands fits.
 pub returns-in-Some-clause-at : goal.returns-in-Some-clause-at
 returns-in-Some-clause-at c =
     length_at_is c.args.self.now c.self.inside.last c.as_slice.result.now c.args.at.r c.args.at.c c.unseen.result (ap (λ t. t.last) c.self.view_is)
-    (c.as_slice.ensures.value ∙ ap (λ (z : Recent). z.entries.items) c.deref.ensures ∙ ap recent_entries (sym c.in-Some.is) ∙ ap (λ t. t.entries) c.self.view_is)
+    (c.as_slice.ensures ∙ ap (λ (z : Recent). entries_of z.entries) c.deref.ensures ∙ ap recent_entries (sym c.in-Some.is) ∙ ap (λ t. t.entries) c.self.view_is)
     c.unseen.ensures
 
 pub returns-in-Some-clause-sum : goal.returns-in-Some-clause-sum

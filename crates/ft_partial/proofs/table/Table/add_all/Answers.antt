@@ -6,7 +6,7 @@ use Rattle.ft_partial.proofs.table.Table.add_all.Goals as goal
 pub returns-clause-adds : goal.returns-clause-adds
 returns-clause-adds c =
     on_ok_weaker c.put_in.result
-    (adds_all c.args.self.now c.args.other.now c.put_in.new.self c.as_slice.result.now c.other.inside.last (c.as_slice.ensures.value ∙ ap (λ t. t.entries) c.other.view_is)
+    (adds_all c.args.self.now c.args.other.now c.put_in.new.self c.as_slice.result.now c.other.inside.last (c.as_slice.ensures ∙ ap (λ t. t.entries) c.other.view_is)
     (ap (λ t. t.last) c.other.view_is)) c.put_in.ensures.lengths
 
 pub returns-clause-ok : goal.returns-clause-ok

@@ -1,4 +1,5 @@
 use Rattle.std.proofs.Common.{ap}
+use Rattle.ft_partial.specs.EntryLists.{entries_of}
 use Rattle.ft_partial.proofs.TableLemmas.{same_from, same_kept, same_cleared, stands-higher, stands-folded}
 use Rattle.ft_partial.proofs.table.Table.fold_to.Goals as goal
 
@@ -10,7 +11,7 @@ invariant_of-self-then-is_half_old c = record {
 
 pub returns-then-self-floor-clause-lengths : goal.returns-then-self-floor-clause-lengths
 returns-then-self-floor-clause-lengths c =
-    same_cleared c.args.self.now _ c.args.floor c.self.inside.latest c.self.inside.entries.items (ap (λ t. t.entries) c.self.view_is) (ap (λ t. t.last) c.self.view_is) c.clear.ensures
+    same_cleared c.args.self.now _ c.args.floor c.self.inside.latest (entries_of c.self.inside.entries) (ap (λ t. t.entries) c.self.view_is) (ap (λ t. t.last) c.self.view_is) c.clear.ensures
     c.self.invariant.up_to c.if-self-floor.true
 
 pub returns-then-self-floor-clause-same : goal.returns-then-self-floor-clause-same
@@ -21,7 +22,7 @@ returns-then-self-floor-clause-items c = λ xs stands. stands-folded _ xs (retur
 
 pub returns-then-is_half_old-clause-lengths : goal.returns-then-is_half_old-clause-lengths
 returns-then-is_half_old-clause-lengths c =
-    same_from c.args.self.now _ c.args.floor c.self.inside.entries.items (ap (λ t. t.entries) c.self.view_is) (ap (λ t. t.last) c.self.view_is) c.drop_old.ensures
+    same_from c.args.self.now _ c.args.floor (entries_of c.self.inside.entries) (ap (λ t. t.entries) c.self.view_is) (ap (λ t. t.last) c.self.view_is) c.drop_old.ensures
 
 pub returns-then-is_half_old-clause-same : goal.returns-then-is_half_old-clause-same
 returns-then-is_half_old-clause-same c = stands-higher c.args.self.now _ (returns-then-is_half_old-clause-lengths c) c.requires

@@ -3,4 +3,4 @@ use Rattle.ft_partial.proofs.TableLemmas.{stands-none}
 use Rattle.ft_partial.proofs.table.Table.new.Goals as goal
 
 pub returns-clause-stands : goal.returns-clause-stands
-returns-clause-stands c = stands-none _ refl c.new.ensures.items
+returns-clause-stands c = stands-none _ refl refl

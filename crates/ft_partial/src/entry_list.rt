@@ -1,0 +1,156 @@
+//! A list of entries, of which a single one stands in place.
+
+ghost use Rattle.std.specs.Prelude.{◌≡◌, [], ◌∷◌, IfOk, IfSome, OnOk, OnErr};
+ghost use Rattle.ft_partial.specs.Entries.{IsRising, AddsEntries, DropsOld};
+ghost use Rattle.ft_partial.specs.EntryLists.{entries_of};
+
+use crate::entries::{Entry, FEW, add_entries, drop_nothing, drop_old, is_alike, sum_of};
+use ft_base::OutOfMemory;
+use std::alloc::Global;
+use std::slice;
+
+/// Entries by rising number. Most lists of a tree hold none or one, and take no memory then. Contracts see
+/// the entries.
+#[derive(Drop)]
+pub enum EntryList {
+    Empty,
+    // never an entry of nothing
+    One(Entry),
+    Many(Vec<Entry>),
+}
+
+impl EntryList {
+    /// The entries.
+    pub fn as_slice(&self) -> &[Entry]
+        ensures { result.now ≡ entries_of self.now }
+    {
+        match self {
+            EntryList::Empty => &[],
+            EntryList::One(one) => slice::from_ref(one),
+            EntryList::Many(entries) => entries.as_slice(),
+        }
+    }
+
+    /// Adds entries, in any order.
+    ///
+    /// Returns `OutOfMemory` where there is no room, and then the list holds what it did.
+    pub fn add(&mut self, alloc: Global, more: &[Entry]) -> Result<(), OutOfMemory>
+        requires { IsRising (entries_of self.old) }
+        ensures ok { OnOk result (AddsEntries (entries_of self.old) (entries_of self.new) more.now) }
+        ensures err { OnErr result (entries_of self.new ≡ entries_of self.old) }
+    {
+        match self {
+            EntryList::Many(entries) => add_to(entries, more),
+            EntryList::Empty | EntryList::One(_) => self.add_to_few(alloc, more),
+        }
+    }
+
+    // Adds entries, in any order, to none or one in place.
+    fn add_to_few(&mut self, alloc: Global, more: &[Entry]) -> Result<(), OutOfMemory>
+        requires { IsRising (entries_of self.old) }
+        ensures ok { OnOk result (AddsEntries (entries_of self.old) (entries_of self.new) more.now) }
+        ensures err { OnErr result (entries_of self.new ≡ entries_of self.old) }
+    {
+        let count = more.len();
+        if count == 0 {
+            return Ok(());
+        }
+        *self = joined(alloc, self.as_slice(), more)?;
+        Ok(())
+    }
+
+    /// Takes all entries out.
+    pub fn clear(&mut self)
+        ensures { entries_of self.new ≡ [] }
+    {
+        *self = EntryList::Empty;
+    }
+
+    /// Takes entries up to the floor, which nobody counts from there on, and those of nothing out of a vector.
+    /// An entry in place takes no memory, and stays.
+    pub fn drop_old(&mut self, floor: u64)
+        requires { IsRising (entries_of self.old) }
+        ensures { DropsOld (entries_of self.old) (entries_of self.new) floor }
+    {
+        match self {
+            EntryList::Many(entries) => drop_old(entries, floor),
+            EntryList::Empty | EntryList::One(_) => {}
+        }
+    }
+
+    /// Takes the entries of nothing out of a vector, once the last one is of nothing or there is no more room.
+    pub fn drop_nothing(&mut self)
+        requires { IsRising (entries_of self.old) }
+        ensures { DropsOld (entries_of self.old) (entries_of self.new) 0 }
+    {
+        match self {
+            EntryList::Many(entries) => drop_nothing(entries),
+            EntryList::Empty | EntryList::One(_) => {}
+        }
+    }
+}
+
+// Adds entries, in any order, to a vector.
+fn add_to(entries: &mut Vec<Entry>, more: &[Entry]) -> Result<(), OutOfMemory>
+    requires { IsRising entries.old.items }
+    ensures ok { OnOk result (AddsEntries entries.old.items entries.new.items more.now) }
+    ensures err { OnErr result (entries.new.items ≡ entries.old.items) }
+{
+    entries.reserve(more.len())?;
+    add_entries(entries, more);
+    Ok(())
+}
+
+// The entries with others, in any order.
+fn joined(alloc: Global, entries: &[Entry], more: &[Entry]) -> Result<EntryList, OutOfMemory>
+    requires { IsRising entries.now }
+    ensures { IfOk result (λ list. AddsEntries entries.now (entries_of list) more.now) }
+{
+    match single(entries, more) {
+        Some(one) => Ok(in_place(one)),
+        None => Ok(EntryList::Many(both(alloc, entries, more)?)),
+    }
+}
+
+// The one entry that both lists come to, where one is enough for them.
+fn single(entries: &[Entry], more: &[Entry]) -> Option<Entry>
+    ensures { IfSome result (λ one. AddsEntries entries.now (one ∷ []) more.now) }
+{
+    match more {
+        &[x] => single_with(entries, x),
+        _ => None,
+    }
+}
+
+// The one entry that the entries and a further one come to, where one is enough for them.
+fn single_with(entries: &[Entry], x: Entry) -> Option<Entry>
+    ensures { IfSome result (λ one. AddsEntries entries.now (one ∷ []) (x ∷ [])) }
+{
+    match entries {
+        [] => Some(x),
+        [one] if is_alike(one, &x) => Some(sum_of(one, &x)),
+        _ => None,
+    }
+}
+
+// The list of one entry: none where it is of nothing.
+fn in_place(one: Entry) -> EntryList
+    ensures { DropsOld (one ∷ []) (entries_of result) 0 }
+{
+    if one.by == 0 {
+        EntryList::Empty
+    } else {
+        EntryList::One(one)
+    }
+}
+
+// A vector with the entries of both, with room for a few.
+fn both(alloc: Global, entries: &[Entry], more: &[Entry]) -> Result<Vec<Entry>, OutOfMemory>
+    requires { IsRising entries.now }
+    ensures { IfOk result (λ all. AddsEntries entries.now all.items more.now) }
+{
+    let mut all = Vec::with_capacity(alloc, FEW)?;
+    all.extend_from_slice(entries)?;
+    add_to(&mut all, more)?;
+    Ok(all)
+}
