@@ -22,7 +22,7 @@ use std::marker::Brand;
 use std::sync::ledger::{Blank, Ledger};
 
 /// How many leaves of each list a tidying looks at.
-const TIDIED: u64 = 4;
+const TIDIED: u64 = 2;
 
 /// A text, a table, the pending stages in order, and the numbers of a document.
 #[derive(Drop)]

@@ -31,7 +31,7 @@ pub(crate) fn contents_of(alloc: Global, seg: &Seg) -> Result<Vec<TextContent>, 
     match seg {
         Seg::Chars { text } => runs_of(alloc, text.as_str()),
         Seg::Marker { ref_type } => {
-            let mut contents = Vec::new(alloc);
+            let mut contents = Vec::with_capacity(alloc, 1)?;
             contents.push(TextContent::marker(*ref_type))?;
             Ok(contents)
         }
@@ -52,7 +52,7 @@ fn runs_of(alloc: Global, text: &str) -> Result<Vec<TextContent>, OutOfMemory>
     ensures new { IfOk result (λ v. are_new v.items ≡ true) }
     ensures one { IfOk result (λ v. length (chars text.now) ≤ longest_run → length v.items ≤ 1) }
 {
-    let mut contents = Vec::new(alloc);
+    let mut contents = Vec::with_capacity(alloc, text.len() / MAX_RUN as usize + 1)?;
     let mut rest = text;
     while !rest.is_empty() {
         let at = run_end(rest);
