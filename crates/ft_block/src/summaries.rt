@@ -174,7 +174,7 @@ fn stages_change(e: &Element, len: u64, new: &Element, new_len: u64) -> Result<C
     let stage = View::Of(LenView::Stage(0));
     let gone = shown_in(e, len, stage);
     let come = shown_in(new, new_len, stage);
-    Ok(Change::for_all(e.dels.allocator(), gone, come))
+    Ok(Change::for_all(gone, come))
 }
 
 // The same for any elements.

@@ -3,7 +3,7 @@
 ghost use Rattle.std.specs.Prelude.{◌≡◌, ◌+◌, ◌%◌, ◌^◌, [], IfOk};
 ghost use Rattle.ft_partial.specs.Tables.{IsExchange};
 
-use crate::entries::Entry;
+use crate::entry_list::EntryList;
 use crate::items::{last_length, push_item};
 use ft_base::{Element, OutOfMemory};
 use std::alloc::Global;
@@ -14,7 +14,7 @@ use std::marker::Model;
 #[derive(Drop)]
 pub struct Change {
     pub(crate) last: u64,
-    pub(crate) entries: Vec<Entry>,
+    pub(crate) entries: EntryList,
 }
 
 impl Model for Change {
@@ -22,7 +22,9 @@ impl Model for Change {
 
     ghost Value = { Lengths };
 
-    ghost view = { λ a. record { floor = 0; last = a.last; entries = a.entries.items } };
+    ghost use Rattle.ft_partial.specs.EntryLists.{entries_of};
+
+    ghost view = { λ a. record { floor = 0; last = a.last; entries = entries_of a.entries } };
 }
 
 impl Change {
@@ -38,9 +40,9 @@ impl Change {
     ) -> Result<Change, OutOfMemory>
         ensures { IfOk result (λ change. IsExchange floor change.entries change.last e.now len new.now new_len) }
     {
-        let mut entries = Vec::new(alloc);
-        push_item(&mut entries, floor, new, new_len)?;
-        push_item(&mut entries, floor, e, 0u64.wrapping_sub(len))?;
+        let mut entries = EntryList::Empty;
+        push_item(&mut entries, alloc, floor, new, new_len)?;
+        push_item(&mut entries, alloc, floor, e, 0u64.wrapping_sub(len))?;
         let gone = last_length(e, len);
         let come = last_length(new, new_len);
         Ok(Change {
@@ -50,13 +52,13 @@ impl Change {
     }
 
     /// What `come` elements that all see in the place of `gone` such elements add. It takes no memory.
-    pub fn for_all(alloc: Global, gone: u64, come: u64) -> Change
+    pub fn for_all(gone: u64, come: u64) -> Change
         ensures last { (result.last + gone) % 2 ^ 64 ≡ come }
         ensures entries { result.entries ≡ [] }
     {
         Change {
             last: come.wrapping_sub(gone),
-            entries: Vec::new(alloc),
+            entries: EntryList::Empty,
         }
     }
 }

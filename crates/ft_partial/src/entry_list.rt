@@ -1,6 +1,6 @@
 //! A list of entries, of which a single one stands in place.
 
-ghost use Rattle.std.specs.Prelude.{◌≡◌, [], ◌∷◌, IfOk, IfSome, OnOk, OnErr};
+ghost use Rattle.std.specs.Prelude.{◌≡◌, [], ◌∷◌, ◌++◌, IfOk, IfSome, OnOk, OnErr};
 ghost use Rattle.ft_partial.specs.Entries.{IsRising, AddsEntries, DropsOld};
 ghost use Rattle.ft_partial.specs.EntryLists.{entries_of};
 
@@ -9,8 +9,8 @@ use ft_base::OutOfMemory;
 use std::alloc::Global;
 use std::slice;
 
-/// Entries by rising number. Most lists of a tree hold none or one, and take no memory then. Contracts see
-/// the entries.
+/// Entries: by rising number in a table, as they come in a change. Most lists hold none or one, and take no
+/// memory then. Contracts see the entries.
 #[derive(Drop)]
 pub enum EntryList {
     Empty,
@@ -56,6 +56,20 @@ impl EntryList {
             return Ok(());
         }
         *self = joined(alloc, self.as_slice(), more)?;
+        Ok(())
+    }
+
+    /// Puts an entry behind the others, whatever their numbers.
+    ///
+    /// Returns `OutOfMemory` where there is no room.
+    pub fn push(&mut self, alloc: Global, x: Entry) -> Result<(), OutOfMemory>
+        ensures { OnOk result (entries_of self.new ≡ entries_of self.old ++ x ∷ []) }
+    {
+        match self {
+            EntryList::Empty => *self = EntryList::One(x),
+            EntryList::One(one) => *self = EntryList::Many(pair(alloc, *one, x)?),
+            EntryList::Many(entries) => entries.push(x)?,
+        }
         Ok(())
     }
 
@@ -142,6 +156,16 @@ fn in_place(one: Entry) -> EntryList
     } else {
         EntryList::One(one)
     }
+}
+
+// A vector of two entries, with room for a few.
+fn pair(alloc: Global, x: Entry, y: Entry) -> Result<Vec<Entry>, OutOfMemory>
+    ensures { IfOk result (λ both. both.items ≡ x ∷ y ∷ []) }
+{
+    let mut both = Vec::with_capacity(alloc, FEW)?;
+    both.push(x)?;
+    both.push(y)?;
+    Ok(both)
 }
 
 // A vector with the entries of both, with room for a few.

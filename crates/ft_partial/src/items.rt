@@ -9,10 +9,13 @@ ghost use Rattle.std.specs.Prelude.{◌≡◌, List, [], ◌∷◌, ◌++◌, On
 ghost use Rattle.std.specs.List.{list_any};
 ghost use Rattle.ft_base.specs.declared.stamps.Stamp.{Stamp};
 ghost use Rattle.ft_base.specs.Visibility.{is_acked};
+ghost use Rattle.ft_partial.specs.EntryLists.{entries_of};
 ghost use Rattle.ft_partial.specs.Elements.{is_stamp_by, IsFirst, last_length, AddsBut, TakesOwn, TakesOne, AddsItem};
 
 use crate::entries::Entry;
+use crate::entry_list::EntryList;
 use ft_base::{Element, OutOfMemory, Stamp};
+use std::alloc::Global;
 
 /// A sequenced removal.
 #[derive(Clone, Copy)]
@@ -95,14 +98,15 @@ fn first_removal(dels: &[Stamp]) -> Option<Removal>
 // The stamp's connection counts `by` less until it has seen the number, if it is not `conn` and made
 // none of the stamps before.
 fn take_one(
-    entries: &mut Vec<Entry>,
+    entries: &mut EntryList,
+    alloc: Global,
     seq: u64,
     by: u64,
     conn: u32,
     before: &[Stamp],
     stamp: Stamp,
 ) -> Result<(), OutOfMemory>
-    ensures { OnOk result (TakesOne entries.old.items entries.new.items seq by conn before.now stamp) }
+    ensures { OnOk result (TakesOne (entries_of entries.old) (entries_of entries.new) seq by conn before.now stamp) }
 {
     if let Stamp::Acked {
         seq: _,
@@ -110,12 +114,13 @@ fn take_one(
     } = stamp
     {
         if maker != conn && !is_any_by(before, maker) {
-            entries.push(Entry {
+            let less = Entry {
                 seq,
                 conn: maker,
                 own: true,
                 by: 0u64.wrapping_sub(by),
-            })?;
+            };
+            entries.push(alloc, less)?;
         }
     }
     Ok(())
@@ -123,52 +128,56 @@ fn take_one(
 
 // The connections of the stamps other than `conn` count `by` less until they have seen the number.
 fn take_own(
-    entries: &mut Vec<Entry>,
+    entries: &mut EntryList,
+    alloc: Global,
     seq: u64,
     by: u64,
     conn: u32,
     stamps: &[Stamp],
 ) -> Result<(), OutOfMemory>
-    ensures { OnOk result (TakesOwn entries.old.items entries.new.items seq by conn stamps.now) }
+    ensures { OnOk result (TakesOwn (entries_of entries.old) (entries_of entries.new) seq by conn stamps.now) }
 {
     for i in 0..stamps.len() {
-        take_one(entries, seq, by, conn, &stamps[..i], stamps[i])?;
+        take_one(entries, alloc, seq, by, conn, &stamps[..i], stamps[i])?;
     }
     Ok(())
 }
 
 // All but `conn` and the connections of the stamps count `by` more until they have seen the number.
 fn push_but(
-    entries: &mut Vec<Entry>,
+    entries: &mut EntryList,
+    alloc: Global,
     floor: u64,
     seq: u64,
     by: u64,
     conn: u32,
     stamps: &[Stamp],
 ) -> Result<(), OutOfMemory>
-    ensures { OnOk result (AddsBut floor entries.old.items entries.new.items seq by conn stamps.now) }
+    ensures { OnOk result (AddsBut floor (entries_of entries.old) (entries_of entries.new) seq by conn stamps.now) }
 {
     if seq <= floor || by == 0 {
         return Ok(());
     }
-    entries.push(Entry {
+    let more = Entry {
         seq,
         conn,
         own: false,
         by,
-    })?;
-    take_own(entries, seq, by, conn, stamps)
+    };
+    entries.push(alloc, more)?;
+    take_own(entries, alloc, seq, by, conn, stamps)
 }
 
 /// Adds at the end what `len` elements of these stamps count from the floor up, besides what all see of
 /// them in the end.
 pub fn push_item(
-    entries: &mut Vec<Entry>,
+    entries: &mut EntryList,
+    alloc: Global,
     floor: u64,
     e: &Element,
     len: u64,
 ) -> Result<(), OutOfMemory>
-    ensures { OnOk result (AddsItem floor entries.old.items entries.new.items e.now len) }
+    ensures { OnOk result (AddsItem floor (entries_of entries.old) (entries_of entries.new) e.now len) }
 {
     let Stamp::Acked { seq, conn } = e.ins else {
         return Ok(());
@@ -176,10 +185,10 @@ pub fn push_item(
     let dels = e.dels.as_slice();
     let less = 0u64.wrapping_sub(len);
     match first_removal(dels) {
-        None => push_but(entries, floor, seq, less, conn, dels),
+        None => push_but(entries, alloc, floor, seq, less, conn, dels),
         Some(first) => {
-            push_but(entries, floor, first.seq, len, first.conn, dels)?;
-            push_but(entries, floor, seq.min(first.seq), less, conn, dels)
+            push_but(entries, alloc, floor, first.seq, len, first.conn, dels)?;
+            push_but(entries, alloc, floor, seq.min(first.seq), less, conn, dels)
         }
     }
 }
