@@ -1,22 +1,24 @@
 -- How far a play is, and what is written of it.
 use Rattle.std.proofs.Common.{◌≡◌, ℕ, ◌+◌, Bool, true, false, ◌&&◌, List, [], ◌∷◌, ◌++◌, Option, Some, None, Ok, Err, refl, sym, ◌∙◌, ap, subst, append-nil, map}
-use Rattle.std.specs.Prelude.{bytes_eq, option_map, string_bytes}
+use Rattle.std.specs.Prelude.{bytes_eq, option_map}
 use Rattle.std.specs.List.{list_all}
-use Rattle.std.specs.declared.alloc.Global.{Global}
-use Rattle.std.specs.declared.string.String.{String}
 use Rattle.std.proofs.lemmas.Grind.{flat_map-append}
 use Rattle.std.proofs.lemmas.List.{map-append}
 use Rattle.std.proofs.lemmas.List.Folds.{list_all-append}
 use Rattle.ft_io.specs.Lines.{with_lf}
+use Rattle.ft_msg.specs.declared.views.View.{View}
+use Rattle.ft_msg.specs.Answers.{view_content}
+use Rattle.ft_msg.specs.Content.{content}
 use Rattle.ft_seqr.specs.declared.events.Event.{Event}
 use Rattle.ft_seqr.specs.declared.refusals.Refusal.{Refusal}
+use Rattle.ft_seqr.specs.ViewLines.{content_lines}
 use Rattle.ft_seqr.specs.World.{NamedClient, NaiveWorld, Output, step}
 use Rattle.ft_session.specs.Worlds.{WorldStands}
 use Rattle.ft_replay.specs.declared.play.Play.{Play as PlayState}
 use Rattle.ft_replay.specs.declared.showing.Agreement.{Agreement}
 use Rattle.ft_replay.specs.LineForm.{bytes_of}
 use Rattle.ft_replay.specs.Play.{Played, after_event, after_events, client_line, played_on, shown_client, shown_text}
-use Rattle.ft_replay.specs.Playing.{Compares, HasShown, Plays}
+use Rattle.ft_replay.specs.Playing.{Compares, HasShown, Plays, content_text}
 
 -- ---- the clients that were shown
 
@@ -24,29 +26,34 @@ and_true : (b : Bool) → (b && true) ≡ b
 and_true true = refl
 and_true false = refl
 
+-- what a client shows is what its view does
+pub content_text-shows : (view : View) (c : NamedClient) → view_content view ≡ content c.client → content_text view ≡ shown_text c
+unfolding shown_text
+content_text-shows view c is = ap (λ d. bytes_of (content_lines d)) is
+
 -- the first client
-pub compares_first : (agreement : Agreement) (shown : List NamedClient) (c : NamedClient) (content : String Global) → agreement.first ≡ None → Compares agreement shown
-    → string_bytes content ≡ shown_text c → Compares (record { first = Some content; all = agreement.all }) (shown ++ c ∷ [])
-compares_first agreement [] c content none h is = record { first = ap Some is; all = h.all }
-compares_first agreement (d ∷ ds) c content none h is =
-    let e : None ≡ Some (shown_text d) = ap (λ (first : Option (String Global)). option_map string_bytes first) (sym none) ∙ h.first in
+pub compares_first : (agreement : Agreement) (shown : List NamedClient) (c : NamedClient) (view : View) → agreement.first ≡ None → Compares agreement shown
+    → content_text view ≡ shown_text c → Compares (record { first = Some view; all = agreement.all }) (shown ++ c ∷ [])
+compares_first agreement [] c view none h is = record { first = ap Some is; all = h.all }
+compares_first agreement (d ∷ ds) c view none h is =
+    let e : None ≡ Some (shown_text d) = ap (λ (first : Option View). option_map content_text first) (sym none) ∙ h.first in
     (cc)
 
 -- a further client
-pub compares_next : (agreement : Agreement) (shown : List NamedClient) (c : NamedClient) (content first : String Global) (one next : List ℕ) (all : Bool) → one ≡ string_bytes first → next ≡ string_bytes content → agreement.first ≡ Some first
-    → Compares agreement shown → string_bytes content ≡ shown_text c → all ≡ (agreement.all && bytes_eq one next)
+pub compares_next : (agreement : Agreement) (shown : List NamedClient) (c : NamedClient) (view first : View) (all : Bool) → agreement.first ≡ Some first
+    → Compares agreement shown → content_text view ≡ shown_text c → all ≡ (agreement.all && bytes_eq (content_text first) (content_text view))
     → Compares (record agreement { all = all }) (shown ++ c ∷ [])
-compares_next agreement [] c content first one next all is_one is_next some h is both =
-    let e : Some (string_bytes first) ≡ None = ap (λ (o : Option (String Global)). option_map string_bytes o) (sym some) ∙ h.first in
+compares_next agreement [] c view first all some h is both =
+    let e : Some (content_text first) ≡ None = ap (λ (o : Option View). option_map content_text o) (sym some) ∙ h.first in
     (cc)
-compares_next agreement (d ∷ ds) c content first one next all is_one is_next some h is both =
-    let e : Some (string_bytes first) ≡ Some (shown_text d) = ap (λ (o : Option (String Global)). option_map string_bytes o) (sym some) ∙ h.first in
-    let same : string_bytes first ≡ shown_text d = cc in
+compares_next agreement (d ∷ ds) c view first all some h is both =
+    let e : Some (content_text first) ≡ Some (shown_text d) = ap (λ (o : Option View). option_map content_text o) (sym some) ∙ h.first in
+    let same : content_text first ≡ shown_text d = cc in
     record {
       first = h.first;
-      all = both ∙ ap (λ b. b && bytes_eq one next) h.all
-          ∙ ap (λ text. list_all (λ x. bytes_eq (shown_text d) (shown_text x)) ds && bytes_eq text next) (is_one ∙ same)
-          ∙ ap (λ text. list_all (λ x. bytes_eq (shown_text d) (shown_text x)) ds && bytes_eq (shown_text d) text) (is_next ∙ is)
+      all = both ∙ ap (λ b. b && bytes_eq (content_text first) (content_text view)) h.all
+          ∙ ap (λ text. list_all (λ x. bytes_eq (shown_text d) (shown_text x)) ds && bytes_eq text (content_text view)) same
+          ∙ ap (λ text. list_all (λ x. bytes_eq (shown_text d) (shown_text x)) ds && bytes_eq (shown_text d) text) is
           ∙ ap (λ b. list_all (λ x. bytes_eq (shown_text d) (shown_text x)) ds && b) (sym (and_true (bytes_eq (shown_text d) (shown_text c))))
           ∙ sym (list_all-append (λ x. bytes_eq (shown_text d) (shown_text x)) ds (c ∷ []));
     }

@@ -1,6 +1,9 @@
 -- How far the code of a play follows it.
 use Rattle.std.specs.Prelude.{◌≡◌, ℕ, List, [], ◌∷◌, Option, Some, None, map, option_map, string_bytes}
+use Rattle.ft_msg.specs.declared.views.View.{View}
+use Rattle.ft_msg.specs.Answers.{view_content}
 use Rattle.ft_session.specs.Worlds.{WorldStands}
+use Rattle.ft_seqr.specs.ViewLines.{content_lines}
 use Rattle.ft_seqr.specs.World.{NamedClient}
 use Rattle.ft_replay.specs.declared.play.Play.{Play as PlayState}
 use Rattle.ft_replay.specs.declared.showing.Agreement.{Agreement}
@@ -13,9 +16,13 @@ abbrev pub first_shown : List NamedClient → Option (List ℕ)
 first_shown [] = None
 first_shown (c ∷ cs) = Some (shown_text c)
 
--- the clients were compared: what the first shows is kept, and whether all show it
+-- what a view shows, as it is written
+abbrev pub content_text : View → List ℕ
+content_text view = bytes_of (content_lines (view_content view))
+
+-- the clients were compared: the view of the first is kept, and whether all show what it does
 pub record Compares (agreement : Agreement) (shown : List NamedClient) : Type 0 where
-  pub first : option_map string_bytes agreement.first ≡ first_shown shown
+  pub first : option_map content_text agreement.first ≡ first_shown shown
   pub all : agreement.all ≡ all_agree shown
 
 -- the clients were shown: their lines were written, and they were compared

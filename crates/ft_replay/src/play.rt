@@ -113,7 +113,7 @@ impl<R: Replica + Drop> Play<R> {
         ensures { (at : Played) → Plays self.old at → OnOk result (Plays self.new (after_event at event.now)) }
     {
         match self.world.step(event) {
-            Ok(out) => show(self.alloc, &mut self.showing, &out),
+            Ok(out) => show(self.alloc, &mut self.showing, out),
             Err(Refusal::OutOfMemory) => Err(OutOfMemory),
             Err(_) => {
                 self.refused = added(self.refused, 1)?;
@@ -148,12 +148,12 @@ impl<R: Replica + Drop> Play<R> {
 }
 
 // Adds the client that is shown by this, if one is.
-fn show(alloc: Global, showing: &mut Showing, out: &Out) -> Result<(), OutOfMemory>
-    ensures { (shown : List NamedClient) (output : Output) → HasShown showing.old shown → Tells output out.now
+fn show(alloc: Global, showing: &mut Showing, out: Out) -> Result<(), OutOfMemory>
+    ensures { (shown : List NamedClient) (output : Output) → HasShown showing.old shown → Tells output out
         → OnOk result (HasShown showing.new (shown ++ shown_client output)) }
 {
     match out {
-        Out::View { name, view } => showing.add(alloc, name, view),
+        Out::View { name, view } => showing.add(alloc, &name, view),
         Out::Nothing | Out::Texts(_) => Ok(()),
     }
 }

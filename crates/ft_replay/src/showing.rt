@@ -1,17 +1,17 @@
 //! What is written of the clients that a play shows.
 
-ghost use Rattle.std.specs.Prelude.{◌≡◌, ◌+◌, ◌∷◌, ◌++◌, ◌&&◌, List, [], IfOk, OnOk, bytes_eq, chars, length, string_bytes};
+ghost use Rattle.std.specs.Prelude.{◌≡◌, ◌+◌, ◌∷◌, ◌++◌, ◌&&◌, List, [], true, IfOk, OnOk, bytes_eq, chars, length, string_bytes};
 ghost use Rattle.ft_io.specs.Lines.{with_lf};
 ghost use Rattle.ft_msg.specs.Answers.{view_content};
 ghost use Rattle.ft_msg.specs.Content.{content};
 ghost use Rattle.ft_seqr.specs.World.{NamedClient};
 ghost use Rattle.ft_session.specs.Outputs.{IsViewOf};
-ghost use Rattle.ft_replay.specs.Play.{client_line, client_numbers, content_numbers, shown_text, text_hash};
-ghost use Rattle.ft_replay.specs.Playing.{Compares, HasShown};
+ghost use Rattle.ft_replay.specs.Play.{client_line, client_numbers, content_numbers, text_hash};
+ghost use Rattle.ft_replay.specs.Playing.{Compares, HasShown, content_text};
 
 use crate::sums::added;
 use crate::view_lines::push_content;
-use ft_base::{OutOfMemory, Text};
+use ft_base::{Datum, OutOfMemory, Text};
 use ft_json::quote;
 use ft_msg::View;
 use std::alloc::Global;
@@ -26,7 +26,7 @@ pub struct Showing {
 /// What the first of the clients that were shown shows, and whether all show the same.
 #[derive(Drop)]
 pub struct Agreement {
-    pub first: Option<String>,
+    pub first: Option<View>,
     pub all: bool,
 }
 
@@ -47,42 +47,61 @@ impl Showing {
     /// Adds one more client, whose name and view these are.
     ///
     /// Returns `OutOfMemory` where there is no room for its line or for what it shows.
-    pub fn add(&mut self, alloc: Global, name: &Text, view: &View) -> Result<(), OutOfMemory>
-        ensures { (shown : List NamedClient) (c : NamedClient) → HasShown self.old shown → IsViewOf c name.now view.now
+    pub fn add(&mut self, alloc: Global, name: &Text, view: View) -> Result<(), OutOfMemory>
+        ensures { (shown : List NamedClient) (c : NamedClient) → HasShown self.old shown → IsViewOf c name.now view
             → OnOk result (HasShown self.new (shown ++ c ∷ [])) }
     {
-        let line = client_line(alloc, name, view)?;
+        let line = client_line(alloc, name, &view)?;
         self.lines.push_str(line.as_str())?;
-        let content = shown_text(alloc, view)?;
-        self.agreement.compare(content);
-        Ok(())
+        self.agreement.compare(alloc, view)
     }
 }
 
 impl Agreement {
-    // Compares one more client, which shows this.
-    fn compare(&mut self, content: String)
-        ensures { (shown : List NamedClient) (c : NamedClient) → Compares self.old shown → string_bytes content ≡ shown_text c
-            → Compares self.new (shown ++ c ∷ []) }
+    // Compares one more client, which has this view.
+    //
+    // Returns `OutOfMemory` where there is no room for what it shows.
+    fn compare(&mut self, alloc: Global, view: View) -> Result<(), OutOfMemory>
+        ensures { (shown : List NamedClient) (c : NamedClient) → Compares self.old shown → view_content view ≡ content c.client
+            → OnOk result (Compares self.new (shown ++ c ∷ [])) }
     {
         match &self.first {
-            None => self.first = Some(content),
-            Some(first) => self.all = all_same(self.all, first.as_str(), content.as_str()),
+            None => self.first = Some(view),
+            Some(first) => self.all = all_same(alloc, self.all, first, &view)?,
         }
+        Ok(())
     }
 }
 
-// Whether all were the same, and the next one is too.
-fn all_same(all: bool, first: &str, next: &str) -> bool
-    ensures { result ≡ (all && bytes_eq first.now next.now) }
+// Whether all showed the same, and the next one shows what the first does. What they show is written only where it isn't
+// equal in each part.
+fn all_same(alloc: Global, all: bool, first: &View, next: &View) -> Result<bool, OutOfMemory>
+    ensures { IfOk result (λ same. same ≡ (all && bytes_eq (content_text first.now) (content_text next.now))) }
 {
-    all && first == next
+    if !all || has_same_content(first, next) {
+        return Ok(all);
+    }
+    let one = content_text(alloc, first)?;
+    let other = content_text(alloc, next)?;
+    Ok(one.as_str() == other.as_str())
 }
 
-// What a client shows, as it would be written.
-#[tactic(auto, unfolding(crate::specs::Play::shown_text))]
-fn shown_text(alloc: Global, view: &View) -> Result<String, OutOfMemory>
-    ensures { (c : NamedClient) → view_content view.now ≡ content c.client → IfOk result (λ text. string_bytes text ≡ shown_text c) }
+// Whether two views are equal but for their numbers.
+fn has_same_content(first: &View, next: &View) -> bool
+    ensures { result ≡ true → view_content first.now ≡ view_content next.now }
+{
+    first.text.same(&next.text)
+        && first.markers.same(&next.markers)
+        && first.runs.same(&next.runs)
+        && first.intervals.same(&next.intervals)
+        && first.rows == next.rows
+        && first.cols == next.cols
+        && first.cells.same(&next.cells)
+}
+
+// What a view shows, as it would be written.
+fn content_text(alloc: Global, view: &View) -> Result<String, OutOfMemory>
+    ensures { IfOk result (λ text. string_bytes text ≡ content_text view.now) }
 {
     let mut text = String::new(alloc);
     push_content(alloc, &mut text, view)?;
