@@ -14,14 +14,14 @@ use std::alloc::Global;
 /// The connection whose perspective a block asks of its stages: none has it, as staged stamps are by nobody.
 const NOBODY_ELSE: u32 = 1;
 
-/// What a block keeps: how many elements its leaves have, how many have a sequenced removal first, and tables of how many
-/// each stage and each perspective sees.
+/// What a block keeps: tables of how many elements of its leaves each stage and each perspective sees, how many they have,
+/// and how many have a sequenced removal first. What a search reads of a block stands first.
 #[derive(Drop)]
 pub(crate) struct Summary {
-    pub(crate) whole: u64,
-    pub(crate) removed: u64,
     pub(crate) stages: Stages,
     pub(crate) table: Table,
+    pub(crate) whole: u64,
+    pub(crate) removed: u64,
 }
 
 impl Summary {

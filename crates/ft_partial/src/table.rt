@@ -26,12 +26,12 @@ use std::marker::Model;
 /// entries at the end, where their numbers are the newest.
 #[derive(Drop)]
 pub struct Table {
-    floor: u64,
+    latest: u64,
     // how many elements all see whose reference number is `latest` or higher
     last: u64,
+    floor: u64,
     // what the others count besides
     entries: EntryList,
-    latest: u64,
     alloc: Global,
 }
 

@@ -18,10 +18,10 @@ use ft_props::Overlay;
 /// A leaf: elements side by side with the same stamps and properties.
 #[derive(Drop)]
 pub struct TreeLeaf<C> {
-    /// What they are.
-    pub content: C,
     /// The stamps of each of them.
     pub stamps: Element,
+    /// What they are.
+    pub content: C,
     /// The properties of each of them.
     pub overlay: Overlay,
 }
