@@ -105,10 +105,11 @@ impl<C: Content> TreeLeaf<C> {
     pub fn may_join(&self, other: &TreeLeaf<C>, floor: u64) -> bool
         ensures { IsTrue result ↔ MayJoin C.joins floor self.now other.now }
     {
-        self.is_bare(floor)
+        // Most neighbours have different authors, so the contents are looked at first.
+        self.content.can_join(&other.content)
+            && self.is_bare(floor)
             && other.is_bare(floor)
             && self.overlay.acked().same(other.overlay.acked())
-            && self.content.can_join(&other.content)
     }
 
     /// How many elements the view sees: all or none.

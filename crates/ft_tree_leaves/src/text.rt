@@ -140,7 +140,7 @@ impl Content for TextContent {
     fn can_join(&self, other: &TextContent) -> bool {
         match (&self.piece, &other.piece) {
             (TextPiece::Run(mine), TextPiece::Run(theirs)) => {
-                mine.len() + theirs.len() <= MAX_RUN && is_same_author(self.by, other.by)
+                is_same_author(self.by, other.by) && mine.len() + theirs.len() <= MAX_RUN
             }
             _ => false,
         }
