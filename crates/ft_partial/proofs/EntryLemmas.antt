@@ -321,3 +321,42 @@ added_alike x y z fits seq conn own e =
 pub added_nothing : (old entries more : List Entry) → IsRising old → old ≡ entries → length more ≡ 0 → AddsEntries entries entries more
 added_nothing old entries [] rising same none = record { rising = subst IsRising same rising; numbers = tt; sums = λ r c. omega arith }
 added_nothing old entries (x ∷ more) rising same none = absurd (omega arith)
+
+-- one entry
+pub added_one : (old new : List Entry) (x : Entry) → x.seq ≤ last_number → AddsEntry old new x → AddsEntries old new (x ∷ [])
+added_one old new x fits adds = record { rising = adds.rising; numbers = (fits, tt); sums = λ r c. omega (arith, adds.sums r c) }
+
+-- an entry at the end
+added_last : (old : List Entry) (k : ℕ) (x : Entry) → IsRising old → AreUpTo k old → k ≤ x.seq → x.seq ≤ last_number → AddsEntries old (old ++ x ∷ []) (x ∷ [])
+added_last old k x rising up low fits = record {
+  rising = rising-append k old (x ∷ []) rising (tt, tt) up (low, tt);
+  numbers = (fits, tt);
+  sums = λ r c. omega (arith, unseen-append r c old (x ∷ []));
+}
+
+pub added_newer : (old new : List Entry) (n : ℕ) (x z : Entry) → IsRising old → n ≡ length old → 0 < n → z ≡ get_or old (n - 1) z → z.seq ≤ x.seq → x.seq ≤ last_number
+    → new ≡ old ++ x ∷ [] → AddsEntries old new (x ∷ [])
+added_newer old new n x z rising many some is low fits e =
+    let last : z.seq ≡ (get_or old (length old - 1) z).seq = ap (λ w. w.seq) is ∙ ap (λ (k : ℕ). (get_or old (k - 1) z).seq) many in
+    subst (λ ys. AddsEntries old ys (x ∷ [])) (sym e)
+    (added_last old (get_or old (length old - 1) z).seq x rising (up_to_last z old rising (omega arith)) (omega arith) fits)
+
+pub added_to_none : (old new : List Entry) (x : Entry) → length old ≡ 0 → x.seq ≤ last_number → new ≡ old ++ x ∷ [] → AddsEntries old new (x ∷ [])
+added_to_none old new x none fits e = subst (λ ys. AddsEntries old ys (x ∷ [])) (sym e) (added_last old 0 x (no_rising old none) (no_up_to old none) (omega arith) fits)
+  where
+    no_rising : (xs : List Entry) → length xs ≡ 0 → IsRising xs
+    no_rising [] h = tt
+    no_rising (y ∷ xs) h = absurd (omega arith)
+
+    no_up_to : (xs : List Entry) → length xs ≡ 0 → AreUpTo 0 xs
+    no_up_to [] h = tt
+    no_up_to (y ∷ xs) h = absurd (omega arith)
+
+-- two entries
+pub added_pair : (x y : Entry) (both : List Entry) → x.seq ≤ y.seq → y.seq ≤ last_number → both ≡ x ∷ y ∷ [] → AddsEntries (x ∷ []) both (y ∷ [])
+added_pair x y both low fits is =
+    subst (λ ys. AddsEntries (x ∷ []) ys (y ∷ [])) (sym is) record { rising = ((low, tt), (tt, tt)); numbers = (fits, tt); sums = λ r c. omega arith }
+
+pub added_before : (x y : Entry) (both : List Entry) → y.seq ≤ x.seq → y.seq ≤ last_number → both ≡ y ∷ x ∷ [] → AddsEntries (x ∷ []) both (y ∷ [])
+added_before x y both low fits is =
+    subst (λ ys. AddsEntries (x ∷ []) ys (y ∷ [])) (sym is) record { rising = ((low, tt), (tt, tt)); numbers = (fits, tt); sums = λ r c. omega arith }

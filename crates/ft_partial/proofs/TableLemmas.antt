@@ -1,5 +1,5 @@
 -- What a table says, and what it stands for, through its changes.
-use Rattle.std.proofs.Common.{◌≡◌, ℕ, ◌+◌, ◌-◌, ◌<◌, ◌≤◌, ◌%◌, ◌^◌, Bool, true, false, not, cond, nat_le, List, [], ◌∷◌, ◌++◌, refl, sym, ◌∙◌, ap, arith}
+use Rattle.std.proofs.Common.{◌≡◌, ℕ, ◌+◌, ◌-◌, ◌<◌, ◌≤◌, ◌%◌, ◌^◌, Bool, true, false, not, cond, ◌&&◌, ◌||◌, nat_le, nat_eq, List, [], ◌∷◌, ◌++◌, refl, sym, ◌∙◌, ap, arith}
 use Rattle.std.specs.List.{list_any}
 use Rattle.std.proofs.lemmas.Bool.Decides.{nat_tests}
 use Rattle.ft_base.specs.declared.stamps.Stamp.{Stamp}
@@ -10,7 +10,7 @@ use Rattle.ft_partial.specs.declared.entries.Entry.{Entry}
 use Rattle.ft_partial.specs.Entries.{amount, unseen, last_number, AreUpTo, AddsEntries, DropsOld}
 use Rattle.ft_partial.specs.Stages.{AreStages}
 use Rattle.ft_partial.specs.Elements.{last_length, AddsItem}
-use Rattle.ft_partial.specs.Items.{Item, item_of, length_where, length_seen, is_at_most, folded_stamp, folded_item, folded_items}
+use Rattle.ft_partial.specs.Items.{Item, item_of, inserted_element, length_where, length_seen, is_at_most, folded_stamp, folded_item, folded_items}
 use Rattle.ft_partial.specs.SameStamps.{ExchangesItem, SameByStamps}
 use Rattle.ft_partial.specs.Tables.{Lengths, length_at, CountsItems, Adds, Exchanges, AddsAll, AddsChange, AddsForAll, SameFrom}
 use Rattle.ft_partial.proofs.EntryLemmas.{up_to_weaker, unseen_none}
@@ -208,3 +208,23 @@ stands-folded t xs stands r c hf hr hc = stands r c hf hr hc ∙ ap (λ n. n % 2
 -- lists with the same sums for all stamps
 pub stands-same : (t : Lengths) (xs ys : List Item) → CountsItems t xs → SameByStamps xs ys → CountsItems t ys
 stands-same t xs ys stands same r c hf hr hc = stands r c hf hr hc ∙ ap (λ n. n % 2 ^ 64) (same_sums xs ys same (λ e. sees e r c))
+
+-- elements that are inserted above the floor, and that nobody removed: less is counted by those who haven't seen the number
+inserted_case : (a b : Bool) (n less : ℕ) → n < 2 ^ 64 → less ≡ (2 ^ 64 - n) % 2 ^ 64 → (n + (amount (not a && not b) less + 0)) % 2 ^ 64 ≡ amount ((a || b) && not false) n % 2 ^ 64
+inserted_case true b n less h e = omega arith
+inserted_case false true n less h e = omega arith
+inserted_case false false n less h e = omega arith
+
+pub adds_inserted : (old new : Lengths) (more : List Entry) (seq conn n less : ℕ) → n < 2 ^ 64 → less ≡ (2 ^ 64 - n) % 2 ^ 64
+    → more ≡ record { seq = seq; conn = conn; own = false; by = less } ∷ [] → AddsChange old new more n → Adds old new (inserted_element seq conn) n
+adds_inserted old new more seq conn n less hn hl is change r c hf hr hc =
+    omega (arith, change r c, ap (unseen r c) is, inserted_case (nat_le seq r) (nat_eq conn c) n less hn hl)
+
+-- up to the floor all see them
+inserted_seen : (seq conn r c n : ℕ) → seq ≤ r → amount (sees (inserted_element seq conn) r c) n ≡ n
+inserted_seen seq conn r c n h =
+    let seen : nat_le seq r ≡ true = grind (arith, nat_tests) in
+    ap (λ a. amount ((a || nat_eq conn c) && not false) n) seen
+
+pub adds_inserted_low : (old new : Lengths) (seq conn n floor : ℕ) → floor ≡ old.floor → seq ≤ floor → AddsForAll old new n → Adds old new (inserted_element seq conn) n
+adds_inserted_low old new seq conn n floor is low adds r c hf hr hc = omega (arith, adds r c, inserted_seen seq conn r c n (omega arith))

@@ -2,10 +2,10 @@
 //!
 //! They stand by rising number, so that what is new to a perspective is read from the end back.
 
-ghost use Rattle.std.specs.Prelude.{◌≡◌, ◌+◌, ◌/◌, ◌≤◌, ◌<◌, ◌%◌, ◌^◌, take, true, IfSome, length, insert, vec_len, vec_capacity};
+ghost use Rattle.std.specs.Prelude.{◌≡◌, ◌+◌, ◌/◌, ◌≤◌, ◌<◌, ◌%◌, ◌^◌, [], ◌∷◌, take, true, IfSome, OnOk, OnErr, length, insert, vec_len, vec_capacity};
 ghost use Rattle.ft_partial.specs.Entries.{counts, share, unseen, last_number, AreUpTo, IsRising, IsPlace, IsAlikeAt, AddsEntry, AddsEntries, DropsOld};
 
-use ft_base::Perspective;
+use ft_base::{OutOfMemory, Perspective};
 
 /// So many entries have room in a new vector, and in one that entries were taken out of.
 pub const FEW: usize = 4;
@@ -21,6 +21,7 @@ pub struct Entry {
 }
 
 // Whether the entry counts for the perspective.
+#[inline]
 fn counts(x: &Entry, at: Perspective) -> bool
     ensures { result ≡ counts at.r at.c x.now }
 {
@@ -35,6 +36,7 @@ fn counts(x: &Entry, at: Perspective) -> bool
 }
 
 // What the perspective counts of the entry.
+#[inline]
 fn share(x: &Entry, at: Perspective) -> u64
     ensures { result ≡ share at.r at.c x.now }
 {
@@ -56,6 +58,7 @@ pub fn unseen(entries: &[Entry], at: Perspective) -> u64
 }
 
 /// The number of the last entry, or 0 where there is none.
+#[inline]
 pub fn newest(entries: &[Entry]) -> u64
     requires { IsRising entries.now }
     ensures { AreUpTo result entries.now }
@@ -88,6 +91,7 @@ fn entry_place(entries: &[Entry], seq: u64) -> usize
 }
 
 /// Whether both entries have one number and are for the same connections.
+#[inline]
 pub fn is_alike(x: &Entry, y: &Entry) -> bool
     ensures number { result ≡ true → x.now.seq ≡ y.now.seq }
     ensures conn { result ≡ true → x.now.conn ≡ y.now.conn }
@@ -97,6 +101,7 @@ pub fn is_alike(x: &Entry, y: &Entry) -> bool
 }
 
 /// What two entries that are alike come to.
+#[inline]
 pub fn sum_of(x: &Entry, y: &Entry) -> Entry
     ensures { result ≡ record x.now { by = (x.now.by + y.now.by) % 2 ^ 64 } }
 {
@@ -170,6 +175,43 @@ fn add_at(entries: &mut Vec<Entry>, j: usize, x: Entry)
 {
     let sum = sum_of(&entries[j], &x);
     entries[j] = sum;
+}
+
+/// Adds an entry to the one that is for the same, or puts it in: mostly one with a newer number than all others,
+/// which goes to the end.
+///
+/// Returns `OutOfMemory` where there is no room, and then the vector holds what it did.
+pub fn add_one(entries: &mut Vec<Entry>, x: Entry) -> Result<(), OutOfMemory>
+    requires { IsRising entries.old.items }
+    ensures ok { OnOk result (AddsEntries entries.old.items entries.new.items (x ∷ [])) }
+    ensures err { OnErr result (entries.new.items ≡ entries.old.items) }
+{
+    if x.by == 0 {
+        return Ok(());
+    }
+    let len = entries.len();
+    if len > 0 && entries[len - 1].seq >= x.seq {
+        return add_older(entries, x);
+    }
+    entries.push(x)?;
+    Ok(())
+}
+
+// The same for an entry whose number isn't newer than the last one's: it looks at that one first.
+fn add_older(entries: &mut Vec<Entry>, x: Entry) -> Result<(), OutOfMemory>
+    requires rising { IsRising entries.old.items }
+    requires some { 0 < length entries.old.items }
+    ensures ok { OnOk result (AddsEntries entries.old.items entries.new.items (x ∷ [])) }
+    ensures err { OnErr result (entries.new.items ≡ entries.old.items) }
+{
+    let last = entries.len() - 1;
+    if is_alike(&entries[last], &x) {
+        add_at(entries, last, x);
+        return Ok(());
+    }
+    entries.reserve(1)?;
+    add_entry(entries, x);
+    Ok(())
 }
 
 /// Adds entries, for which there is room, in any order.

@@ -1,10 +1,10 @@
 //! A list of entries, of which a single one stands in place.
 
-ghost use Rattle.std.specs.Prelude.{◌≡◌, [], ◌∷◌, ◌++◌, IfOk, IfSome, OnOk, OnErr};
+ghost use Rattle.std.specs.Prelude.{◌≡◌, [], ◌∷◌, ◌++◌, IfOk, OnOk, OnErr};
 ghost use Rattle.ft_partial.specs.Entries.{IsRising, AddsEntries, DropsOld};
 ghost use Rattle.ft_partial.specs.EntryLists.{entries_of};
 
-use crate::entries::{Entry, FEW, add_entries, drop_nothing, drop_old, is_alike, sum_of};
+use crate::entries::{Entry, FEW, add_entries, add_one, drop_nothing, drop_old, is_alike, sum_of};
 use ft_base::OutOfMemory;
 use std::alloc::Global;
 use std::slice;
@@ -21,6 +21,7 @@ pub enum EntryList {
 
 impl EntryList {
     /// The entries.
+    #[inline]
     pub fn as_slice(&self) -> &[Entry]
         ensures { result.now ≡ entries_of self.now }
     {
@@ -34,29 +35,51 @@ impl EntryList {
     /// Adds entries, in any order.
     ///
     /// Returns `OutOfMemory` where there is no room, and then the list holds what it did.
+    #[inline]
     pub fn add(&mut self, alloc: Global, more: &[Entry]) -> Result<(), OutOfMemory>
+        requires { IsRising (entries_of self.old) }
+        ensures ok { OnOk result (AddsEntries (entries_of self.old) (entries_of self.new) more.now) }
+        ensures err { OnErr result (entries_of self.new ≡ entries_of self.old) }
+    {
+        match more {
+            [] => Ok(()),
+            &[x] => self.add_one(alloc, x),
+            _ => self.add_many(alloc, more),
+        }
+    }
+
+    // Adds one entry, as most changes have no more.
+    fn add_one(&mut self, alloc: Global, x: Entry) -> Result<(), OutOfMemory>
+        requires { IsRising (entries_of self.old) }
+        ensures ok { OnOk result (AddsEntries (entries_of self.old) (entries_of self.new) (x ∷ [])) }
+        ensures err { OnErr result (entries_of self.new ≡ entries_of self.old) }
+    {
+        match self {
+            EntryList::Many(entries) => add_one(entries, x),
+            EntryList::One(one) => {
+                *self = two(alloc, *one, x)?;
+                Ok(())
+            }
+            EntryList::Empty => {
+                *self = in_place(x);
+                Ok(())
+            }
+        }
+    }
+
+    // Adds entries, in any order.
+    fn add_many(&mut self, alloc: Global, more: &[Entry]) -> Result<(), OutOfMemory>
         requires { IsRising (entries_of self.old) }
         ensures ok { OnOk result (AddsEntries (entries_of self.old) (entries_of self.new) more.now) }
         ensures err { OnErr result (entries_of self.new ≡ entries_of self.old) }
     {
         match self {
             EntryList::Many(entries) => add_to(entries, more),
-            EntryList::Empty | EntryList::One(_) => self.add_to_few(alloc, more),
+            EntryList::Empty | EntryList::One(_) => {
+                *self = EntryList::Many(both(alloc, self.as_slice(), more)?);
+                Ok(())
+            }
         }
-    }
-
-    // Adds entries, in any order, to none or one in place.
-    fn add_to_few(&mut self, alloc: Global, more: &[Entry]) -> Result<(), OutOfMemory>
-        requires { IsRising (entries_of self.old) }
-        ensures ok { OnOk result (AddsEntries (entries_of self.old) (entries_of self.new) more.now) }
-        ensures err { OnErr result (entries_of self.new ≡ entries_of self.old) }
-    {
-        let count = more.len();
-        if count == 0 {
-            return Ok(());
-        }
-        *self = joined(alloc, self.as_slice(), more)?;
-        Ok(())
     }
 
     /// Puts an entry behind the others, whatever their numbers.
@@ -115,35 +138,24 @@ fn add_to(entries: &mut Vec<Entry>, more: &[Entry]) -> Result<(), OutOfMemory>
     Ok(())
 }
 
-// The entries with others, in any order.
-fn joined(alloc: Global, entries: &[Entry], more: &[Entry]) -> Result<EntryList, OutOfMemory>
-    requires { IsRising entries.now }
-    ensures { IfOk result (λ list. AddsEntries entries.now (entries_of list) more.now) }
+// The list of two entries.
+fn two(alloc: Global, x: Entry, y: Entry) -> Result<EntryList, OutOfMemory>
+    ensures { IfOk result (λ list. AddsEntries (x ∷ []) (entries_of list) (y ∷ [])) }
 {
-    match single(entries, more) {
-        Some(one) => Ok(in_place(one)),
-        None => Ok(EntryList::Many(both(alloc, entries, more)?)),
+    if is_alike(&x, &y) {
+        return Ok(in_place(sum_of(&x, &y)));
     }
+    Ok(EntryList::Many(ordered(alloc, x, y)?))
 }
 
-// The one entry that both lists come to, where one is enough for them.
-fn single(entries: &[Entry], more: &[Entry]) -> Option<Entry>
-    ensures { IfSome result (λ one. AddsEntries entries.now (one ∷ []) more.now) }
+// A vector of two entries, the one with the lower number first.
+fn ordered(alloc: Global, x: Entry, y: Entry) -> Result<Vec<Entry>, OutOfMemory>
+    ensures { IfOk result (λ both. AddsEntries (x ∷ []) both.items (y ∷ [])) }
 {
-    match more {
-        &[x] => single_with(entries, x),
-        _ => None,
-    }
-}
-
-// The one entry that the entries and a further one come to, where one is enough for them.
-fn single_with(entries: &[Entry], x: Entry) -> Option<Entry>
-    ensures { IfSome result (λ one. AddsEntries entries.now (one ∷ []) (x ∷ [])) }
-{
-    match entries {
-        [] => Some(x),
-        [one] if is_alike(one, &x) => Some(sum_of(one, &x)),
-        _ => None,
+    if x.seq <= y.seq {
+        pair(alloc, x, y)
+    } else {
+        pair(alloc, y, x)
     }
 }
 

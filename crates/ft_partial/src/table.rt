@@ -3,14 +3,16 @@
 ghost use Rattle.std.specs.Prelude.{◌≡◌, ℕ, ◌+◌, ◌≤◌, ◌<◌, ◌^◌, List, [], ◌∷◌, ◌++◌, OnOk, OnErr};
 ghost use Rattle.ft_partial.specs.Items.{Item, item_of, inserted_element, removed, length_seen, folded_items};
 ghost use Rattle.ft_partial.specs.SameStamps.{SameByStamps, ExchangesItem};
+ghost use Rattle.ft_partial.specs.Entries.{AddsEntries};
 ghost use Rattle.ft_partial.specs.Tables.{length_at, CountsItems, Adds, Exchanges, AddsAll, AddsChange, AddsForAll, SameFrom};
 
 use crate::changes::Change;
 use crate::entries::{Entry, is_half_old, newest, unseen};
 use crate::entry_list::EntryList;
-use ft_base::{Datum, Element, OutOfMemory, Perspective, Stamp, Stamps};
+use ft_base::{Datum, Element, OutOfMemory, Perspective, Stamp};
 use std::alloc::Global;
 use std::marker::Model;
+use std::slice;
 
 /// How much each perspective sees of a list of items, each the stamps of some elements with their
 /// number.
@@ -86,11 +88,18 @@ impl Table {
         ensures floor { self.new.floor ≡ self.old.floor }
         ensures err { OnErr result (self.new ≡ self.old) }
     {
-        let e = Element {
-            ins: Stamp::Acked { seq, conn },
-            dels: Stamps::new(self.alloc),
+        // Elements that all see from the floor up take no entry.
+        if seq <= self.floor {
+            self.add_for_all(len);
+            return Ok(());
+        }
+        let less = Entry {
+            seq,
+            conn,
+            own: false,
+            by: 0u64.wrapping_sub(len),
         };
-        self.add(&e, len)
+        self.put_in(slice::from_ref(&less), len)
     }
 
     /// Adds `len` elements of the stamps `e`, of which pending ones have occurred for nobody.
@@ -166,8 +175,25 @@ impl Table {
         ensures floor { self.new.floor ≡ self.old.floor }
         ensures err { OnErr result (self.new ≡ self.old) }
     {
-        self.entries.add(self.alloc, more)?;
+        self.put(more)?;
         self.last = self.last.wrapping_add(last);
+        Ok(())
+    }
+
+    // Adds entries, in any order.
+    #[inline]
+    fn put(&mut self, more: &[Entry]) -> Result<(), OutOfMemory>
+        ensures ok { OnOk result (AddsEntries self.old.entries self.new.entries more.now) }
+        ensures rest { self.new ≡ record self.old { entries = self.new.entries } }
+        ensures err { OnErr result (self.new ≡ self.old) }
+    {
+        // That the entries rise is read off the field.
+        let _latest = self.latest;
+        // Many changes count the same for all.
+        if more.is_empty() {
+            return Ok(());
+        }
+        self.entries.add(self.alloc, more)?;
         self.latest = newest(self.entries.as_slice());
         Ok(())
     }
@@ -197,6 +223,10 @@ impl Table {
         ensures lengths { SameFrom floor self.old self.new }
         ensures floor { self.new.floor ≡ floor }
     {
+        // What is old was looked for as the floor came to be this one.
+        if self.floor == floor {
+            return;
+        }
         self.floor = floor;
         if self.latest <= floor {
             self.entries.clear();

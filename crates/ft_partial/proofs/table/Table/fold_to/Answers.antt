@@ -1,5 +1,7 @@
-use Rattle.std.proofs.Common.{ap}
+use Rattle.std.proofs.Common.{ℕ, ap, refl, sym, subst, ◌∙◌}
 use Rattle.ft_partial.specs.EntryLists.{entries_of}
+use Rattle.ft_partial.specs.Items.{folded_items}
+use Rattle.ft_partial.specs.Tables.{CountsItems}
 use Rattle.ft_partial.proofs.TableLemmas.{same_from, same_kept, same_cleared, stands-higher, stands-folded}
 use Rattle.ft_partial.proofs.table.Table.fold_to.Goals as goal
 
@@ -10,15 +12,26 @@ invariant_of-self-then-is_half_old c = record {
 }
 
 pub returns-then-self-floor-clause-lengths : goal.returns-then-self-floor-clause-lengths
-returns-then-self-floor-clause-lengths c =
-    same_cleared c.args.self.now _ c.args.floor c.self.inside.latest (entries_of c.self.inside.entries) (ap (λ t. t.entries) c.self.view_is) (ap (λ t. t.last) c.self.view_is) c.clear.ensures
-    c.self.invariant.up_to c.if-self-floor.true
+returns-then-self-floor-clause-lengths c = λ r c from low few. refl
 
 pub returns-then-self-floor-clause-same : goal.returns-then-self-floor-clause-same
-returns-then-self-floor-clause-same c = stands-higher c.args.self.now _ (returns-then-self-floor-clause-lengths c) c.requires
+returns-then-self-floor-clause-same c = λ xs stands. stands
 
 pub returns-then-self-floor-clause-items : goal.returns-then-self-floor-clause-items
-returns-then-self-floor-clause-items c = λ xs stands. stands-folded _ xs (returns-then-self-floor-clause-same c xs stands)
+returns-then-self-floor-clause-items c = λ xs stands.
+    subst (λ (floor : ℕ). CountsItems c.args.self.now (folded_items floor xs)) (ap (λ t. t.floor) (sym c.self.view_is) ∙ c.if-self-floor.true)
+    (stands-folded c.args.self.now xs stands)
+
+pub returns-then-self-floor-2-clause-lengths : goal.returns-then-self-floor-2-clause-lengths
+returns-then-self-floor-2-clause-lengths c =
+    same_cleared c.args.self.now _ c.args.floor c.self.inside.latest (entries_of c.self.inside.entries) (ap (λ t. t.entries) c.self.view_is) (ap (λ t. t.last) c.self.view_is) c.clear.ensures
+    c.self.invariant.up_to c.if-self-floor-2.true
+
+pub returns-then-self-floor-2-clause-same : goal.returns-then-self-floor-2-clause-same
+returns-then-self-floor-2-clause-same c = stands-higher c.args.self.now _ (returns-then-self-floor-2-clause-lengths c) c.requires
+
+pub returns-then-self-floor-2-clause-items : goal.returns-then-self-floor-2-clause-items
+returns-then-self-floor-2-clause-items c = λ xs stands. stands-folded _ xs (returns-then-self-floor-2-clause-same c xs stands)
 
 pub returns-then-is_half_old-clause-lengths : goal.returns-then-is_half_old-clause-lengths
 returns-then-is_half_old-clause-lengths c =
