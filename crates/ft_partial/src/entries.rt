@@ -7,7 +7,7 @@ ghost use Rattle.ft_partial.specs.Entries.{counts, share, unseen, last_number, A
 
 use ft_base::{OutOfMemory, Perspective};
 
-/// So many entries have room in a new vector, and in one that entries were taken out of.
+/// So many entries have room in a new vector, and twice as many in one that entries were taken out of.
 pub const FEW: usize = 4;
 
 /// What is counted besides by those who haven't seen the sequence number `seq`: by all but connection
@@ -235,13 +235,13 @@ pub fn is_half_old(entries: &[Entry], floor: u64) -> bool
 }
 
 /// Takes out the entries up to the floor, which nobody counts from there on, and those of nothing, and gives
-/// back room where most is spare then.
+/// back room where three quarters are spare then, so that room given back is rarely asked for again.
 pub fn drop_old(entries: &mut Vec<Entry>, floor: u64)
     requires { IsRising entries.old.items }
     ensures { DropsOld entries.old.items entries.new.items floor }
 {
     entries.retain(|x| x.seq > floor && x.by != 0);
-    entries.shrink_to(entries.len().saturating_mul(2).max(FEW));
+    entries.shrink_to(entries.len().saturating_mul(4).max(2 * FEW));
 }
 
 /// Takes out the entries of nothing, once the last one is of nothing or there is no more room.
