@@ -125,6 +125,10 @@ pub none_gone : (b : Bool) → amount b 0 ≡ 0
 none_gone true = refl
 none_gone false = refl
 
+amount_sum : (b : Bool) (n m : ℕ) → amount b (n + m) ≡ amount b n + amount b m
+amount_sum true n m = refl
+amount_sum false n m = refl
+
 module _ {L : Type 0} (size : L → ℕ) (element : L → Element) (view : View) where
   pub leaf_amount : (leaf : L) (e : Element) (n : ℕ) → e ≡ element leaf → n ≡ size leaf → amount (shows view e) n ≡ shown_length size element view leaf
   leaf_amount leaf e n is many = ap (λ z. amount (shows view z) n) is ∙ ap (λ (k : ℕ). amount (shows view (element leaf)) k) many
@@ -153,6 +157,20 @@ module _ {L : Type 0} (size : L → ℕ) (element : L → Element) (view : View)
   turns s stale v w e f n m ev nv fw mw owes =
       subst (λ (k : ℕ). OwesAt (by_view size element view) s stale (amount (shows view f) m) k) (sym (leaf_amount v e n ev nv))
       (subst (λ (k : ℕ). OwesAt (by_view size element view) s stale k (shown_length size element view v)) (sym (leaf_amount w f m fw mw)) owes)
+
+  -- a leaf has m elements more
+  pub grows : (s : Forest L (Headed Summary)) (stale : Option ℕ) (v w : L) (e : Element) (m : ℕ) → e ≡ element v → element w ≡ element v → size w ≡ size v + m
+      → OwesAt (by_view size element view) s stale (shown_length size element view w) (shown_length size element view v)
+      → OwesAt (by_view size element view) s stale (amount (shows view e) m) (amount (shows view e) 0)
+  grows s stale v w e m ev wv more owes b q =
+      omega (
+        arith,
+        owes b q,
+        leaf_amount v e (size v) ev refl,
+        leaf_amount w e (size v + m) (ev ∙ sym wv) (sym more),
+        amount_sum (shows view e) (size v) m,
+        none_gone (shows view e),
+      )
 
 -- who is a parent in a tree is a block
 pub parent_block : {L : Type 0} (s : Forest L (Headed Summary)) (root : ℕ) → IsTree s root → (at b : ℕ) → parent_of s at ≡ Some b → IsSome (block_value s b)

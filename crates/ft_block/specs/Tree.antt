@@ -145,6 +145,15 @@ module _ {L : Type 0} where
   OwesExchange size element floor s stale e n f m = (view : View) → KeepsLengths floor view
       → OwesAt (by_view size element view) s stale (amount (shows view f) m) (amount (shows view e) n)
 
+  -- in each view that the blocks keep, the block owes what the exchange makes: `more` elements `come` more and `less` elements `gone` less
+  pub record OwesMade (size : L → ℕ) (element : L → Element) (floor : ℕ) (s : Forest L (Headed Summary)) (stale : Option ℕ) (exchange : Exchange) : Type 0 where
+    pub gone : Element
+    pub less : ℕ
+    pub come : Element
+    pub more : ℕ
+    pub makes : MakesExchange floor exchange gone less come more
+    pub owes : OwesExchange size element floor s stale gone less come more
+
   -- in each view that the blocks keep, the stale block owes what the parent of a node did, once its children are edited
   abbrev pub OwesAsAbove : (L → ℕ) → (L → Element) → ℕ → Forest L (Headed Summary) → ℕ → (List ℕ → List ℕ) → Forest L (Headed Summary) → Option ℕ → Type 0
   OwesAsAbove size element floor old at e new stale = (view : View) (more less : ℕ) → KeepsLengths floor view

@@ -11,9 +11,9 @@ use crate::grow::{grow, nodes_needed};
 use crate::leaves::Leaf;
 use crate::position::leaf_at;
 use crate::refresh::exchange_up;
-use crate::summaries::Summary;
+use crate::summaries::{Exchange, Summary};
 use ft_arena::{Arena, NodeId};
-use ft_base::{Datum, Element, OutOfMemory, Steps};
+use ft_base::{Element, OutOfMemory, Steps};
 use ft_shape::Headed;
 use std::alloc::Global;
 use std::sync::ledger::Ledger;
@@ -69,11 +69,10 @@ pub(crate) fn set_stamps_at<L: Leaf, G: Ledger>(
 {
     let leaf = leaf_at(arena, id, steps);
     let len = leaf.len();
-    let old = leaf.element().copy()?;
-    let new = e.copy()?;
+    let exchange = Exchange::of(floor, leaf.element(), len, &e, len)?;
     arena.leaf_mut(id).set_element(e);
     let stale = arena.parent(id);
-    exchange_up(arena, root, None, None, stale, floor, &old, len, &new, len)
+    exchange_up(arena, root, None, None, stale, floor, &exchange)
 }
 
 // Adds another leaf's elements at the end of a leaf.
@@ -97,27 +96,16 @@ where
     ensures floors { OnOk result (AreFromFloor floor arena.new) }
     ensures changes { OnOk result (ChangesLeaf (λ v. L.joined v other) arena.old arena.new id) }
 {
-    let leaf = leaf_at(arena, id, steps);
-    let len = leaf.len();
+    // As many elements come as the other leaf has, since both have the same stamps.
     let more = other.len();
-    let e = leaf.element().copy()?;
+    let e = leaf_at(arena, id, steps).element();
+    let exchange = Exchange::of(floor, e, 0, e, more)?;
     match arena.leaf_mut(id).join_back(other) {
         Ok(()) => {}
         Err(_) => return Err(OutOfMemory),
     }
     let stale = arena.parent(id);
-    exchange_up(
-        arena,
-        root,
-        None,
-        None,
-        stale,
-        floor,
-        &e,
-        len,
-        &e,
-        len + more,
-    )
+    exchange_up(arena, root, None, None, stale, floor, &exchange)
 }
 
 // Changes a leaf's value, but not its length and stamps.

@@ -10,9 +10,9 @@ ghost use Rattle.ft_shape.specs.Steps.{SplitsAt, RootsOver, Resums, ResumsBoth, 
 
 use crate::leaves::Leaf;
 use crate::refresh::{exchange_up, rebuild};
-use crate::summaries::Summary;
+use crate::summaries::{Exchange, Summary};
 use ft_arena::{Arena, NodeId};
-use ft_base::{Datum, OutOfMemory, Steps};
+use ft_base::{OutOfMemory, Steps};
 use ft_shape::{Headed, child_place, height_at, move_half, put_in_half};
 use std::alloc::Global;
 use std::sync::ledger::Ledger;
@@ -203,12 +203,13 @@ where
     ensures inserts { IfOk result (λ r. InsertsLeaf arena.old arena.new r.1 leaf (λ xs. insert_after xs at r.1)) }
 {
     let len = leaf.len();
-    let e = leaf.element().copy()?;
+    let e = leaf.element();
+    let exchange = Exchange::of(floor, e, 0, e, len)?;
     let needed = nodes_needed(arena, root, steps);
     arena.reserve(needed)?;
     let id = arena.link_after(Some(at), leaf);
     let (top, stale) = grow(arena, alloc, floor, root, at, id, steps)?;
-    exchange_up(arena, top, None, None, stale, floor, &e, 0, &e, len)?;
+    exchange_up(arena, top, None, None, stale, floor, &exchange)?;
     Ok((top, id))
 }
 
@@ -233,7 +234,8 @@ where
     ensures inserts { IfOk result (λ r. InsertsLeaf arena.old arena.new r.1 leaf (λ xs. r.1 ∷ xs)) }
 {
     let len = leaf.len();
-    let e = leaf.element().copy()?;
+    let e = leaf.element();
+    let exchange = Exchange::of(floor, e, 0, e, len)?;
     let needed = nodes_needed(arena, root, steps);
     arena.reserve(needed)?;
     let Some(first) = arena.first() else {
@@ -241,7 +243,7 @@ where
     };
     let id = arena.link_after(None, leaf);
     let (top, stale) = grow_front(arena, alloc, floor, root, first, id, steps)?;
-    exchange_up(arena, top, None, None, stale, floor, &e, 0, &e, len)?;
+    exchange_up(arena, top, None, None, stale, floor, &exchange)?;
     Ok((top, id))
 }
 

@@ -5,13 +5,13 @@ ghost use Rattle.ft_arena.specs.Forest.{IsForest, entry, block_value, kids_of};
 ghost use Rattle.ft_arena.specs.Ids.{times};
 ghost use Rattle.ft_block.specs.declared.leaves.View.{View};
 ghost use Rattle.ft_shape.specs.Tree.{IsPartTree, length_of, total};
-ghost use Rattle.ft_block.specs.Tree.{SumsKeptBut, OwesExchange, AreFromFloor, KeepsLengths, by_view, by_size, kept_length};
+ghost use Rattle.ft_block.specs.Tree.{SumsKeptBut, OwesMade, AreFromFloor, KeepsLengths, by_view, by_size, kept_length};
 ghost use Rattle.ft_shape.specs.Steps.{SameShape, Resums};
 
 use crate::leaves::Leaf;
 use crate::summaries::{Exchange, Summary, add_node};
 use ft_arena::{Arena, Kids, Node, NodeId};
-use ft_base::{Element, OutOfMemory, Steps};
+use ft_base::{OutOfMemory, Steps};
 use ft_shape::Headed;
 use std::alloc::Global;
 use std::sync::ledger::Ledger;
@@ -67,8 +67,7 @@ pub(crate) fn rebuild<L: Leaf, G: Ledger>(
     Ok(())
 }
 
-// From a block up, each keeps `len` elements of the stamps `e` too many, and `new_len` of the stamps
-// `new` too few: exchanges them.
+// From a block up, each owes the exchange: makes it.
 pub(crate) fn exchange_up<L: Leaf>(
     arena: &mut Arena<L, Headed<Summary>>,
     _root: NodeId,
@@ -76,26 +75,24 @@ pub(crate) fn exchange_up<L: Leaf>(
     _short: Option<NodeId>,
     stale: Option<NodeId>,
     floor: u64,
-    e: &Element,
-    len: u64,
-    new: &Element,
-    new_len: u64,
+    exchange: &Exchange,
 ) -> Result<(), OutOfMemory>
     requires tree { IsPartTree arena.old _root _apart _short }
     requires fits { total (length_of (by_size L.size) arena.old) arena.old.leaves < 2 ^ 64 }
     requires block { (b : ℕ) → stale ≡ Some b → IsSome (block_value arena.old b) }
     requires floors { AreFromFloor floor arena.old }
     requires sums { SumsKeptBut L.size L.element floor arena.old stale }
-    requires owes { OwesExchange L.size L.element floor arena.old stale e.now len new.now new_len }
+    requires owes { OwesMade L.size L.element floor arena.old stale exchange.now }
     ensures shape { OnOk result (SameShape arena.old arena.new) }
     ensures floors { OnOk result (AreFromFloor floor arena.new) }
     ensures sums { OnOk result (SumsKeptBut L.size L.element floor arena.new None) }
 {
-    let exchange = Exchange::of(floor, e, len, new, new_len)?;
-    let given = &exchange;
     let mut stale = stale;
     'up: while let Some(block) = stale {
-        arena.block_mut(block).sum.fold_and_exchange(floor, given)?;
+        arena
+            .block_mut(block)
+            .sum
+            .fold_and_exchange(floor, exchange)?;
         stale = arena.parent(block);
     }
     Ok(())

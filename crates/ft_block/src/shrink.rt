@@ -14,9 +14,9 @@ use crate::grow::{grow, grow_front, nodes_needed};
 use crate::leaves::Leaf;
 use crate::position::leaf_at;
 use crate::refresh::{exchange_up, rebuild};
-use crate::summaries::Summary;
+use crate::summaries::{Exchange, Summary};
 use ft_arena::{Arena, NodeId};
-use ft_base::{Datum, OutOfMemory, Steps};
+use ft_base::{OutOfMemory, Steps};
 use ft_shape::{Headed, child_at, child_place, count_of, drop_root, regroup};
 use std::alloc::Global;
 use std::sync::ledger::Ledger;
@@ -149,7 +149,8 @@ pub(crate) fn detach<L: Leaf, G: Ledger>(
 {
     let leaf = leaf_at(arena, id, steps);
     let len = leaf.len();
-    let e = leaf.element().copy()?;
+    let e = leaf.element();
+    let exchange = Exchange::of(floor, e, len, e, 0)?;
     let Some(block) = arena.parent(id) else {
         unreachable!();
     };
@@ -162,10 +163,7 @@ pub(crate) fn detach<L: Leaf, G: Ledger>(
         Some(block),
         Some(block),
         floor,
-        &e,
-        len,
-        &e,
-        0,
+        &exchange,
     )?;
     fill_up(arena, alloc, floor, root, block, id, steps)
 }
@@ -274,7 +272,8 @@ pub(crate) fn move_at<L: Leaf, G: Ledger>(
 {
     let leaf = leaf_at(arena, id, steps);
     let len = leaf.len();
-    let e = leaf.element().copy()?;
+    let e = leaf.element();
+    let exchange = Exchange::of(floor, e, 0, e, len)?;
     let needed = nodes_needed(arena, root, steps);
     let root = detach(arena, alloc, floor, root, id, steps)?;
     arena.reserve(needed)?;
@@ -282,7 +281,7 @@ pub(crate) fn move_at<L: Leaf, G: Ledger>(
         Some(at) => {
             arena.move_after(id, Some(at));
             let (top, stale) = grow(arena, alloc, floor, root, at, id, steps)?;
-            exchange_up(arena, top, None, None, stale, floor, &e, 0, &e, len)?;
+            exchange_up(arena, top, None, None, stale, floor, &exchange)?;
             Ok(top)
         }
         None => {
@@ -291,7 +290,7 @@ pub(crate) fn move_at<L: Leaf, G: Ledger>(
                 unreachable!();
             };
             let (top, stale) = grow_front(arena, alloc, floor, root, first, id, steps)?;
-            exchange_up(arena, top, None, None, stale, floor, &e, 0, &e, len)?;
+            exchange_up(arena, top, None, None, stale, floor, &exchange)?;
             Ok(top)
         }
     }

@@ -1,28 +1,13 @@
 use Rattle.std.proofs.Common.{IsSomeAnd, IsTrue, Option, subst, ◌≡◌, ◌+◌, Some, ap, sym, ◌∙◌, arith}
 use Rattle.std.proofs.lemmas.Result.{on_ok_weaker}
-use Rattle.ft_arena.specs.Forest.{with_leaf, entry, count_some}
-use Rattle.ft_shape.proofs.FitLemmas.{leaf_length}
-use Rattle.ft_shape.proofs.WithoutLemmas.{total-without}
-use Rattle.ft_shape.specs.Tree.{length_of, SumsBut, OwesAt}
+use Rattle.ft_arena.specs.Forest.{with_leaf}
+use Rattle.ft_shape.specs.Tree.{SumsBut, OwesAt}
 use Rattle.ft_block.specs.Tree.{by_view, by_size}
 use Rattle.ft_shape.proofs.InsertLemmas.{changed_tree, changed_sums, changed_owes, changed_total, changed_leaf}
 use Rattle.ft_block.proofs.Floors.{changed_floors}
-use Rattle.ft_block.proofs.ExchangeLemmas.{tree_part, turns, parent_block}
+use Rattle.ft_block.proofs.ExchangeLemmas.{tree_part, grows, parent_block}
 use Rattle.ft_shape.proofs.RefreshLemmas.{SameShape-tree}
 use Rattle.ft_block.proofs.change.join_at.Goals as goal
-
-pub overflow_add-len : goal.overflow_add-len
-overflow_add-len g c =
-    let one = c.requires.tree.shape.forest.leaf_once c.args.id ∙ ap count_some c.leaf_at-leaf.ensures in
-    omega (
-      arith,
-      total-without (length_of (by_size g.L.Leaf.size) c.args.arena.now) c.args.arena.now.leaves c.args.id one,
-      leaf_length (by_size g.L.Leaf.size)
-          (entry c.args.arena.now c.args.id) c.leaf_at-leaf.result.now c.leaf_at-leaf.ensures,
-      c.len-len.ensures.value,
-      c.len-more.ensures.value,
-      c.requires.fits,
-    )
 
 pub exchange_up-requires-clause-tree : goal.exchange_up-requires-clause-tree
 exchange_up-requires-clause-tree g c = tree_part (with_leaf c.args.arena.now c.args.id c.join_back.new.self) c.args.root
@@ -58,27 +43,31 @@ exchange_up-requires-clause-sums g c = λ view k. subst
     (by_view g.L.Leaf.size g.L.Leaf.element view) (c.requires.sums view k))
 
 pub exchange_up-requires-clause-owes : goal.exchange_up-requires-clause-owes
-exchange_up-requires-clause-owes g c = λ view k.
-    let same : Some c.leaf_mut.result.now ≡ Some c.leaf_at-leaf.result.now = sym c.leaf_mut.ensures.value ∙ c.leaf_at-leaf.ensures in
-    let is : c.leaf_mut.result.now ≡ c.leaf_at-leaf.result.now = cc same in
-    let can = subst (λ (o : Option g.row.L.Denot). IsSomeAnd o (λ v. IsTrue (g.L.Leaf.joins v c.args.other) × (g.L.Leaf.element v ≡ g.L.Leaf.element c.args.other)))
-    c.leaf_mut.ensures.value c.requires.can in
-    turns g.L.Leaf.size g.L.Leaf.element view (with_leaf c.args.arena.now c.args.id c.join_back.new.self) c.parent-stale.result c.leaf_mut.result.now c.join_back.new.self
-    c.in_ok-e.e c.in_ok-e.e c.len-len.result (c.len-len.result + c.len-more.result) (c.in_ok-e.ensures ∙ c.element.ensures
-    ∙ ap g.L.Leaf.element (sym is)) (c.len-len.ensures.value ∙ ap g.L.Leaf.size (sym is)) (c.in_ok-e.ensures ∙ c.element.ensures ∙ ap g.L.Leaf.element (sym is)
-    ∙ sym (ap g.L.Leaf.element c.in-Ok.ensures.ok ∙ g.met.L.Leaf.joined_element c.leaf_mut.result.now c.args.other can.0 can.1))
-    (omega (
-      arith,
-      c.len-len.ensures.value,
-      c.len-more.ensures.value,
-      ap g.L.Leaf.size is,
-      ap g.L.Leaf.size c.in-Ok.ensures.ok
-          ∙ g.met.L.Leaf.joined_size c.leaf_mut.result.now c.args.other can.0 can.1,
-    ))
-    (subst (λ o. OwesAt (by_view g.L.Leaf.size g.L.Leaf.element view) (with_leaf c.args.arena.now c.args.id c.join_back.new.self) o
-    ((by_view g.L.Leaf.size g.L.Leaf.element view).leaf c.join_back.new.self) ((by_view g.L.Leaf.size g.L.Leaf.element view).leaf c.leaf_mut.result.now))
-    (sym c.parent-stale.ensures) (changed_owes c.args.arena.now c.args.root c.args.id c.leaf_mut.result.now c.join_back.new.self c.requires.tree
-    c.leaf_mut.ensures.value (by_view g.L.Leaf.size g.L.Leaf.element view) (c.requires.sums view k)))
+exchange_up-requires-clause-owes g c = record {
+  gone = c.element-e.result.now;
+  less = 0;
+  come = c.element-e.result.now;
+  more = c.len-more.result;
+  makes = c.in_ok-exchange.ensures;
+  owes = λ view k.
+      let same : Some c.leaf_mut.result.now ≡ Some c.leaf_at.result.now = sym c.leaf_mut.ensures.value ∙ c.leaf_at.ensures in
+      let is : c.leaf_mut.result.now ≡ c.leaf_at.result.now = cc same in
+      let can = subst (λ (o : Option g.row.L.Denot). IsSomeAnd o (λ v. IsTrue (g.L.Leaf.joins v c.args.other) × (g.L.Leaf.element v ≡ g.L.Leaf.element c.args.other)))
+      c.leaf_mut.ensures.value c.requires.can in
+      grows g.L.Leaf.size g.L.Leaf.element view (with_leaf c.args.arena.now c.args.id c.join_back.new.self) c.parent-stale.result c.leaf_mut.result.now
+      c.join_back.new.self c.element-e.result.now c.len-more.result (c.element-e.ensures ∙ ap g.L.Leaf.element (sym is))
+      (ap g.L.Leaf.element c.in-Ok.ensures.ok ∙ g.met.L.Leaf.joined_element c.leaf_mut.result.now c.args.other can.0 can.1)
+      (omega (
+        arith,
+        c.len-more.ensures.value,
+        ap g.L.Leaf.size c.in-Ok.ensures.ok
+            ∙ g.met.L.Leaf.joined_size c.leaf_mut.result.now c.args.other can.0 can.1,
+      ))
+      (subst (λ o. OwesAt (by_view g.L.Leaf.size g.L.Leaf.element view) (with_leaf c.args.arena.now c.args.id c.join_back.new.self) o
+      ((by_view g.L.Leaf.size g.L.Leaf.element view).leaf c.join_back.new.self) ((by_view g.L.Leaf.size g.L.Leaf.element view).leaf c.leaf_mut.result.now))
+      (sym c.parent-stale.ensures) (changed_owes c.args.arena.now c.args.root c.args.id c.leaf_mut.result.now c.join_back.new.self c.requires.tree
+      c.leaf_mut.ensures.value (by_view g.L.Leaf.size g.L.Leaf.element view) (c.requires.sums view k)));
+}
 
 pub returns-clause-tree : goal.returns-clause-tree
 returns-clause-tree g c = on_ok_weaker c.exchange_up.result (λ r. SameShape-tree (with_leaf c.args.arena.now c.args.id c.join_back.new.self) c.exchange_up.new.arena

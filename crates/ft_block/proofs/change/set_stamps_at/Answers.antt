@@ -41,18 +41,24 @@ exchange_up-requires-clause-sums g c = λ view k. subst
     (by_view g.L.Leaf.size g.L.Leaf.element view) (c.requires.sums view k))
 
 pub exchange_up-requires-clause-owes : goal.exchange_up-requires-clause-owes
-exchange_up-requires-clause-owes g c = λ view k.
-    let same : Some c.leaf_mut.result.now ≡ Some c.leaf_at-leaf.result.now = sym c.leaf_mut.ensures.value ∙ c.leaf_at-leaf.ensures in
-    let is : c.leaf_mut.result.now ≡ c.leaf_at-leaf.result.now = cc same in
-    turns g.L.Leaf.size g.L.Leaf.element view (with_leaf c.args.arena.now c.args.id c.set_element.new.self) c.parent-stale.result c.leaf_mut.result.now
-    c.set_element.new.self c.in_ok-old.old c.in_ok-new.new c.len-len.result c.len-len.result (c.in_ok-old.ensures ∙ c.element.ensures
-    ∙ ap g.L.Leaf.element (sym is)) (c.len-len.ensures.value ∙ ap g.L.Leaf.size (sym is)) (c.in_ok-new.ensures
-    ∙ sym (ap g.L.Leaf.element c.set_element.ensures ∙ g.met.L.Leaf.with_element_element c.leaf_mut.result.now c.args.e)) (c.len-len.ensures.value
-    ∙ ap g.L.Leaf.size (sym is) ∙ sym (ap g.L.Leaf.size c.set_element.ensures ∙ g.met.L.Leaf.with_element_size c.leaf_mut.result.now c.args.e))
-    (subst (λ o. OwesAt (by_view g.L.Leaf.size g.L.Leaf.element view) (with_leaf c.args.arena.now c.args.id c.set_element.new.self) o
-    ((by_view g.L.Leaf.size g.L.Leaf.element view).leaf c.set_element.new.self) ((by_view g.L.Leaf.size g.L.Leaf.element view).leaf c.leaf_mut.result.now))
-    (sym c.parent-stale.ensures) (changed_owes c.args.arena.now c.args.root c.args.id c.leaf_mut.result.now c.set_element.new.self c.requires.tree
-    c.leaf_mut.ensures.value (by_view g.L.Leaf.size g.L.Leaf.element view) (c.requires.sums view k)))
+exchange_up-requires-clause-owes g c = record {
+  gone = c.element.result.now;
+  less = c.len-len.result;
+  come = c.args.e;
+  more = c.len-len.result;
+  makes = c.in_ok-exchange.ensures;
+  owes = λ view k.
+      let same : Some c.leaf_mut.result.now ≡ Some c.leaf_at-leaf.result.now = sym c.leaf_mut.ensures.value ∙ c.leaf_at-leaf.ensures in
+      let is : c.leaf_mut.result.now ≡ c.leaf_at-leaf.result.now = cc same in
+      turns g.L.Leaf.size g.L.Leaf.element view (with_leaf c.args.arena.now c.args.id c.set_element.new.self) c.parent-stale.result c.leaf_mut.result.now
+      c.set_element.new.self c.element.result.now c.args.e c.len-len.result c.len-len.result (c.element.ensures
+      ∙ ap g.L.Leaf.element (sym is)) (c.len-len.ensures.value ∙ ap g.L.Leaf.size (sym is)) (sym (ap g.L.Leaf.element c.set_element.ensures ∙ g.met.L.Leaf.with_element_element c.leaf_mut.result.now c.args.e)) (c.len-len.ensures.value
+      ∙ ap g.L.Leaf.size (sym is) ∙ sym (ap g.L.Leaf.size c.set_element.ensures ∙ g.met.L.Leaf.with_element_size c.leaf_mut.result.now c.args.e))
+      (subst (λ o. OwesAt (by_view g.L.Leaf.size g.L.Leaf.element view) (with_leaf c.args.arena.now c.args.id c.set_element.new.self) o
+      ((by_view g.L.Leaf.size g.L.Leaf.element view).leaf c.set_element.new.self) ((by_view g.L.Leaf.size g.L.Leaf.element view).leaf c.leaf_mut.result.now))
+      (sym c.parent-stale.ensures) (changed_owes c.args.arena.now c.args.root c.args.id c.leaf_mut.result.now c.set_element.new.self c.requires.tree
+      c.leaf_mut.ensures.value (by_view g.L.Leaf.size g.L.Leaf.element view) (c.requires.sums view k)));
+}
 
 pub returns-clause-tree : goal.returns-clause-tree
 returns-clause-tree g c = on_ok_weaker c.exchange_up.result (λ r. SameShape-tree (with_leaf c.args.arena.now c.args.id c.set_element.new.self) c.exchange_up.new.arena

@@ -116,20 +116,27 @@ exchange_up-requires-clause-fits g c =
     )
 
 pub exchange_up-requires-clause-owes : goal.exchange_up-requires-clause-owes
-exchange_up-requires-clause-owes g c = λ view k.
-    let room = c.reserve.ensures.kept in
-    let l : c.link_after-id.new.self.leaves ≡ insert_after c.args.arena.now.leaves c.args.at c.link_after-id.result =
-    c.link_after-id.ensures.leaves ∙ ap (λ (zs : List ℕ). insert_after zs c.args.at c.link_after-id.result)
-    (room_leaves c.args.arena.now c.reserve.new.self c.reserve.ensures.kept) in
-    let e_is : c.in_ok-e.e ≡ g.L.Leaf.element c.args.leaf = c.in_ok-e.ensures ∙ c.element.ensures in
-    c.in_ok-top.ensures.owes view (amount (shows view c.in_ok-e.e) c.len-len.result) (amount (shows view c.in_ok-e.e) 0) k
-    (comes g.L.Leaf.size g.L.Leaf.element view c.link_after-id.new.self c.args.at (λ xs. insert_after xs c.args.at c.link_after-id.result) c.args.leaf c.in_ok-e.e
-    c.len-len.result e_is c.len-len.ensures.value (leaf_owes c.args.arena.now c.link_after-id.new.self c.args.root c.args.at c.link_after-id.result 1
-    (λ xs. insert_after xs c.args.at c.link_after-id.result) (after_is_edit c.args.at c.link_after-id.result) c.args.leaf c.requires.tree c.requires.at
-    (sym (room_entry c.args.arena.now c.reserve.new.self room c.link_after-id.result)
-    ∙ c.link_after-id.ensures.fresh) (room_changes c.args.arena.now c.reserve.new.self room c.link_after-id.new.self c.link_after-id.result _
-    c.link_after-id.ensures.changes) l c.link_after-id.ensures.sound (by_view g.L.Leaf.size g.L.Leaf.element view) (λ b h _. c.requires.sums view k b h (λ e. cc)) 0 0
-    (nothing_owed (by_view g.L.Leaf.size g.L.Leaf.element view) c.args.arena.now (c.requires.sums view k) c.args.root c.requires.tree c.args.at)))
+exchange_up-requires-clause-owes g c = record {
+  gone = c.element-e.result.now;
+  less = 0;
+  come = c.element-e.result.now;
+  more = c.len-len.result;
+  makes = c.in_ok-exchange.ensures;
+  owes = λ view k.
+      let room = c.reserve.ensures.kept in
+      let l : c.link_after-id.new.self.leaves ≡ insert_after c.args.arena.now.leaves c.args.at c.link_after-id.result =
+      c.link_after-id.ensures.leaves ∙ ap (λ (zs : List ℕ). insert_after zs c.args.at c.link_after-id.result)
+      (room_leaves c.args.arena.now c.reserve.new.self c.reserve.ensures.kept) in
+      let e_is : c.element-e.result.now ≡ g.L.Leaf.element c.args.leaf = c.element-e.ensures in
+      c.in_ok-top.ensures.owes view (amount (shows view c.element-e.result.now) c.len-len.result) (amount (shows view c.element-e.result.now) 0) k
+      (comes g.L.Leaf.size g.L.Leaf.element view c.link_after-id.new.self c.args.at (λ xs. insert_after xs c.args.at c.link_after-id.result) c.args.leaf c.element-e.result.now
+      c.len-len.result e_is c.len-len.ensures.value (leaf_owes c.args.arena.now c.link_after-id.new.self c.args.root c.args.at c.link_after-id.result 1
+      (λ xs. insert_after xs c.args.at c.link_after-id.result) (after_is_edit c.args.at c.link_after-id.result) c.args.leaf c.requires.tree c.requires.at
+      (sym (room_entry c.args.arena.now c.reserve.new.self room c.link_after-id.result)
+      ∙ c.link_after-id.ensures.fresh) (room_changes c.args.arena.now c.reserve.new.self room c.link_after-id.new.self c.link_after-id.result _
+      c.link_after-id.ensures.changes) l c.link_after-id.ensures.sound (by_view g.L.Leaf.size g.L.Leaf.element view) (λ b h _. c.requires.sums view k b h (λ e. cc)) 0 0
+      (nothing_owed (by_view g.L.Leaf.size g.L.Leaf.element view) c.args.arena.now (c.requires.sums view k) c.args.root c.requires.tree c.args.at)));
+}
 
 pub returns-clause-tree : goal.returns-clause-tree
 returns-clause-tree g c = SameShape-tree c.grow.new.arena c.exchange_up.new.arena c.in_ok-top.top c.in_ok-top.ensures.tree c.in_ok-exchange_up.ensures.shape

@@ -186,25 +186,32 @@ exchange_up-requires-clause-fits g c =
     )
 
 pub exchange_up-requires-clause-owes : goal.exchange_up-requires-clause-owes
-exchange_up-requires-clause-owes g c = λ view k.
-    let room = c.reserve.ensures.kept in
-    let is_first : Some c.in-Some.first ≡ first c.args.arena.now.leaves =
-    sym c.in-Some.is ∙ c.first.ensures.value ∙ ap first (room_leaves c.args.arena.now c.reserve.new.self c.reserve.ensures.kept) in
-    let front = front_is c.args.arena.now.leaves c.in-Some.first c.link_after-id.result is_first
-    (λ x. omega (arith, c.requires.tree.shape.forest.leaf_once x, count_some_le (leaf_value c.args.arena.now x))) in
-    let live : IsSome (leaf_value c.args.arena.now c.in-Some.first) = leaves_live c.args.arena.now c.requires.tree.shape.forest c.in-Some.first front.1 in
-    let l : c.link_after-id.new.self.leaves ≡ insert_before c.args.arena.now.leaves c.in-Some.first c.link_after-id.result =
-    c.link_after-id.ensures.leaves ∙ ap (λ (zs : List ℕ). c.link_after-id.result ∷ zs) (room_leaves c.args.arena.now c.reserve.new.self c.reserve.ensures.kept)
-    ∙ front.0 in
-    let e_is : c.in_ok-e.e ≡ g.L.Leaf.element c.args.leaf = c.in_ok-e.ensures ∙ c.element.ensures in
-    c.in_ok-top.ensures.owes view (amount (shows view c.in_ok-e.e) c.len-len.result) (amount (shows view c.in_ok-e.e) 0) k
-    (comes g.L.Leaf.size g.L.Leaf.element view c.link_after-id.new.self c.in-Some.first (λ xs. insert_before xs c.in-Some.first c.link_after-id.result) c.args.leaf
-    c.in_ok-e.e c.len-len.result e_is c.len-len.ensures.value (leaf_owes c.args.arena.now c.link_after-id.new.self c.args.root c.in-Some.first c.link_after-id.result
-    0 (λ xs. insert_before xs c.in-Some.first c.link_after-id.result) (before_is_edit c.in-Some.first c.link_after-id.result) c.args.leaf c.requires.tree live
-    (sym (room_entry c.args.arena.now c.reserve.new.self room c.link_after-id.result)
-    ∙ c.link_after-id.ensures.fresh) (room_changes c.args.arena.now c.reserve.new.self room c.link_after-id.new.self c.link_after-id.result _
-    c.link_after-id.ensures.changes) l c.link_after-id.ensures.sound (by_view g.L.Leaf.size g.L.Leaf.element view) (λ b h _. c.requires.sums view k b h (λ e. cc)) 0 0
-    (nothing_owed (by_view g.L.Leaf.size g.L.Leaf.element view) c.args.arena.now (c.requires.sums view k) c.args.root c.requires.tree c.in-Some.first)))
+exchange_up-requires-clause-owes g c = record {
+  gone = c.element-e.result.now;
+  less = 0;
+  come = c.element-e.result.now;
+  more = c.len-len.result;
+  makes = c.in_ok-exchange.ensures;
+  owes = λ view k.
+      let room = c.reserve.ensures.kept in
+      let is_first : Some c.in-Some.first ≡ first c.args.arena.now.leaves =
+      sym c.in-Some.is ∙ c.first.ensures.value ∙ ap first (room_leaves c.args.arena.now c.reserve.new.self c.reserve.ensures.kept) in
+      let front = front_is c.args.arena.now.leaves c.in-Some.first c.link_after-id.result is_first
+      (λ x. omega (arith, c.requires.tree.shape.forest.leaf_once x, count_some_le (leaf_value c.args.arena.now x))) in
+      let live : IsSome (leaf_value c.args.arena.now c.in-Some.first) = leaves_live c.args.arena.now c.requires.tree.shape.forest c.in-Some.first front.1 in
+      let l : c.link_after-id.new.self.leaves ≡ insert_before c.args.arena.now.leaves c.in-Some.first c.link_after-id.result =
+      c.link_after-id.ensures.leaves ∙ ap (λ (zs : List ℕ). c.link_after-id.result ∷ zs) (room_leaves c.args.arena.now c.reserve.new.self c.reserve.ensures.kept)
+      ∙ front.0 in
+      let e_is : c.element-e.result.now ≡ g.L.Leaf.element c.args.leaf = c.element-e.ensures in
+      c.in_ok-top.ensures.owes view (amount (shows view c.element-e.result.now) c.len-len.result) (amount (shows view c.element-e.result.now) 0) k
+      (comes g.L.Leaf.size g.L.Leaf.element view c.link_after-id.new.self c.in-Some.first (λ xs. insert_before xs c.in-Some.first c.link_after-id.result) c.args.leaf
+      c.element-e.result.now c.len-len.result e_is c.len-len.ensures.value (leaf_owes c.args.arena.now c.link_after-id.new.self c.args.root c.in-Some.first c.link_after-id.result
+      0 (λ xs. insert_before xs c.in-Some.first c.link_after-id.result) (before_is_edit c.in-Some.first c.link_after-id.result) c.args.leaf c.requires.tree live
+      (sym (room_entry c.args.arena.now c.reserve.new.self room c.link_after-id.result)
+      ∙ c.link_after-id.ensures.fresh) (room_changes c.args.arena.now c.reserve.new.self room c.link_after-id.new.self c.link_after-id.result _
+      c.link_after-id.ensures.changes) l c.link_after-id.ensures.sound (by_view g.L.Leaf.size g.L.Leaf.element view) (λ b h _. c.requires.sums view k b h (λ e. cc)) 0 0
+      (nothing_owed (by_view g.L.Leaf.size g.L.Leaf.element view) c.args.arena.now (c.requires.sums view k) c.args.root c.requires.tree c.in-Some.first)));
+}
 
 pub returns-clause-tree : goal.returns-clause-tree
 returns-clause-tree g c = SameShape-tree c.grow_front.new.arena c.exchange_up.new.arena c.in_ok-top.top c.in_ok-top.ensures.tree c.in_ok-exchange_up.ensures.shape

@@ -17,7 +17,6 @@ up-init g c =
     record {
       tree = c.requires.tree;
       same = SameShape-refl c.args.arena.now c.requires.tree.shape.forest;
-      exchange = c.in_ok-exchange.ensures;
       fits = c.requires.fits;
       block = c.requires.block;
       floors = c.requires.floors;
@@ -34,6 +33,7 @@ pub up-preserved : goal.up-preserved
 up-preserved g c =
     let s = c.up.arena in
     let i = c.up.invariant in
+    let owed = i.owes in
     let b = c.in-Some.block in
     let v = c.block_mut.result.now in
     let w : Headed Summary = record { height = c.block_mut.result.now.height; sum = c.fold_and_exchange.new.self } in
@@ -42,25 +42,31 @@ up-preserved g c =
     record {
       tree = SameShape-part s (with_block s b w) c.args._root c.args._apart c.args._short i.tree r;
       same = SameShape-then c.args.arena.now s (with_block s b w) i.same r;
-      exchange = i.exchange;
       fits = omega (arith, leaf_total (by_size g.L.Leaf.size) s (with_block s b w) i.tree.shape.forest r.leaves r.leaf_values, i.fits);
       block = ex_next s c.args._root c.args._apart c.args._short i.tree b v w c.block_mut.ensures.value refl c.parent-stale.result c.parent-stale.ensures;
       floors = written_floors c.args.floor s b v w c.block_mut.ensures.value c.fold_and_exchange.ensures.floor i.floors;
       sums = λ view k. subst (λ (o : Option ℕ). SumsBut (by_view g.L.Leaf.size g.L.Leaf.element view) (with_block s b w) o) (sym c.parent-stale.ensures)
           (ex_sums g.L.Leaf.size g.L.Leaf.element c.args.floor s c.args._root c.args._apart c.args._short i.tree i.fits b v w c.block_mut.ensures.value
           refl view (subst (λ (o : Option ℕ). SumsBut (by_view g.L.Leaf.size g.L.Leaf.element view) s o) c.in-Some.is (i.sums view k))
-          (amount (shows view c.args.new.now) c.args.new_len) (amount (shows view c.args.e.now) c.args.len) c.fold_and_exchange.ensures.low
-          (c.in_ok-fold_and_exchange.ensures.exchanges c.args.e.now c.args.new.now c.args.len c.args.new_len i.exchange view k)
-          (subst (λ (o : Option ℕ). OwesAt (by_view g.L.Leaf.size g.L.Leaf.element view) s o (amount (shows view c.args.new.now) c.args.new_len)
-          (amount (shows view c.args.e.now) c.args.len)) c.in-Some.is (i.owes view k)));
-      owes = λ view k. subst (λ (o : Option ℕ). OwesAt (by_view g.L.Leaf.size g.L.Leaf.element view) (with_block s b w) o
-          (amount (shows view c.args.new.now) c.args.new_len) (amount (shows view c.args.e.now) c.args.len)) (sym c.parent-stale.ensures)
-          (ex_owes g.L.Leaf.size g.L.Leaf.element c.args.floor s c.args._root c.args._apart c.args._short i.tree i.fits b v w c.block_mut.ensures.value
-          refl view (subst (λ (o : Option ℕ). SumsBut (by_view g.L.Leaf.size g.L.Leaf.element view) s o) c.in-Some.is (i.sums view k))
-          (amount (shows view c.args.new.now) c.args.new_len) (amount (shows view c.args.e.now) c.args.len) c.fold_and_exchange.ensures.low
-          (c.in_ok-fold_and_exchange.ensures.exchanges c.args.e.now c.args.new.now c.args.len c.args.new_len i.exchange view k)
-          (subst (λ (o : Option ℕ). OwesAt (by_view g.L.Leaf.size g.L.Leaf.element view) s o (amount (shows view c.args.new.now) c.args.new_len)
-          (amount (shows view c.args.e.now) c.args.len)) c.in-Some.is (i.owes view k)));
+          (amount (shows view owed.come) owed.more) (amount (shows view owed.gone) owed.less) c.fold_and_exchange.ensures.low
+          (c.in_ok-fold_and_exchange.ensures.exchanges owed.gone owed.come owed.less owed.more owed.makes view k)
+          (subst (λ (o : Option ℕ). OwesAt (by_view g.L.Leaf.size g.L.Leaf.element view) s o (amount (shows view owed.come) owed.more)
+          (amount (shows view owed.gone) owed.less)) c.in-Some.is (owed.owes view k)));
+      owes = record {
+        gone = owed.gone;
+        less = owed.less;
+        come = owed.come;
+        more = owed.more;
+        makes = owed.makes;
+        owes = λ view k. subst (λ (o : Option ℕ). OwesAt (by_view g.L.Leaf.size g.L.Leaf.element view) (with_block s b w) o
+            (amount (shows view owed.come) owed.more) (amount (shows view owed.gone) owed.less)) (sym c.parent-stale.ensures)
+            (ex_owes g.L.Leaf.size g.L.Leaf.element c.args.floor s c.args._root c.args._apart c.args._short i.tree i.fits b v w c.block_mut.ensures.value
+            refl view (subst (λ (o : Option ℕ). SumsBut (by_view g.L.Leaf.size g.L.Leaf.element view) s o) c.in-Some.is (i.sums view k))
+            (amount (shows view owed.come) owed.more) (amount (shows view owed.gone) owed.less) c.fold_and_exchange.ensures.low
+            (c.in_ok-fold_and_exchange.ensures.exchanges owed.gone owed.come owed.less owed.more owed.makes view k)
+            (subst (λ (o : Option ℕ). OwesAt (by_view g.L.Leaf.size g.L.Leaf.element view) s o (amount (shows view owed.come) owed.more)
+            (amount (shows view owed.gone) owed.less)) c.in-Some.is (owed.owes view k)));
+      };
     }
 
 pub returns-clause-shape : goal.returns-clause-shape

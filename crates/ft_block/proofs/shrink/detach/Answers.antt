@@ -72,14 +72,20 @@ exchange_up-requires-clause-sums g c = λ view k.
     (c.requires.sums view k)
 
 pub exchange_up-requires-clause-owes : goal.exchange_up-requires-clause-owes
-exchange_up-requires-clause-owes g c = λ view k.
-    let up : parent_of c.args.arena.now c.args.id ≡ Some c.in-Some.block = sym c.parent.ensures ∙ c.in-Some.is in
-    let takes = took_id c.args.arena.now c.take_child.new.self c.in-Some.block c.child_place-place.result.0 c.args.id c.take_child.result c.child_place-place.ensures.place
-    c.take_child.ensures.child c.take_child.ensures.takes in
-    goes g.L.Leaf.size g.L.Leaf.element view c.take_child.new.self (Some c.in-Some.block) c.leaf_at-leaf.result.now c.in_ok-e.e c.len-len.result (c.in_ok-e.ensures
-    ∙ c.element.ensures) c.len-len.ensures.value (taken_owes c.args.arena.now c.take_child.new.self c.args.root c.args.id c.in-Some.block c.child_place-place.result.0
-    c.requires.tree c.requires.live up c.take_child.ensures.leaves c.take_child.ensures.sound c.child_place-place.ensures.place takes c.requires.more
-    (by_view g.L.Leaf.size g.L.Leaf.element view) (c.requires.sums view k) c.leaf_at-leaf.result.now c.leaf_at-leaf.ensures)
+exchange_up-requires-clause-owes g c = record {
+  gone = c.element-e.result.now;
+  less = c.len-len.result;
+  come = c.element-e.result.now;
+  more = 0;
+  makes = c.in_ok-exchange.ensures;
+  owes = λ view k.
+      let up : parent_of c.args.arena.now c.args.id ≡ Some c.in-Some.block = sym c.parent.ensures ∙ c.in-Some.is in
+      let takes = took_id c.args.arena.now c.take_child.new.self c.in-Some.block c.child_place-place.result.0 c.args.id c.take_child.result c.child_place-place.ensures.place
+      c.take_child.ensures.child c.take_child.ensures.takes in
+      goes g.L.Leaf.size g.L.Leaf.element view c.take_child.new.self (Some c.in-Some.block) c.leaf_at-leaf.result.now c.element-e.result.now c.len-len.result c.element-e.ensures c.len-len.ensures.value (taken_owes c.args.arena.now c.take_child.new.self c.args.root c.args.id c.in-Some.block c.child_place-place.result.0
+      c.requires.tree c.requires.live up c.take_child.ensures.leaves c.take_child.ensures.sound c.child_place-place.ensures.place takes c.requires.more
+      (by_view g.L.Leaf.size g.L.Leaf.element view) (c.requires.sums view k) c.leaf_at-leaf.result.now c.leaf_at-leaf.ensures);
+}
 
 pub fill_up-requires-clause-apart : goal.fill_up-requires-clause-apart
 fill_up-requires-clause-apart g c =

@@ -190,22 +190,29 @@ exchange_up-requires-clause-fits g c =
     )
 
 pub exchange_up-requires-clause-owes : goal.exchange_up-requires-clause-owes
-exchange_up-requires-clause-owes g c = λ view k.
-    let nodes : c.move_after.new.self.nodes ≡ c.detach.new.arena.nodes = c.move_after.ensures.nodes ∙ ap (λ (s : Forest g.row.L.Denot (Headed Summary)). s.nodes) c.reserve.ensures.kept in
-    let leaves : c.move_after.new.self.leaves ≡ insert_after (without c.detach.new.arena.leaves c.args.id) c.in-Some.at c.args.id =
-    c.move_after.ensures.leaves ∙ ap (λ (zs : List ℕ). insert_after (without zs c.args.id) c.in-Some.at c.args.id)
-    (room_leaves c.detach.new.arena c.reserve.new.self c.reserve.ensures.kept) in
-    let there : IsSome (leaf_value c.args.arena.now c.in-Some.at) = subst (λ (o : Option ℕ). IsPlace c.args.arena.now o) c.in-Some.is c.requires.at in
-    let at_leaf : IsSome (leaf_value c.detach.new.arena c.in-Some.at) =
-    subst (λ (o : Option g.row.L.Denot). IsSome o) (sym (c.in_ok-root.ensures.leaf_values c.in-Some.at)) there in
-    let differ : c.in-Some.at ≢ c.args.id = (λ e. c.requires.differ (c.in-Some.is ∙ ap Some e)) in
-    c.in_ok-top-in-Some.ensures.owes view (amount (shows view c.in_ok-e.e) c.len-len.result) (amount (shows view c.in_ok-e.e) 0) k
-    (comes g.L.Leaf.size g.L.Leaf.element view c.move_after.new.self c.in-Some.at (λ xs. insert_after xs c.in-Some.at c.args.id) c.leaf_at-leaf.result.now c.in_ok-e.e
-    c.len-len.result (c.in_ok-e.ensures ∙ c.element.ensures) c.len-len.ensures.value
-    (moved_owes c.detach.new.arena c.move_after.new.self c.in_ok-root.root c.args.id c.in-Some.at 1 (λ xs. insert_after xs c.in-Some.at c.args.id)
-    (after_is_edit c.in-Some.at c.args.id) c.in_ok-root.ensures.apart nodes c.move_after.ensures.sound leaves at_leaf differ
-    (by_view g.L.Leaf.size g.L.Leaf.element view) (c.in_ok-root.ensures.sums view k) c.leaf_at-leaf.result.now (c.in_ok-root.ensures.leaf_values c.args.id
-    ∙ c.leaf_at-leaf.ensures)))
+exchange_up-requires-clause-owes g c = record {
+  gone = c.element-e.result.now;
+  less = 0;
+  come = c.element-e.result.now;
+  more = c.len-len.result;
+  makes = c.in_ok-exchange.ensures;
+  owes = λ view k.
+      let nodes : c.move_after.new.self.nodes ≡ c.detach.new.arena.nodes = c.move_after.ensures.nodes ∙ ap (λ (s : Forest g.row.L.Denot (Headed Summary)). s.nodes) c.reserve.ensures.kept in
+      let leaves : c.move_after.new.self.leaves ≡ insert_after (without c.detach.new.arena.leaves c.args.id) c.in-Some.at c.args.id =
+      c.move_after.ensures.leaves ∙ ap (λ (zs : List ℕ). insert_after (without zs c.args.id) c.in-Some.at c.args.id)
+      (room_leaves c.detach.new.arena c.reserve.new.self c.reserve.ensures.kept) in
+      let there : IsSome (leaf_value c.args.arena.now c.in-Some.at) = subst (λ (o : Option ℕ). IsPlace c.args.arena.now o) c.in-Some.is c.requires.at in
+      let at_leaf : IsSome (leaf_value c.detach.new.arena c.in-Some.at) =
+      subst (λ (o : Option g.row.L.Denot). IsSome o) (sym (c.in_ok-root.ensures.leaf_values c.in-Some.at)) there in
+      let differ : c.in-Some.at ≢ c.args.id = (λ e. c.requires.differ (c.in-Some.is ∙ ap Some e)) in
+      c.in_ok-top-in-Some.ensures.owes view (amount (shows view c.element-e.result.now) c.len-len.result) (amount (shows view c.element-e.result.now) 0) k
+      (comes g.L.Leaf.size g.L.Leaf.element view c.move_after.new.self c.in-Some.at (λ xs. insert_after xs c.in-Some.at c.args.id) c.leaf_at-leaf.result.now c.element-e.result.now
+      c.len-len.result (c.element-e.ensures) c.len-len.ensures.value
+      (moved_owes c.detach.new.arena c.move_after.new.self c.in_ok-root.root c.args.id c.in-Some.at 1 (λ xs. insert_after xs c.in-Some.at c.args.id)
+      (after_is_edit c.in-Some.at c.args.id) c.in_ok-root.ensures.apart nodes c.move_after.ensures.sound leaves at_leaf differ
+      (by_view g.L.Leaf.size g.L.Leaf.element view) (c.in_ok-root.ensures.sums view k) c.leaf_at-leaf.result.now (c.in_ok-root.ensures.leaf_values c.args.id
+      ∙ c.leaf_at-leaf.ensures)));
+}
 
 pub returns-in-Some-clause-tree : goal.returns-in-Some-clause-tree
 returns-in-Some-clause-tree g c = SameShape-tree c.grow.new.arena c.exchange_up.new.arena c.in_ok-top-in-Some.top c.in_ok-top-in-Some.ensures.tree
@@ -407,29 +414,36 @@ exchange_up-requires-in-None-clause-fits g c =
     )
 
 pub exchange_up-requires-in-None-clause-owes : goal.exchange_up-requires-in-None-clause-owes
-exchange_up-requires-in-None-clause-owes g c = λ view k.
-    let nodes : c.move_after-in-None.new.self.nodes ≡ c.detach.new.arena.nodes =
-    c.move_after-in-None.ensures.nodes ∙ ap (λ (s : Forest g.row.L.Denot (Headed Summary)). s.nodes) c.reserve.ensures.kept in
-    let all : c.move_after-in-None.new.self.leaves ≡ c.args.id ∷ without c.detach.new.arena.leaves c.args.id =
-    c.move_after-in-None.ensures.leaves ∙ ap (λ (zs : List ℕ). c.args.id ∷ without zs c.args.id)
-    (room_leaves c.detach.new.arena c.reserve.new.self c.reserve.ensures.kept) in
-    let is_first : Some c.in-Some-next.first ≡ first (without c.detach.new.arena.leaves c.args.id) =
-    sym c.in-Some-next.is ∙ c.next.ensures ∙ ap (λ (zs : List ℕ). after zs c.args.id) all ∙ after_first c.args.id (without c.detach.new.arena.leaves c.args.id) in
-    let front = front_is (without c.detach.new.arena.leaves c.args.id) c.in-Some-next.first c.args.id is_first
-    (λ x. without_once c.detach.new.arena c.in_ok-root.ensures.apart.shape.forest c.args.id x) in
-    let leaves : c.move_after-in-None.new.self.leaves ≡ insert_before (without c.detach.new.arena.leaves c.args.id) c.in-Some-next.first c.args.id = all ∙ front.0 in
-    let at_leaf : IsSome (leaf_value c.detach.new.arena c.in-Some-next.first) =
-    leaves_live c.detach.new.arena c.in_ok-root.ensures.apart.shape.forest c.in-Some-next.first
-    (omega (arith, front.1, times-without_le c.detach.new.arena.leaves c.args.id c.in-Some-next.first)) in
-    let differ : c.in-Some-next.first ≢ c.args.id =
-    (λ e. omega (arith, front.1, ap (times (without c.detach.new.arena.leaves c.args.id)) e, times-without_same c.detach.new.arena.leaves c.args.id)) in
-    c.in_ok-top-in-None.ensures.owes view (amount (shows view c.in_ok-e.e) c.len-len.result) (amount (shows view c.in_ok-e.e) 0) k
-    (comes g.L.Leaf.size g.L.Leaf.element view c.move_after-in-None.new.self c.in-Some-next.first (λ xs. insert_before xs c.in-Some-next.first c.args.id)
-    c.leaf_at-leaf.result.now c.in_ok-e.e c.len-len.result (c.in_ok-e.ensures ∙ c.element.ensures) c.len-len.ensures.value
-    (moved_owes c.detach.new.arena c.move_after-in-None.new.self c.in_ok-root.root c.args.id c.in-Some-next.first 0
-    (λ xs. insert_before xs c.in-Some-next.first c.args.id) (before_is_edit c.in-Some-next.first c.args.id) c.in_ok-root.ensures.apart nodes
-    c.move_after-in-None.ensures.sound leaves at_leaf differ (by_view g.L.Leaf.size g.L.Leaf.element view) (c.in_ok-root.ensures.sums view k)
-    c.leaf_at-leaf.result.now (c.in_ok-root.ensures.leaf_values c.args.id ∙ c.leaf_at-leaf.ensures)))
+exchange_up-requires-in-None-clause-owes g c = record {
+  gone = c.element-e.result.now;
+  less = 0;
+  come = c.element-e.result.now;
+  more = c.len-len.result;
+  makes = c.in_ok-exchange.ensures;
+  owes = λ view k.
+      let nodes : c.move_after-in-None.new.self.nodes ≡ c.detach.new.arena.nodes =
+      c.move_after-in-None.ensures.nodes ∙ ap (λ (s : Forest g.row.L.Denot (Headed Summary)). s.nodes) c.reserve.ensures.kept in
+      let all : c.move_after-in-None.new.self.leaves ≡ c.args.id ∷ without c.detach.new.arena.leaves c.args.id =
+      c.move_after-in-None.ensures.leaves ∙ ap (λ (zs : List ℕ). c.args.id ∷ without zs c.args.id)
+      (room_leaves c.detach.new.arena c.reserve.new.self c.reserve.ensures.kept) in
+      let is_first : Some c.in-Some-next.first ≡ first (without c.detach.new.arena.leaves c.args.id) =
+      sym c.in-Some-next.is ∙ c.next.ensures ∙ ap (λ (zs : List ℕ). after zs c.args.id) all ∙ after_first c.args.id (without c.detach.new.arena.leaves c.args.id) in
+      let front = front_is (without c.detach.new.arena.leaves c.args.id) c.in-Some-next.first c.args.id is_first
+      (λ x. without_once c.detach.new.arena c.in_ok-root.ensures.apart.shape.forest c.args.id x) in
+      let leaves : c.move_after-in-None.new.self.leaves ≡ insert_before (without c.detach.new.arena.leaves c.args.id) c.in-Some-next.first c.args.id = all ∙ front.0 in
+      let at_leaf : IsSome (leaf_value c.detach.new.arena c.in-Some-next.first) =
+      leaves_live c.detach.new.arena c.in_ok-root.ensures.apart.shape.forest c.in-Some-next.first
+      (omega (arith, front.1, times-without_le c.detach.new.arena.leaves c.args.id c.in-Some-next.first)) in
+      let differ : c.in-Some-next.first ≢ c.args.id =
+      (λ e. omega (arith, front.1, ap (times (without c.detach.new.arena.leaves c.args.id)) e, times-without_same c.detach.new.arena.leaves c.args.id)) in
+      c.in_ok-top-in-None.ensures.owes view (amount (shows view c.element-e.result.now) c.len-len.result) (amount (shows view c.element-e.result.now) 0) k
+      (comes g.L.Leaf.size g.L.Leaf.element view c.move_after-in-None.new.self c.in-Some-next.first (λ xs. insert_before xs c.in-Some-next.first c.args.id)
+      c.leaf_at-leaf.result.now c.element-e.result.now c.len-len.result (c.element-e.ensures) c.len-len.ensures.value
+      (moved_owes c.detach.new.arena c.move_after-in-None.new.self c.in_ok-root.root c.args.id c.in-Some-next.first 0
+      (λ xs. insert_before xs c.in-Some-next.first c.args.id) (before_is_edit c.in-Some-next.first c.args.id) c.in_ok-root.ensures.apart nodes
+      c.move_after-in-None.ensures.sound leaves at_leaf differ (by_view g.L.Leaf.size g.L.Leaf.element view) (c.in_ok-root.ensures.sums view k)
+      c.leaf_at-leaf.result.now (c.in_ok-root.ensures.leaf_values c.args.id ∙ c.leaf_at-leaf.ensures)));
+}
 
 pub returns-clause-tree : goal.returns-clause-tree
 returns-clause-tree g c = SameShape-tree c.grow_front.new.arena c.exchange_up-in-None.new.arena c.in_ok-top-in-None.top c.in_ok-top-in-None.ensures.tree
