@@ -9,13 +9,14 @@ use Rattle.ft_base.specs.declared.elements.Element.{Element}
 use Rattle.ft_base.specs.Visibility.{has_occurred, has_occurred_at_stage, sees, seen_at}
 use Rattle.ft_arena.specs.declared.nodes.Node.TheVariants.{Leaf}
 use Rattle.ft_partial.specs.Entries.{amount, unseen}
-use Rattle.ft_partial.specs.Tables.{Lengths, length_at, AddsForAll, IsExchange}
+use Rattle.ft_partial.specs.Tables.{Lengths, length_at, Adds, AddsForAll, IsExchange}
+use Rattle.ft_partial.specs.Items.{inserted_element}
 use Rattle.ft_block.specs.declared.summaries.Summary.{Summary}
 use Rattle.ft_block.specs.declared.leaves.View.TheVariants.{Of, Removed}
 use Rattle.ft_block.specs.declared.leaves.LenView.{LenView}
 use Rattle.ft_block.specs.declared.leaves.LenView.TheVariants.{At, Stage, All}
 use Rattle.ft_block.specs.Leaves.{sees_in, is_removed}
-use Rattle.ft_block.specs.Tree.{staged_stamp, staged, is_pending, has_pending, ExchangesAtStages, IsForAll, kept_length, HasRange, KeepsForAll, KeepsLengths, KeepsNode}
+use Rattle.ft_block.specs.Tree.{staged_stamp, staged, is_pending, has_pending, ExchangesAtStages, IsForAll, kept_length, HasRange, KeepsExchange, KeepsForAll, KeepsLengths, KeepsNode}
 
 -- a stage sees of an element what a perspective that is nobody's sees of it as it is kept for stages
 or_none : (a : Bool) → (a || false) ≡ a
@@ -101,3 +102,17 @@ for_all_adds size element floor old new leaf e n is many low all keeps (Of view)
 for_all_adds size element floor old new leaf e n is many low all keeps Removed kept =
     let here : cond (is_removed (element leaf)) (size leaf) 0 ≡ 0 = ap (λ b. cond b (size leaf) 0) (ap is_removed (sym is) ∙ all.present) in
     omega (arith, keeps.removed, low.1, here)
+
+-- elements come that are inserted, and that nobody removed
+pub inserted_exchange : (old new : Summary) (floor seq conn n whole : ℕ) → old.table.floor ≡ floor → AddsForAll old.stages new.stages n
+    → Adds old.table new.table (inserted_element seq conn) n → whole ≡ old.whole → new.whole ≡ (whole + n) % 2 ^ 64 → new.removed ≡ old.removed
+    → KeepsExchange floor old new (inserted_element seq conn) 0 (inserted_element seq conn) n
+inserted_exchange old new floor seq conn n whole from stages table was is removed (Of (At at)) (above, low, few) =
+    omega (arith, table at.r at.c (omega (arith, above, from)) low few, nothing (sees (inserted_element seq conn) at.r at.c))
+  where
+    nothing : (b : Bool) → amount b 0 ≡ 0
+    nothing true = refl
+    nothing false = refl
+inserted_exchange old new floor seq conn n whole from stages table was is removed (Of (Stage k)) low = omega (arith, stages k 1)
+inserted_exchange old new floor seq conn n whole from stages table was is removed (Of All) all = omega (arith, was, is)
+inserted_exchange old new floor seq conn n whole from stages table was is removed Removed all = omega (arith, removed)

@@ -1,9 +1,10 @@
 //! What a leaf of the tree has to offer, and what a view sees of it.
 
-ghost use Rattle.std.specs.Prelude.{◌≡◌, ℕ, ◌+◌, ◌<◌, ◌≤◌, Bool, true, IsTrue, IfOk, IfErr, OnOk, OnErr};
+ghost use Rattle.std.specs.Prelude.{◌≡◌, ℕ, ◌+◌, ◌<◌, ◌≤◌, Bool, true, IsTrue, IfOk, IfErr, IfSome, OnOk, OnErr};
 ghost use Rattle.std.specs.List.{list_any};
 ghost use Rattle.ft_base.specs.declared.elements.Element.{Element};
 ghost use Rattle.ft_partial.specs.Entries.{amount};
+ghost use Rattle.ft_partial.specs.Items.{inserted_element};
 ghost use Rattle.ft_block.specs.Leaves.{sees_in, is_removed, IsFromFloor};
 ghost use Rattle.ft_block.specs.Tree.{IsForAll, KeepsLengths, has_pending, is_pending, shows, shown_length, staged_stamp, staged};
 ghost use Rattle.ft_block.specs.declared.leaves.View.TheVariants.{Of};
@@ -188,6 +189,26 @@ pub(crate) fn is_for_all(e: &Element, floor: u64) -> bool
     match e.ins {
         Stamp::Acked { seq, .. } => seq <= floor,
         Stamp::Local { .. } => false,
+    }
+}
+
+/// A sequenced insertion.
+#[derive(Clone, Copy)]
+pub(crate) struct Insertion {
+    pub(crate) seq: u64,
+    pub(crate) conn: u32,
+}
+
+/// The insertion of an element, where it is sequenced and nobody removed the element.
+pub(crate) fn inserted(e: &Element) -> Option<Insertion>
+    ensures { IfSome result (λ at. inserted_element at.seq at.conn ≡ e.now) }
+{
+    if !e.dels.is_empty() {
+        return None;
+    }
+    match e.ins {
+        Stamp::Acked { seq, conn } => Some(Insertion { seq, conn }),
+        Stamp::Local { .. } => None,
     }
 }
 

@@ -2,9 +2,12 @@
 
 ghost use Rattle.std.specs.Prelude.{◌≡◌, ◌≤◌, ℕ, IfOk, OnOk};
 ghost use Rattle.ft_base.specs.declared.elements.Element.{Element};
+ghost use Rattle.ft_partial.specs.Items.{inserted_element};
 ghost use Rattle.ft_block.specs.Tree.{AddsExchange, ExchangesAtStages, IsFrom, kept_length, KeepsForAll, KeepsNothing, KeepsExchange, KeepsSum, MakesExchange, KeepsNode, IsNodeFrom, HasRange};
 
-use crate::leaves::{Leaf, LenView, View, has_pending, is_for_all, shown_in, staged};
+use crate::leaves::{
+    Insertion, Leaf, LenView, View, has_pending, inserted, is_for_all, shown_in, staged,
+};
 use ft_arena::Node;
 use ft_base::{Element, OutOfMemory, Perspective};
 use ft_partial::{Change, Stages, Table};
@@ -56,22 +59,33 @@ impl Summary {
         }
     }
 
-    // Takes `len` elements of the stamps `e` out, and puts `new_len` of the stamps `new` in.
-    fn exchange(
-        &mut self,
-        floor: u64,
-        e: &Element,
-        len: u64,
-        new: &Element,
-        new_len: u64,
-    ) -> Result<(), OutOfMemory>
+    // Puts in `len` elements of the stamps `e`: without an exchange where they are sequenced and nobody removed them.
+    fn add_elements(&mut self, floor: u64, e: &Element, len: u64) -> Result<(), OutOfMemory>
         requires floor { self.old.table.floor ≡ floor }
         ensures floor { self.new.table.floor ≡ floor }
         ensures low { OnOk result (HasRange self.new) }
-        ensures exchanges { OnOk result (KeepsExchange floor self.old self.new e.now len new.now new_len) }
+        ensures exchanges { OnOk result (KeepsExchange floor self.old self.new e.now 0 e.now len) }
     {
-        let exchange = Exchange::of(floor, e, len, new, new_len)?;
-        self.add_exchange(&exchange)
+        match inserted(e) {
+            Some(at) => self.insert(at, len),
+            None => {
+                let exchange = Exchange::of(floor, e, 0, e, len)?;
+                self.add_exchange(&exchange)
+            }
+        }
+    }
+
+    // Puts in `len` elements of this insertion that nobody removed.
+    fn insert(&mut self, at: Insertion, len: u64) -> Result<(), OutOfMemory>
+        ensures floor { self.new.table.floor ≡ self.old.table.floor }
+        ensures low { HasRange self.new }
+        ensures exchanges { OnOk result ((floor : ℕ) → self.old.table.floor ≡ floor → KeepsExchange floor self.old self.new (inserted_element at.seq at.conn) 0 (inserted_element at.seq at.conn) len) }
+    {
+        // That it is a number of 64 bits is read off the field.
+        let _removed = self.removed;
+        self.whole = self.whole.wrapping_add(len);
+        self.stages.add_for_all(len);
+        self.table.insert(at.seq, at.conn, len)
     }
 
     // Puts in elements that all see.
@@ -207,7 +221,7 @@ pub(crate) fn add_node<L: Leaf>(
                 sum.add_for_all(len);
                 return Ok(());
             }
-            sum.exchange(floor, e, 0, e, len)
+            sum.add_elements(floor, e, len)
         }
         Node::Block { value, .. } => sum.add_all(floor, &value.sum),
     }

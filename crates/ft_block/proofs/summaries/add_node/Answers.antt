@@ -16,7 +16,7 @@ returns-then-is_for_all-clause-sum g c =
 
 pub returns-else-is_for_all-clause-sum : goal.returns-else-is_for_all-clause-sum
 returns-else-is_for_all-clause-sum g c =
-    on_ok_weaker c.exchange.result (λ both. subst (λ (n : Node g.row.L.Denot (Headed Summary)). KeepsNode g.L.Leaf.size g.L.Leaf.element c.args.floor c.args.sum.now n
-    c.exchange.new.self) (sym c.in-Leaf.is) (exchange_adds g.L.Leaf.size g.L.Leaf.element c.args.floor c.args.sum.now c.exchange.new.self c.in-Leaf.value
+    on_ok_weaker c.add_elements.result (λ both. subst (λ (n : Node g.row.L.Denot (Headed Summary)). KeepsNode g.L.Leaf.size g.L.Leaf.element c.args.floor c.args.sum.now n
+    c.add_elements.new.self) (sym c.in-Leaf.is) (exchange_adds g.L.Leaf.size g.L.Leaf.element c.args.floor c.args.sum.now c.add_elements.new.self c.in-Leaf.value
     c.element-e.result.now c.len-len.result c.element-e.ensures c.len-len.ensures.value both.0 both.1))
-    (on_ok_both _ _ c.exchange.result c.exchange.ensures.low c.exchange.ensures.exchanges)
+    (on_ok_both _ _ c.add_elements.result c.add_elements.ensures.low c.add_elements.ensures.exchanges)
