@@ -1,5 +1,5 @@
 -- What stages see of elements, and what all see, as blocks keep it.
-use Rattle.std.proofs.Common.{◌≡◌, ℕ, ◌+◌, ◌^◌, ◌%◌, ◌≤◌, List, [], ◌∷◌, ◌&&◌, ◌||◌, nat_le, Bool, true, false, cond, refl, sym, ap, subst, ◌∙◌, arith}
+use Rattle.std.proofs.Common.{◌≡◌, ℕ, ◌+◌, ◌^◌, ◌%◌, ◌<◌, ◌≤◌, List, [], ◌∷◌, ◌&&◌, ◌||◌, nat_le, Bool, true, false, cond, refl, sym, ap, subst, ◌∙◌, arith}
 use Rattle.std.specs.Prelude.{map, not}
 use Rattle.std.specs.List.{list_any}
 use Rattle.std.proofs.lemmas.Bool.Decides.{nat_tests}
@@ -9,14 +9,18 @@ use Rattle.ft_base.specs.declared.elements.Element.{Element}
 use Rattle.ft_base.specs.Visibility.{has_occurred, has_occurred_at_stage, sees, seen_at}
 use Rattle.ft_arena.specs.declared.nodes.Node.TheVariants.{Leaf}
 use Rattle.ft_partial.specs.Entries.{amount, unseen}
-use Rattle.ft_partial.specs.Tables.{Lengths, length_at, Adds, AddsForAll, IsExchange}
+use Rattle.ft_partial.specs.Tables.{Lengths, length_at, Adds, AddsChange, AddsForAll, IsExchange}
+use Rattle.ft_partial.specs.declared.entries.Entry.{Entry}
+use Rattle.ft_partial.proofs.TableLemmas.{length_at-fits}
 use Rattle.ft_partial.specs.Items.{inserted_element}
 use Rattle.ft_block.specs.declared.summaries.Summary.{Summary}
+use Rattle.ft_block.specs.declared.summaries.Exchange.{Exchange}
+use Rattle.ft_block.specs.declared.leaves.View.{View}
 use Rattle.ft_block.specs.declared.leaves.View.TheVariants.{Of, Removed}
 use Rattle.ft_block.specs.declared.leaves.LenView.{LenView}
 use Rattle.ft_block.specs.declared.leaves.LenView.TheVariants.{At, Stage, All}
 use Rattle.ft_block.specs.Leaves.{sees_in, is_removed}
-use Rattle.ft_block.specs.Tree.{staged_stamp, staged, is_pending, has_pending, ExchangesAtStages, IsForAll, kept_length, HasRange, KeepsExchange, KeepsForAll, KeepsLengths, KeepsNode}
+use Rattle.ft_block.specs.Tree.{staged_stamp, staged, is_pending, has_pending, ExchangesAtStages, IsForAll, kept_length, HasRange, KeepsExchange, KeepsForAll, KeepsLengths, KeepsNode, shows, AddsExchange, MakesExchange, MakesNothing}
 
 -- a stage sees of an element what a perspective that is nobody's sees of it as it is kept for stages
 or_none : (a : Bool) → (a || false) ≡ a
@@ -116,3 +120,29 @@ inserted_exchange old new floor seq conn n whole from stages table was is remove
 inserted_exchange old new floor seq conn n whole from stages table was is removed (Of (Stage k)) low = omega (arith, stages k 1)
 inserted_exchange old new floor seq conn n whole from stages table was is removed (Of All) all = omega (arith, was, is)
 inserted_exchange old new floor seq conn n whole from stages table was is removed Removed all = omega (arith, removed)
+
+-- an exchange that changes nothing has each view see as many of the new elements as of the old ones
+adds_nothing : (t : Lengths) (entries : List Entry) (last : ℕ) → last ≡ 0 → entries ≡ [] → AddsChange t t entries last
+adds_nothing t entries last none bare r c = omega (arith, length_at-fits t r c, none, ap (unseen r c) bare)
+
+abbrev nothing_at : ℕ → Lengths
+nothing_at floor = record { floor = floor; last = 0; entries = [] }
+
+abbrev kept_nothing : ℕ → Summary
+kept_nothing floor = record { stages = nothing_at 0; table = nothing_at floor; whole = 0; removed = 0 }
+
+at_most : (b : Bool) (n : ℕ) → amount b n ≤ n
+at_most true n = omega arith
+at_most false n = omega arith
+
+pub same_shown : (floor : ℕ) (exchange : Exchange) (e f : Element) (n : ℕ) → n < 2 ^ 64 → MakesExchange floor exchange e n f n → MakesNothing exchange
+    → (view : View) → KeepsLengths floor view → amount (shows view e) n ≡ amount (shows view f) n
+same_shown floor exchange e f n few makes nothing view kept =
+    let x : Summary = kept_nothing floor in
+    let adds : AddsExchange x exchange x = record {
+      whole = omega (arith, nothing.whole);
+      removed = omega (arith, nothing.removed);
+      stages = adds_nothing x.stages exchange.stages.entries exchange.stages.last nothing.stages_last nothing.stages_entries;
+      table = adds_nothing x.table exchange.table.entries exchange.table.last nothing.table_last nothing.table_entries;
+    } in
+    omega (arith, few, makes x x refl refl adds view kept, at_most (shows view e) n, at_most (shows view f) n)

@@ -1,5 +1,5 @@
 -- What the blocks of a tree keep of each view. No public clause cites this module.
-use Rattle.std.specs.Prelude.{◌≡◌, ℕ, ◌+◌, ◌%◌, ◌^◌, ◌<◌, ◌≤◌, List, map, Option, Some, Bool, true, false, ◌||◌, not, if◌then◌else◌}
+use Rattle.std.specs.Prelude.{◌≡◌, ℕ, ◌+◌, ◌%◌, ◌^◌, ◌<◌, ◌≤◌, List, [], map, Option, Some, Bool, true, false, ◌||◌, not, if◌then◌else◌}
 use Rattle.std.specs.List.{list_any}
 use Rattle.ft_base.specs.declared.stamps.Stamp.{Stamp}
 use Rattle.ft_base.specs.declared.stamps.Stamp.TheVariants.{Acked, Local}
@@ -90,6 +90,15 @@ ExchangesAtStages change e n f m = (old new : Lengths) → old.floor ≡ 0 → A
 -- once it is added to what a block with this floor keeps, each view sees m elements f more and n elements e less
 abbrev pub MakesExchange : ℕ → Exchange → Element → ℕ → Element → ℕ → Type 0
 MakesExchange floor exchange e n f m = (old new : Summary) → old.table.floor ≡ floor → old.stages.floor ≡ 0 → AddsExchange old exchange new → KeepsExchange floor old new e n f m
+
+-- the exchange changes nothing of what blocks keep
+pub record MakesNothing (exchange : Exchange) : Type 0 where
+  pub whole : exchange.whole ≡ 0
+  pub removed : exchange.removed ≡ 0
+  pub stages_last : exchange.stages.last ≡ 0
+  pub stages_entries : exchange.stages.entries ≡ []
+  pub table_last : exchange.table.last ≡ 0
+  pub table_entries : exchange.table.entries ≡ []
 
 -- every view that blocks with this floor keep sees the element, and it isn't removed
 pub record IsForAll (floor : ℕ) (e : Element) : Type 0 where

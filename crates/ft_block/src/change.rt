@@ -71,6 +71,10 @@ pub(crate) fn set_stamps_at<L: Leaf, G: Ledger>(
     let len = leaf.len();
     let exchange = Exchange::of(floor, leaf.element(), len, &e, len)?;
     arena.leaf_mut(id).set_element(e);
+    // Where each view sees as many elements as before, no block above owes anything.
+    if exchange.is_nothing() {
+        return Ok(());
+    }
     let stale = arena.parent(id);
     exchange_up(arena, root, None, None, stale, floor, &exchange)
 }

@@ -1,9 +1,9 @@
 //! What a block keeps of the leaves below it.
 
-ghost use Rattle.std.specs.Prelude.{◌≡◌, ◌≤◌, ℕ, IfOk, OnOk};
+ghost use Rattle.std.specs.Prelude.{◌≡◌, ◌≤◌, ℕ, IfOk, OnOk, true};
 ghost use Rattle.ft_base.specs.declared.elements.Element.{Element};
 ghost use Rattle.ft_partial.specs.Items.{inserted_element};
-ghost use Rattle.ft_block.specs.Tree.{AddsExchange, ExchangesAtStages, IsFrom, kept_length, KeepsForAll, KeepsNothing, KeepsExchange, KeepsSum, MakesExchange, KeepsNode, IsNodeFrom, HasRange};
+ghost use Rattle.ft_block.specs.Tree.{AddsExchange, ExchangesAtStages, IsFrom, kept_length, KeepsForAll, KeepsNothing, KeepsExchange, KeepsSum, MakesExchange, MakesNothing, KeepsNode, IsNodeFrom, HasRange};
 
 use crate::leaves::{
     Insertion, Leaf, LenView, View, has_pending, inserted, is_for_all, shown_in, staged,
@@ -174,6 +174,13 @@ impl Exchange {
             stages: stages_change(e, len, new, new_len)?,
             table: Change::of(alloc, floor, e, len, new, new_len)?,
         })
+    }
+
+    // Whether it changes nothing of what blocks keep.
+    pub(crate) fn is_nothing(&self) -> bool
+        ensures { result ≡ true → MakesNothing self.now }
+    {
+        self.whole == 0 && self.removed == 0 && self.stages.is_nothing() && self.table.is_nothing()
     }
 }
 

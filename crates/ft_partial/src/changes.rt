@@ -1,6 +1,6 @@
 //! What an exchange of elements adds to a table.
 
-ghost use Rattle.std.specs.Prelude.{◌≡◌, ◌+◌, ◌%◌, ◌^◌, [], IfOk};
+ghost use Rattle.std.specs.Prelude.{◌≡◌, ◌+◌, ◌%◌, ◌^◌, [], IfOk, true};
 ghost use Rattle.ft_partial.specs.Tables.{IsExchange};
 
 use crate::entry_list::EntryList;
@@ -49,6 +49,14 @@ impl Change {
             last: come.wrapping_sub(gone),
             entries,
         })
+    }
+
+    /// Whether it adds nothing.
+    pub fn is_nothing(&self) -> bool
+        ensures last { result ≡ true → self.now.last ≡ 0 }
+        ensures entries { result ≡ true → self.now.entries ≡ [] }
+    {
+        self.last == 0 && self.entries.is_empty()
     }
 
     /// What `come` elements that all see in the place of `gone` such elements add. It takes no memory.

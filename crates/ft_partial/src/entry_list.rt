@@ -1,6 +1,6 @@
 //! A list of entries, of which a single one stands in place.
 
-ghost use Rattle.std.specs.Prelude.{◌≡◌, [], ◌∷◌, ◌++◌, IfOk, OnOk, OnErr};
+ghost use Rattle.std.specs.Prelude.{◌≡◌, [], ◌∷◌, ◌++◌, IfOk, OnOk, OnErr, true};
 ghost use Rattle.ft_partial.specs.Entries.{IsRising, AddsEntries, DropsOld};
 ghost use Rattle.ft_partial.specs.EntryLists.{entries_of};
 
@@ -29,6 +29,16 @@ impl EntryList {
             EntryList::Empty => &[],
             EntryList::One(one) => slice::from_ref(one),
             EntryList::Many(entries) => entries.as_slice(),
+        }
+    }
+
+    /// Whether it is told at once that there is no entry: a vector isn't looked into.
+    pub fn is_empty(&self) -> bool
+        ensures { result ≡ true → entries_of self.now ≡ [] }
+    {
+        match self {
+            EntryList::Empty => true,
+            EntryList::One(_) | EntryList::Many(_) => false,
         }
     }
 
