@@ -1,6 +1,6 @@
 //! What an exchange of elements adds to a table.
 
-ghost use Rattle.std.specs.Prelude.{◌≡◌, ◌+◌, ◌%◌, ◌^◌, [], IfOk, true};
+ghost use Rattle.std.specs.Prelude.{◌≡◌, ◌↔◌, ◌+◌, ◌%◌, ◌^◌, [], IfOk, IsTrue};
 ghost use Rattle.ft_partial.specs.Tables.{IsExchange};
 
 use crate::entry_list::EntryList;
@@ -53,8 +53,7 @@ impl Change {
 
     /// Whether it adds nothing.
     pub fn is_nothing(&self) -> bool
-        ensures last { result ≡ true → self.now.last ≡ 0 }
-        ensures entries { result ≡ true → self.now.entries ≡ [] }
+        ensures { IsTrue result ↔ (self.now.last ≡ 0) × (self.now.entries ≡ []) }
     {
         self.last == 0 && self.entries.is_empty()
     }

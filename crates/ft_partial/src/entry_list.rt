@@ -1,6 +1,6 @@
 //! A list of entries, of which a single one stands in place.
 
-ghost use Rattle.std.specs.Prelude.{◌≡◌, [], ◌∷◌, ◌++◌, IfOk, OnOk, OnErr, true};
+ghost use Rattle.std.specs.Prelude.{◌≡◌, ◌↔◌, [], ◌∷◌, ◌++◌, IfOk, IsTrue, OnOk, OnErr};
 ghost use Rattle.ft_partial.specs.Entries.{IsRising, AddsEntries, DropsOld};
 ghost use Rattle.ft_partial.specs.EntryLists.{entries_of};
 
@@ -32,13 +32,14 @@ impl EntryList {
         }
     }
 
-    /// Whether it is told at once that there is no entry: a vector isn't looked into.
+    /// Whether there is no entry.
     pub fn is_empty(&self) -> bool
-        ensures { result ≡ true → entries_of self.now ≡ [] }
+        ensures { IsTrue result ↔ (entries_of self.now ≡ []) }
     {
         match self {
             EntryList::Empty => true,
-            EntryList::One(_) | EntryList::Many(_) => false,
+            EntryList::One(_) => false,
+            EntryList::Many(entries) => entries.is_empty(),
         }
     }
 
