@@ -1,18 +1,20 @@
 -- What stages see of elements, and what all see, as blocks keep it.
-use Rattle.std.proofs.Common.{◌≡◌, ℕ, ◌+◌, ◌^◌, ◌%◌, ◌<◌, ◌≤◌, List, [], ◌∷◌, ◌&&◌, ◌||◌, nat_le, Bool, true, false, cond, refl, sym, ap, subst, ◌∙◌, arith}
-use Rattle.std.specs.Prelude.{map, not}
+use Rattle.std.proofs.Common.{◌≡◌, ℕ, ◌+◌, ◌^◌, ◌%◌, ◌<◌, ◌≤◌, List, [], ◌||◌, nat_le, Bool, true, false, cond, refl, sym, ap, subst, ◌∙◌, arith, Option, Some, take, get_or, length}
 use Rattle.std.specs.List.{list_any}
 use Rattle.std.proofs.lemmas.Bool.Decides.{nat_tests}
 use Rattle.ft_base.specs.declared.stamps.Stamp.{Stamp}
-use Rattle.ft_base.specs.declared.stamps.Stamp.TheVariants.{Acked, Local}
+use Rattle.ft_base.specs.declared.stamps.Stamp.TheVariants.{Acked}
 use Rattle.ft_base.specs.declared.elements.Element.{Element}
-use Rattle.ft_base.specs.Visibility.{has_occurred, has_occurred_at_stage, sees, seen_at}
+use Rattle.ft_base.specs.Visibility.{has_occurred_at_stage, sees, seen_at}
 use Rattle.ft_arena.specs.declared.nodes.Node.TheVariants.{Leaf}
 use Rattle.ft_partial.specs.Entries.{amount, unseen}
-use Rattle.ft_partial.specs.Tables.{Lengths, length_at, Adds, AddsChange, AddsForAll, IsExchange}
+use Rattle.ft_partial.specs.Tables.{Lengths, length_at, Adds, AddsChange, AddsForAll}
 use Rattle.ft_partial.specs.declared.entries.Entry.{Entry}
 use Rattle.ft_partial.proofs.TableLemmas.{length_at-fits}
 use Rattle.ft_partial.specs.Items.{inserted_element}
+use Rattle.ft_partial.specs.declared.lifespans.Lifespan.{Lifespan}
+use Rattle.ft_partial.specs.Lifespans.{is_gone_at, is_there_at, ExchangesLifespans}
+use Rattle.ft_partial.proofs.ItemLemmas.{any-more}
 use Rattle.ft_block.specs.declared.summaries.Summary.{Summary}
 use Rattle.ft_block.specs.declared.summaries.Exchange.{Exchange}
 use Rattle.ft_block.specs.declared.leaves.View.{View}
@@ -20,57 +22,22 @@ use Rattle.ft_block.specs.declared.leaves.View.TheVariants.{Of, Removed}
 use Rattle.ft_block.specs.declared.leaves.LenView.{LenView}
 use Rattle.ft_block.specs.declared.leaves.LenView.TheVariants.{At, Stage, All}
 use Rattle.ft_block.specs.Leaves.{sees_in, is_removed}
-use Rattle.ft_block.specs.Tree.{staged_stamp, staged, is_pending, has_pending, ExchangesAtStages, IsForAll, kept_length, HasRange, KeepsExchange, KeepsForAll, KeepsLengths, KeepsNode, shows, AddsExchange, MakesExchange, MakesNothing}
+use Rattle.ft_block.specs.Tree.{ExchangesAtStages, IsForAll, kept_length, HasRange, KeepsExchange, KeepsForAll, KeepsLengths, KeepsNode, shows, AddsExchange, MakesExchange, MakesNothing}
 
--- a stage sees of an element what a perspective that is nobody's sees of it as it is kept for stages
-or_none : (a : Bool) → (a || false) ≡ a
-or_none true = refl
-or_none false = refl
+-- the first stage of stamps, with one more of them
+pub gone_more : (k stage now : ℕ) (first : Option ℕ) (stamps : List Stamp) (i : ℕ) (d : Stamp) → i < length stamps → nat_le now k ≡ (is_gone_at k first || nat_le stage k)
+    → nat_le stage k ≡ has_occurred_at_stage k (get_or stamps i d) → is_gone_at k first ≡ list_any (has_occurred_at_stage k) (take i stamps)
+    → is_gone_at k (Some now) ≡ list_any (has_occurred_at_stage k) (take (i + 1) stamps)
+gone_more k stage now first stamps i d h one here before =
+    one ∙ ap (λ b. b || nat_le stage k) before ∙ ap (λ b. list_any (has_occurred_at_stage k) (take i stamps) || b) here
+    ∙ sym (any-more (has_occurred_at_stage k) stamps i d h)
 
-staged-occurred : (k : ℕ) (s : Stamp) → has_occurred k 1 (staged_stamp s) ≡ has_occurred_at_stage k s
-staged-occurred k (Acked seq conn) = grind (arith, nat_tests)
-staged-occurred k (Local stage) = or_none (nat_le stage k)
-
-any-staged : (k : ℕ) (dels : List Stamp) → list_any (has_occurred k 1) (map staged_stamp dels) ≡ list_any (has_occurred_at_stage k) dels
-any-staged k [] = refl
-any-staged k (x ∷ dels) =
-    ap (λ b. b || list_any (has_occurred k 1) (map staged_stamp dels)) (staged-occurred k x) ∙ ap (λ b. has_occurred_at_stage k x || b) (any-staged k dels)
-
-sees-staged : (k : ℕ) (e : Element) → sees (staged e) k 1 ≡ seen_at e k
-sees-staged k e =
-    ap (λ b. b && not (list_any (has_occurred k 1) (map staged_stamp e.dels))) (staged-occurred k e.ins)
-    ∙ ap (λ b. has_occurred_at_stage k e.ins && not b) (any-staged k e.dels)
-
--- what a change for elements as they are kept for stages exchanges
-pub staged_exchange : (change : Lengths) (e f old_staged new_staged : Element) (n m : ℕ) → old_staged ≡ staged e → new_staged ≡ staged f
-    → IsExchange 0 change.entries change.last old_staged n new_staged m → ExchangesAtStages change e n f m
-staged_exchange change e f old_staged new_staged n m es et ex old new none adds k low =
-    let less : amount (seen_at e k) n ≡ amount (sees old_staged k 1) n =
-    sym (ap (λ z. amount (sees z k 1) n) es ∙ ap (λ b. amount b n) (sees-staged k e)) in
-    let more : amount (sees new_staged k 1) m ≡ amount (seen_at f k) m = ap (λ z. amount (sees z k 1) m) et ∙ ap (λ b. amount b m) (sees-staged k f) in
-    ap (λ (x : ℕ). (length_at new k 1 + x) % 2 ^ 64) less ∙ ex old new none adds k 1 (omega (arith, none)) low (omega arith)
-    ∙ ap (λ (x : ℕ). (length_at old k 1 + x) % 2 ^ 64) more
-
--- where nothing is pending a stage sees what stage 0 does
-any_settled : (k : ℕ) (dels : List Stamp) → list_any is_pending dels ≡ false → list_any (has_occurred_at_stage k) dels ≡ list_any (has_occurred_at_stage 0) dels
-any_settled k [] h = refl
-any_settled k (Acked seq conn ∷ dels) h = refl
-any_settled k (Local stage ∷ dels) h = cc
-
-seen_settled : (k : ℕ) (e : Element) → has_pending e ≡ false → seen_at e k ≡ seen_at e 0
-seen_settled k e h = go e.ins e.dels h
-  where
-    go : (s : Stamp) (dels : List Stamp) → (is_pending s || list_any is_pending dels) ≡ false
-        → (has_occurred_at_stage k s && not (list_any (has_occurred_at_stage k) dels)) ≡ (has_occurred_at_stage 0 s && not (list_any (has_occurred_at_stage 0) dels))
-    go (Acked seq conn) dels h = ap (λ b. not b) (any_settled k dels h)
-    go (Local stage) dels h = cc
-
-pub settled_exchange : (change : Lengths) (e f : Element) (n m gone come : ℕ) → has_pending e ≡ false → has_pending f ≡ false → gone ≡ amount (seen_at e 0) n
-    → come ≡ amount (seen_at f 0) m → (change.last + gone) % 2 ^ 64 ≡ come → change.entries ≡ [] → ExchangesAtStages change e n f m
-settled_exchange change e f n m gone come he hf eg ec sum none old new low adds k fits =
-    let less : amount (seen_at e k) n ≡ gone = ap (λ b. amount b n) (seen_settled k e he) ∙ sym eg in
-    let more : amount (seen_at f k) m ≡ come = ap (λ b. amount b m) (seen_settled k f hf) ∙ sym ec in
-    omega (arith, less, more, sum, adds k 1, ap (unseen k 1) none)
+-- what a change for the stages at which elements are seen exchanges
+pub stages_exchange : (change : Lengths) (e f : Element) (gone come : Lifespan) (n m : ℕ) → ((k : ℕ) → is_there_at gone k ≡ seen_at e k)
+    → ((k : ℕ) → is_there_at come k ≡ seen_at f k) → ExchangesLifespans change gone n come m → ExchangesAtStages change e n f m
+stages_exchange change e f gone come n m there then ex old new none adds k low =
+    ap (λ b. (length_at new k 1 + amount b n) % 2 ^ 64) (sym (there k)) ∙ ex old new adds k 1 (omega arith)
+    ∙ ap (λ b. (length_at old k 1 + amount b m) % 2 ^ 64) (then k)
 
 -- an element that is sequenced up to the floor, and that nobody removed
 for_all_from : (floor seq conn : ℕ) → seq ≤ floor → IsForAll floor (record { ins = Acked seq conn; dels = [] })

@@ -1,10 +1,7 @@
 -- What the blocks of a tree keep of each view. No public clause cites this module.
-use Rattle.std.specs.Prelude.{◌≡◌, ℕ, ◌+◌, ◌%◌, ◌^◌, ◌<◌, ◌≤◌, List, [], map, Option, Some, Bool, true, false, ◌||◌, not, if◌then◌else◌}
-use Rattle.std.specs.List.{list_any}
-use Rattle.ft_base.specs.declared.stamps.Stamp.{Stamp}
-use Rattle.ft_base.specs.declared.stamps.Stamp.TheVariants.{Acked, Local}
+use Rattle.std.specs.Prelude.{◌≡◌, ℕ, ◌+◌, ◌%◌, ◌^◌, ◌<◌, ◌≤◌, List, [], Option, Some, Bool, true, false, if◌then◌else◌}
 use Rattle.ft_base.specs.declared.elements.Element.{Element}
-use Rattle.ft_base.specs.Visibility.{is_acked, seen_at}
+use Rattle.ft_base.specs.Visibility.{seen_at}
 use Rattle.ft_arena.specs.declared.nodes.Node.{Node}
 use Rattle.ft_arena.specs.declared.nodes.Node.TheVariants.{Leaf, Block}
 use Rattle.ft_arena.specs.Forest.{Forest, block_value}
@@ -19,23 +16,6 @@ use Rattle.ft_partial.specs.Tables.{Lengths, length_at, AddsChange}
 use Rattle.ft_block.specs.declared.leaves.View.{View}
 use Rattle.ft_block.specs.declared.leaves.View.TheVariants.{Of, Removed}
 use Rattle.ft_block.specs.Leaves.{sees_in, is_removed, IsFromFloor}
-
--- a stamp as blocks keep it for stages: as one by nobody that is sequenced at its stage, or at 0 where it is sequenced
-abbrev pub staged_stamp : Stamp → Stamp
-staged_stamp (Acked seq conn) = Acked 0 0
-staged_stamp (Local stage) = Acked stage 0
-
--- the element with its stamps as blocks keep them for stages
-abbrev pub staged : Element → Element
-staged e = record { ins = staged_stamp e.ins; dels = map staged_stamp e.dels }
-
--- the stamp is pending
-abbrev pub is_pending : Stamp → Bool
-is_pending s = not (is_acked s)
-
--- one of the element's stamps is pending
-abbrev pub has_pending : Element → Bool
-has_pending e = is_pending e.ins || list_any is_pending e.dels
 
 -- whether the view counts the element
 abbrev pub shows : View → Element → Bool

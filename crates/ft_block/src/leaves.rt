@@ -1,15 +1,18 @@
 //! What a leaf of the tree has to offer, and what a view sees of it.
 
-ghost use Rattle.std.specs.Prelude.{◌≡◌, ℕ, ◌+◌, ◌<◌, ◌≤◌, Bool, true, IsTrue, IfOk, IfErr, IfSome, OnOk, OnErr};
+ghost use Rattle.std.specs.Prelude.{◌≡◌, ℕ, ◌+◌, ◌<◌, ◌≤◌, Bool, true, ◌||◌, nat_le, IsTrue, IfOk, IfErr, IfSome, OnOk, OnErr};
 ghost use Rattle.std.specs.List.{list_any};
 ghost use Rattle.ft_base.specs.declared.elements.Element.{Element};
 ghost use Rattle.ft_partial.specs.Entries.{amount};
 ghost use Rattle.ft_partial.specs.Items.{inserted_element};
 ghost use Rattle.ft_block.specs.Leaves.{sees_in, is_removed, IsFromFloor};
-ghost use Rattle.ft_block.specs.Tree.{IsForAll, KeepsLengths, has_pending, is_pending, shows, shown_length, staged_stamp, staged};
+ghost use Rattle.ft_partial.specs.Lifespans.{is_gone_at, is_there_at};
+ghost use Rattle.ft_base.specs.Visibility.{has_occurred_at_stage, seen_at};
+ghost use Rattle.ft_block.specs.Tree.{IsForAll, KeepsLengths, shows, shown_length};
 ghost use Rattle.ft_block.specs.declared.leaves.View.TheVariants.{Of};
 
-use ft_base::{Element, OutOfMemory, Perspective, Stamp, Stamps, seen_at, sees};
+use ft_base::{Element, OutOfMemory, Perspective, Stamp, seen_at, sees};
+use ft_partial::Lifespan;
 
 /// A leaf: at least one element, all with the same stamps.
 pub trait Leaf: Sized {
@@ -212,52 +215,44 @@ pub(crate) fn inserted(e: &Element) -> Option<Insertion>
     }
 }
 
-// Whether the stamp is pending.
-fn is_pending(stamp: &Stamp) -> bool
-    ensures { result ≡ is_pending stamp.now }
+// The stage from which on a stamp has occurred: 0 where it is sequenced.
+fn stage_of(stamp: &Stamp) -> u64
+    ensures { (k : ℕ) → nat_le result k ≡ has_occurred_at_stage k stamp.now }
 {
     match stamp {
-        Stamp::Acked { .. } => false,
-        Stamp::Local { .. } => true,
-    }
-}
-
-// Whether one of the stamps is pending.
-fn is_any_pending(stamps: &[Stamp]) -> bool
-    ensures { result ≡ list_any is_pending stamps.now }
-{
-    stamps.iter().any(|stamp| is_pending(stamp))
-}
-
-/// Whether one of the element's stamps is pending: if none is, each stage sees it or none does.
-pub(crate) fn has_pending(e: &Element) -> bool
-    ensures { result ≡ has_pending e.now }
-{
-    is_pending(&e.ins) || is_any_pending(e.dels.as_slice())
-}
-
-// A stamp as blocks keep it for stages: as one by nobody that is sequenced at its stage, or at 0 where it is
-// sequenced.
-fn staged_stamp(stamp: &Stamp) -> Stamp
-    ensures { result ≡ staged_stamp stamp.now }
-{
-    let seq = match stamp {
         Stamp::Acked { .. } => 0,
         Stamp::Local { stage } => *stage,
-    };
-    Stamp::Acked { seq, conn: 0 }
+    }
 }
 
-/// The element with its stamps as blocks keep them for stages.
-pub(crate) fn staged(e: &Element) -> Result<Element, OutOfMemory>
-    ensures { IfOk result (λ copy. copy ≡ staged e.now) }
+// The earlier one of two stages, if the first one is given.
+fn earlier(first: &Option<u64>, stage: u64) -> u64
+    ensures { (k : ℕ) → nat_le result k ≡ (is_gone_at k first.now || nat_le stage k) }
 {
-    let mut dels = Stamps::new(e.dels.allocator());
-    for stamp in e.dels.as_slice() {
-        dels.push(staged_stamp(stamp))?;
+    match first {
+        Some(first) if *first <= stage => *first,
+        Some(_) | None => stage,
     }
-    Ok(Element {
-        ins: staged_stamp(&e.ins),
-        dels,
-    })
+}
+
+// The stage from which on one of the stamps has occurred: None where there is none.
+fn first_stage(stamps: &[Stamp]) -> Option<u64>
+    ensures { (k : ℕ) → is_gone_at k result ≡ list_any (has_occurred_at_stage k) stamps.now }
+{
+    let mut first = None;
+    for stamp in stamps {
+        let stage = stage_of(stamp);
+        first = Some(earlier(&first, stage));
+    }
+    first
+}
+
+/// The stages at which a client sees the element.
+pub(crate) fn stages_of(e: &Element) -> Lifespan
+    ensures { (k : ℕ) → is_there_at result k ≡ seen_at e.now k }
+{
+    Lifespan {
+        from: stage_of(&e.ins),
+        until: first_stage(e.dels.as_slice()),
+    }
 }

@@ -5,16 +5,14 @@ ghost use Rattle.ft_base.specs.declared.elements.Element.{Element};
 ghost use Rattle.ft_partial.specs.Items.{inserted_element};
 ghost use Rattle.ft_block.specs.Tree.{AddsExchange, ExchangesAtStages, IsFrom, kept_length, KeepsForAll, KeepsNothing, KeepsExchange, KeepsSum, MakesExchange, MakesNothing, KeepsNode, IsNodeFrom, HasRange};
 
-use crate::leaves::{
-    Insertion, Leaf, LenView, View, has_pending, inserted, is_for_all, shown_in, staged,
-};
+use crate::leaves::{Insertion, Leaf, LenView, View, inserted, is_for_all, shown_in, stages_of};
 use ft_arena::Node;
 use ft_base::{Element, OutOfMemory, Perspective};
 use ft_partial::{Change, Stages, Table};
 use ft_shape::Headed;
 use std::alloc::Global;
 
-/// The connection whose perspective a block asks of its stages: none has it, as staged stamps are by nobody.
+/// The connection whose perspective a block asks of its stages: any but number 0, to which they count nothing.
 const NOBODY_ELSE: u32 = 1;
 
 /// What a block keeps: tables of how many elements of its leaves each stage and each perspective sees, how many they have,
@@ -184,28 +182,14 @@ impl Exchange {
     }
 }
 
-// What an exchange adds to the tables of stages. Where nothing is pending all stages see the same, and it takes no copy
-// of the elements.
+// What an exchange adds to the tables of stages.
 fn stages_change(e: &Element, len: u64, new: &Element, new_len: u64) -> Result<Change, OutOfMemory>
     ensures { IfOk result (λ change. ExchangesAtStages change e.now len new.now new_len) }
 {
-    if has_pending(e) || has_pending(new) {
-        return staged_change(e, len, new, new_len);
-    }
-    let stage = View::Of(LenView::Stage(0));
-    let gone = shown_in(e, len, stage);
-    let come = shown_in(new, new_len, stage);
-    Ok(Change::for_all(gone, come))
-}
-
-// The same for any elements.
-fn staged_change(e: &Element, len: u64, new: &Element, new_len: u64) -> Result<Change, OutOfMemory>
-    ensures { IfOk result (λ change. ExchangesAtStages change e.now len new.now new_len) }
-{
-    let old_staged = staged(e)?;
-    let new_staged = staged(new)?;
     let alloc = e.dels.allocator();
-    Change::of(alloc, 0, &old_staged, len, &new_staged, new_len)
+    let gone = stages_of(e);
+    let come = stages_of(new);
+    Change::of_lifespans(alloc, &gone, len, &come, new_len)
 }
 
 // Puts in the leaf, or what the block keeps.

@@ -35,7 +35,7 @@ none-occurred r c [] h = refl
 none-occurred r c (Acked s d ∷ dels) h = cc
 none-occurred r c (Local k ∷ dels) h = none-occurred r c dels h
 
-any-more : (p : Stamp → Bool) (xs : List Stamp) (i : ℕ) (d : Stamp) → i < length xs → list_any p (take (i + 1) xs) ≡ (list_any p (take i xs) || p (get_or xs i d))
+pub any-more : (p : Stamp → Bool) (xs : List Stamp) (i : ℕ) (d : Stamp) → i < length xs → list_any p (take (i + 1) xs) ≡ (list_any p (take i xs) || p (get_or xs i d))
 any-more p xs i d h = grind (arith, common_steps)
 
 -- equal connections made stamps alike

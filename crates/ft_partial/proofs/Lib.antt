@@ -2,3 +2,4 @@ pub mod EntryLemmas
 pub mod ItemLemmas
 pub mod SumsByStamps
 pub mod TableLemmas
+pub mod LifespanLemmas

@@ -75,7 +75,7 @@ pub adds_for_all : (old new : Lengths) (n last : ℕ) → last ≡ old.last → 
 unfolding length_at
 adds_for_all old new n last el entries is r c = omega (arith, el, is, ap (unseen r c) entries)
 
-opposite : (b : Bool) (n less : ℕ) → n < 2 ^ 64 → less ≡ (2 ^ 64 - n) % 2 ^ 64 → (amount b n + amount b less) % 2 ^ 64 ≡ 0
+pub opposite : (b : Bool) (n less : ℕ) → n < 2 ^ 64 → less ≡ (2 ^ 64 - n) % 2 ^ 64 → (amount b n + amount b less) % 2 ^ 64 ≡ 0
 opposite true n less h e = omega arith
 opposite false n less h e = refl
 

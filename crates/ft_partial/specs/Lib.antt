@@ -5,3 +5,4 @@ pub mod Items
 pub mod SameStamps
 pub mod Tables
 pub mod Stages
+pub mod Lifespans

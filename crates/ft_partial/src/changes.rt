@@ -1,10 +1,12 @@
 //! What an exchange of elements adds to a table.
 
-ghost use Rattle.std.specs.Prelude.{◌≡◌, ◌↔◌, ◌+◌, ◌%◌, ◌^◌, [], IfOk, IsTrue};
+ghost use Rattle.std.specs.Prelude.{◌≡◌, ◌↔◌, [], IfOk, IsTrue};
+ghost use Rattle.ft_partial.specs.Lifespans.{ExchangesLifespans};
 ghost use Rattle.ft_partial.specs.Tables.{IsExchange};
 
 use crate::entry_list::EntryList;
 use crate::items::{last_length, push_item};
+use crate::lifespans::{Lifespan, push_lifespan, staying};
 use ft_base::{Element, OutOfMemory};
 use std::alloc::Global;
 use std::marker::Model;
@@ -58,14 +60,25 @@ impl Change {
         self.last == 0 && self.entries.is_empty()
     }
 
-    /// What `come` elements that all see in the place of `gone` such elements add. It takes no memory.
-    pub fn for_all(gone: u64, come: u64) -> Change
-        ensures last { (result.last + gone) % 2 ^ 64 ≡ come }
-        ensures entries { result.entries ≡ [] }
+    /// What `new_len` elements of the lifespan `come` in the place of `len` elements of the lifespan `gone` add for each
+    /// connection but number 0.
+    pub fn of_lifespans(
+        alloc: Global,
+        gone: &Lifespan,
+        len: u64,
+        come: &Lifespan,
+        new_len: u64,
+    ) -> Result<Change, OutOfMemory>
+        ensures { IfOk result (λ change. ExchangesLifespans change gone.now len come.now new_len) }
     {
-        Change {
-            last: come.wrapping_sub(gone),
-            entries: EntryList::Empty,
-        }
+        let mut entries = EntryList::Empty;
+        push_lifespan(&mut entries, alloc, come, new_len)?;
+        push_lifespan(&mut entries, alloc, gone, 0u64.wrapping_sub(len))?;
+        let less = staying(gone, len);
+        let more = staying(come, new_len);
+        Ok(Change {
+            last: more.wrapping_sub(less),
+            entries,
+        })
     }
 }

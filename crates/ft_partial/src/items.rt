@@ -143,8 +143,8 @@ fn take_own(
     Ok(())
 }
 
-// All but `conn` and the connections of the stamps count `by` more until they have seen the number.
-fn push_but(
+/// All but `conn` and the connections of the stamps count `by` more until they have seen the number.
+pub fn push_but(
     entries: &mut EntryList,
     alloc: Global,
     floor: u64,

@@ -11,9 +11,11 @@ mod changes;
 mod entries;
 mod entry_list;
 mod items;
+mod lifespans;
 mod stages;
 mod table;
 
 pub use changes::Change;
+pub use lifespans::Lifespan;
 pub use stages::Stages;
 pub use table::{Table, same_by_stamps};
