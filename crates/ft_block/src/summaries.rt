@@ -100,6 +100,7 @@ impl Summary {
     }
 
     // Makes an exchange.
+    #[inline]
     fn add_exchange(&mut self, exchange: &Exchange) -> Result<(), OutOfMemory>
         ensures floor { self.new.table.floor ≡ self.old.table.floor }
         ensures low { HasRange self.new }
@@ -113,6 +114,7 @@ impl Summary {
     }
 
     // Raises the floor, and makes an exchange.
+    #[inline]
     pub(crate) fn fold_and_exchange(
         &mut self,
         floor: u64,

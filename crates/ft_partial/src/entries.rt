@@ -226,6 +226,7 @@ pub fn add_entries(entries: &mut Vec<Entry>, more: &[Entry])
 }
 
 /// Whether half of the entries or more are up to the floor.
+#[inline]
 pub fn is_half_old(entries: &[Entry], floor: u64) -> bool
     requires { IsRising entries.now }
     ensures { result ≡ true → AreUpTo floor (take (length entries.now / 2 + 1) entries.now) }
@@ -245,6 +246,7 @@ pub fn drop_old(entries: &mut Vec<Entry>, floor: u64)
 }
 
 /// Takes out the entries of nothing, once the last one is of nothing or there is no more room.
+#[inline]
 pub fn drop_nothing(entries: &mut Vec<Entry>)
     requires { IsRising entries.old.items }
     ensures { DropsOld entries.old.items entries.new.items 0 }

@@ -191,12 +191,13 @@ fn pair(alloc: Global, x: Entry, y: Entry) -> Result<Vec<Entry>, OutOfMemory>
     Ok(both)
 }
 
-// A vector with the entries of both, with room for a few.
+// A vector with the entries of both, with room for a few at least.
 fn both(alloc: Global, entries: &[Entry], more: &[Entry]) -> Result<Vec<Entry>, OutOfMemory>
     requires { IsRising entries.now }
     ensures { IfOk result (λ all. AddsEntries entries.now all.items more.now) }
 {
-    let mut all = Vec::with_capacity(alloc, FEW)?;
+    let room = entries.len().saturating_add(more.len()).max(FEW);
+    let mut all = Vec::with_capacity(alloc, room)?;
     all.extend_from_slice(entries)?;
     add_to(&mut all, more)?;
     Ok(all)

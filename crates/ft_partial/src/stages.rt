@@ -114,6 +114,7 @@ impl Stages {
     /// Adds a change.
     ///
     /// Returns `OutOfMemory` where there is no room, and then the table is as it was.
+    #[inline]
     pub fn add_change(&mut self, change: &Change) -> Result<(), OutOfMemory>
         ensures lengths { OnOk result (AddsChange self.old self.new change.now.entries change.now.last) }
         ensures floor { self.new.floor ≡ self.old.floor }
@@ -141,6 +142,7 @@ impl Stages {
     }
 
     // Adds entries, and so many elements to those that are seen at the last stage.
+    #[inline]
     fn put_in(&mut self, more: &[Entry], last: u64) -> Result<(), OutOfMemory>
         ensures lengths { OnOk result (AddsChange self.old self.new more.now last) }
         ensures floor { self.new.floor ≡ self.old.floor }
@@ -175,6 +177,7 @@ impl Stages {
 }
 
 // Adds entries, in any order, and takes those of nothing out.
+#[inline]
 fn put_entries(entries: &mut EntryList, alloc: Global, more: &[Entry]) -> Result<(), OutOfMemory>
     requires { AreStages (entries_of entries.old) }
     ensures ok { OnOk result (AddsEntries (entries_of entries.old) (entries_of entries.new) more.now) }

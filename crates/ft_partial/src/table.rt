@@ -161,6 +161,7 @@ impl Table {
     /// Adds a change.
     ///
     /// Returns `OutOfMemory` where there is no room, and then the table is as it was.
+    #[inline]
     pub fn add_change(&mut self, change: &Change) -> Result<(), OutOfMemory>
         ensures lengths { OnOk result (AddsChange self.old self.new change.now.entries change.now.last) }
         ensures floor { self.new.floor ≡ self.old.floor }
@@ -170,6 +171,7 @@ impl Table {
     }
 
     // Adds entries, and so many elements to those that all see in the end.
+    #[inline]
     fn put_in(&mut self, more: &[Entry], last: u64) -> Result<(), OutOfMemory>
         ensures lengths { OnOk result (AddsChange self.old self.new more.now last) }
         ensures floor { self.new.floor ≡ self.old.floor }
@@ -216,6 +218,7 @@ impl Table {
     ///
     /// Entries up to the floor are dropped at once where there are no others, and else once they are half
     /// of all, so all folds together take no longer than the calls that added the entries.
+    #[inline]
     pub fn fold_to(&mut self, floor: u64)
         requires { self.old.floor ≤ floor }
         ensures items { (xs : List Item) → CountsItems self.old xs → CountsItems self.new (folded_items floor xs) }
