@@ -18,6 +18,7 @@ mod SideLaws
 mod OwnWrites
 mod OwnGroups
 mod Refusals
+mod OwnCounts
 mod ScouredUnits
 mod CompactedGrids
 mod RebuiltUnits

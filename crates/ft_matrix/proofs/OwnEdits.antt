@@ -148,10 +148,10 @@ pushed g later stages like k op names u h q e = record {
 abbrev pub splice_stage : ℕ → CellOp → GridStage
 splice_stage k op = record { stage = k; op = op; row = None; col = None }
 
-above-test : (p n : ℕ) → n < p → nat_le p n ≡ false
+pub above-test : (p n : ℕ) → n < p → nat_le p n ≡ false
 above-test p n l = grind (arith, nat_tests)
 
-within-test : (p n : ℕ) → p ≤ n → nat_le p n ≡ true
+pub within-test : (p n : ℕ) → p ≤ n → nat_le p n ≡ true
 within-test p n l = grind (arith, nat_tests)
 
 refused-range : (p n : ℕ) (d : Document) → n < p → if_in_range p n d ≡ Err (OutOfRange n)

@@ -85,7 +85,7 @@ new-seen k n zero = refl
 new-seen k n (suc count) =
     ap (λ b. one_more_if (b && true) (len (seen k) (new_elements (n + 1) (Local k) [] None [] (replicate count GridUnit)))) (here-seen k) ∙ ap suc (new-seen k (n + 1) count)
 
-turned : (m n : ℕ) → m + n ≡ n + m
+pub turned : (m n : ℕ) → m + n ≡ n + m
 turned m n = omega arith
 
 inserted-length : (last p count : ℕ) (xs : List ListElement) → Below (suc last) xs
@@ -207,21 +207,22 @@ module _ {A : Type 0} (s t : A → Bool) (f : A → A) (gone : (x : A) → t (f 
               ap (λ b. one_more_if b (len t (change_range_from (one_more_if (s x) i) s p q f xs)) + m) (a.0 ∙ h)
               ∙ ap (λ b. len t (change_range_from (one_more_if b i) s p q f xs) + m) h ∙ jh k ∙ sym (ap (λ b. one_more_if b (len s xs)) h)
 
+  -- the elements of a range are seen no more
+  pub range-length : (p q : ℕ) (xs : List A) → AllByRecursion (λ x. t x ≡ s x) xs → p ≤ q → q ≤ len s xs → len t (change_range_from 0 s p q f xs) ≡ len s xs - (q - p)
+  range-length p q xs a l h = let e = before-range p q 0 p (q - p) xs a (omega arith) (omega arith) (omega arith) in omega (arith, e)
+
+pub hidden : (b c : Bool) → c ≡ true → b && not c ≡ false
+hidden true c e = ap not e
+hidden false c e = refl
+
 mark-gone : (k : ℕ) (x : ListElement) → seen k (with_pending_removal k x) ≡ false
-mark-gone k x = hidden (has_occurred_at_stage k x.ins)
+mark-gone k x = hidden (has_occurred_at_stage k x.ins) (list_any (has_occurred_at_stage k) (x.dels ++ (Local k ∷ [])))
     (any-last (has_occurred_at_stage k) x.dels (Local k ∷ []) (ap (λ b. b || false) (here-seen k)))
-  where
-    hidden : (b : Bool) → list_any (has_occurred_at_stage k) (x.dels ++ (Local k ∷ [])) ≡ true
-        → b && not (list_any (has_occurred_at_stage k) (x.dels ++ (Local k ∷ []))) ≡ false
-    hidden true e = ap not e
-    hidden false e = refl
 
 removed-length : (last p q : ℕ) (xs : List ListElement) → Below (suc last) xs → p ≤ q → q ≤ len (seen last) xs
     → len (seen (suc last)) (change_range_from 0 (seen last) p q (with_pending_removal (suc last)) xs) ≡ len (seen last) xs - (q - p)
 removed-length last p q xs a l h =
-    let e = before-range (seen last) (seen (suc last)) (with_pending_removal (suc last)) (λ x. mark-gone (suc last) x) p q 0 p (q - p) xs (views-same last xs a)
-    (omega arith) (omega arith) (omega arith) in
-    omega (arith, e)
+    range-length (seen last) (seen (suc last)) (with_pending_removal (suc last)) (λ x. mark-gone (suc last) x) p q xs (views-same last xs a) l h
 
 first-all : (test : Stamp → Bool) (ts us : List Stamp) → list_all test (ts ++ us) ≡ true → list_all test ts ≡ true
 first-all test [] us a = refl
@@ -269,6 +270,20 @@ at-some {A} s (suc i) (x ∷ xs) l = step (s x) l (λ k. at-some s i xs k) (λ k
         → (y : A) × (at s (cond b i (suc i)) xs ≡ Some y)
     step true k ih jh = ih (omega arith)
     step false k ih jh = jh k
+
+-- ---- tests of places
+
+in-order : (p q : ℕ) → IsTrue (is_range p q) → p ≤ q
+in-order p q t = let b = both (nat_le p q) (is_count q) t in let c = b.0 in grind (arith, nat_tests)
+
+inside-test : (q n : ℕ) → nat_le q n ≡ true → q ≤ n
+inside-test q n h = grind (arith, nat_tests)
+
+pub inside-strict : (q n : ℕ) → nat_lt q n ≡ true → q < n
+inside-strict q n h = grind (arith, nat_tests)
+
+outside-strict : (q n : ℕ) → nat_lt q n ≡ false → n ≤ q
+outside-strict q n h = grind (arith, nat_tests)
 
 -- ---- one operation
 
@@ -339,18 +354,6 @@ module _ (last k : ℕ) (e : k ≡ last + 1) (doc : Document) (rows : Below (suc
         cols_count = sym (inserted-length last p count doc.cols.items cols);
       }
       step false h = tested false h
-
-  in-order : (p q : ℕ) → IsTrue (is_range p q) → p ≤ q
-  in-order p q t = let b = both (nat_le p q) (is_count q) t in let c = b.0 in grind (arith, nat_tests)
-
-  inside-test : (q n : ℕ) → nat_le q n ≡ true → q ≤ n
-  inside-test q n h = grind (arith, nat_tests)
-
-  inside-strict : (q n : ℕ) → nat_lt q n ≡ true → q < n
-  inside-strict q n h = grind (arith, nat_tests)
-
-  outside-strict : (q n : ℕ) → nat_lt q n ≡ false → n ≤ q
-  outside-strict q n h = grind (arith, nat_tests)
 
   remove-rows : (p q : ℕ) → p ≤ q → After last k doc (SpliceOut Rows p q) (lengths_after (len (seen last) doc.rows.items) (len (seen last) doc.cols.items) (SpliceOut Rows p q))
   remove-rows p q l = step (nat_le q (len (seen last) doc.rows.items)) refl

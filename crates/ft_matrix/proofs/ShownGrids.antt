@@ -74,7 +74,7 @@ beside-seen {R = R} see see' agree f (next {x = x} {y = e} {xs = xs} {ys = es} q
     step true false g h r = (cc)
     step false true g h r = (cc)
 
-length-retained : {A B : Type 0} (see : A → Bool) (f : A → B) (xs : List A) → length (retain_map see f xs) ≡ len see xs
+pub length-retained : {A B : Type 0} (see : A → Bool) (f : A → B) (xs : List A) → length (retain_map see f xs) ≡ len see xs
 length-retained see f [] = refl
 length-retained see f (x ∷ xs) = step (see x) (length-retained see f xs)
   where

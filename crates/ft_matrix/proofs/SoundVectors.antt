@@ -307,6 +307,13 @@ run-fits count run old between t =
     let m : between.tree.made ≡ old.tree.made = ap (λ (x : TreeState HandleRun). x.made) t.tree in
     omega arith
 
+-- a place among what is seen is among it where handles were taken
+pub place-within : (view : LenView) (p count : ℕ) (run : HandleRun) (old between : VectorState) → TakesRun count run old between → p ≤ len (seen_in view) (units_of old)
+    → len (seen_in view) (units_of between) < p → ⊥
+place-within view p count run old between t l h =
+    let e = ap (λ (x : TreeState HandleRun). len (seen_in view) (vector_elements x)) t.tree in
+    absurd (omega (arith, e))
+
 pub on-ok : {A E P : Type 0} (r : Result A E) → P → OnOk r P
 on-ok (Ok x) p = p
 on-ok (Err e) p = tt

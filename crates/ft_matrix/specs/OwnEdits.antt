@@ -1,5 +1,7 @@
 -- What a client's own operations make of a grid. No public clause cites this module.
 use Rattle.std.specs.Prelude.{◌≡◌, ℕ, ◌+◌, ◌-◌, cond, nat_le, nat_lt, List, [], ◌∷◌, ◌++◌, Option, Some, None, Result, Ok, Err, length, map, true}
+use Rattle.ft_base.specs.Scan.{len}
+use Rattle.ft_block.specs.Leaves.{last_stage}
 use Rattle.ft_op.specs.declared.operations.CellOp.{CellOp}
 use Rattle.ft_op.specs.declared.operations.CellOp.TheVariants.{SpliceIn, SpliceOut, Set}
 use Rattle.ft_op.specs.declared.operations.Target.TheVariants.{Rows, Cols}
@@ -10,10 +12,13 @@ use Rattle.ft_op.specs.Intervals.{NamedElements}
 use Rattle.ft_op.specs.Document.{Document}
 use Rattle.ft_op.specs.Stages.{Stage}
 use Rattle.ft_msg.specs.Client.{local_grid, local_sub_operations}
+use Rattle.ft_tree_leaves.specs.Elements.{seen_in}
+use Rattle.ft_perm.specs.Vectors.{VectorState}
 use Rattle.ft_matrix.specs.declared.grid.Grid.{Grid}
 use Rattle.ft_matrix.specs.Applied.{Holds}
 use Rattle.ft_matrix.specs.GridStates.{grid_state}
 use Rattle.ft_matrix.specs.HoldsGrid.{HoldsGrid}
+use Rattle.ft_matrix.specs.Units.{units_of}
 
 -- the stage of an operation of the grid
 abbrev pub stage_of : ℕ → CellOp → NamedElements → Stage
@@ -70,3 +75,16 @@ lengths_after r c (Set i j value) = cond (nat_lt i r) (cond (nat_lt j c) (Ok (r,
 abbrev pub refusal : ℕ → ℕ → List CellOp → Option ℕ
 refusal r c [] = None
 refusal r c (op ∷ ops) = elim (lengths_after r c op) [ Err n ↦ Some n | Ok lengths ↦ refusal lengths.0 lengths.1 ops ]
+
+-- how many units are seen with all that is pending
+abbrev pub seen_units : VectorState → ℕ
+seen_units v = len (seen_in last_stage) (units_of v)
+
+-- how many rows and columns of a grid are seen after an operation that it took, or the length with which it is refused
+abbrev pub counts_after : Grid → Option ℕ → Result (ℕ × ℕ) ℕ
+counts_after g None = Ok (seen_units g.rows, seen_units g.cols)
+counts_after g (Some n) = Err n
+
+-- what an operation makes of the numbers of rows and columns seen, or with what it is refused, is told by these numbers
+abbrev pub Counts : CellOp → Grid → Grid → Option ℕ → Type 0
+Counts op old new refused = lengths_after (seen_units old.rows) (seen_units old.cols) op ≡ counts_after new refused

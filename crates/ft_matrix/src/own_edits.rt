@@ -2,9 +2,6 @@
 
 ghost use Rattle.std.specs.Prelude.{◌≡◌, ℕ, ◌+◌, ◌*◌, ◌≤◌, ◌^◌, List, None, IfOk, IsTrue, OnOk, length, map, true};
 ghost use Rattle.std.specs.List.{AllByRecursion};
-ghost use Rattle.ft_base.specs.Scan.{len};
-ghost use Rattle.ft_block.specs.Leaves.{last_stage};
-ghost use Rattle.ft_tree_leaves.specs.Elements.{seen_in};
 ghost use Rattle.ft_op.specs.declared.operations.ChannelOp.{ChannelOp};
 ghost use Rattle.ft_op.specs.declared.operations.GridOp.{GridOp};
 ghost use Rattle.ft_op.specs.Document.{Document};
@@ -15,9 +12,9 @@ ghost use Rattle.ft_matrix.specs.Sound.{IsSound};
 ghost use Rattle.ft_matrix.specs.GridStates.{depth_of, grid_state};
 ghost use Rattle.ft_matrix.specs.Conditions.{IsAboveAll};
 ghost use Rattle.ft_matrix.specs.Applied.{Holds};
-ghost use Rattle.ft_matrix.specs.OwnEdits.{EditsAll, EditsOne, TakesStages, lengths_after, refusal};
+ghost use Rattle.ft_matrix.specs.OwnEdits.{Counts, EditsAll, EditsOne, TakesStages, lengths_after, refusal, seen_units};
 ghost use Rattle.ft_matrix.specs.Sides.{units_at};
-ghost use Rattle.ft_matrix.specs.Units.{shown_units, units_of};
+ghost use Rattle.ft_matrix.specs.Units.{shown_units};
 
 use crate::grid::Grid;
 use crate::messages::more;
@@ -89,7 +86,7 @@ impl Grid {
     fn refusal(&self, ops: &[CellOp]) -> Result<Option<u64>, OutOfMemory>
         requires sound { IsSound self.now }
         requires formed { AllByRecursion IsWellFormedCell ops.now }
-        ensures { IfOk result (λ refused. refused ≡ refusal (len (seen_in last_stage) (units_of self.now.rows)) (len (seen_in last_stage) (units_of self.now.cols)) ops.now) }
+        ensures { IfOk result (λ refused. refused ≡ refusal (seen_units self.now.rows) (seen_units self.now.cols) ops.now) }
     {
         let mut rows = seen_count(&self.rows, LOCAL);
         let mut cols = seen_count(&self.cols, LOCAL);
@@ -118,6 +115,7 @@ impl Grid {
         requires formed { AllByRecursion IsWellFormedCell ops.now }
         requires some { 1 ≤ first }
         requires above { IsAboveAll first (grid_state self.old 0 true) }
+        requires within { refusal (seen_units self.old.rows) (seen_units self.old.cols) ops.now ≡ None }
         ensures sound { OnOk result (IsSound self.new) }
         ensures floor { OnOk result (self.new.rows.tree.floor ≡ self.old.rows.tree.floor) }
         ensures edited { (last : ℕ) (doc : Document) (stages : List Stage) → first ≡ last + 1 → Holds last self.old doc stages
@@ -127,7 +125,7 @@ impl Grid {
         for op in ops {
             match self.edit_one(op, stage, steps)? {
                 None => stage = more(stage, 1)?,
-                Some(_) => return Err(OutOfMemory),
+                Some(_) => unreachable!(),
             }
         }
         Ok(())
@@ -152,6 +150,7 @@ impl Grid {
         ensures above { IfOk result (λ refused. refused ≡ None → IsAboveAll (stage + 1) (grid_state self.new 0 true)) }
         ensures edited { (last : ℕ) (doc : Document) (stages : List Stage) → stage ≡ last + 1 → Holds last self.old doc stages
             → IfOk result (λ refused. EditsOne last stage doc stages op.now self.old self.new refused) }
+        ensures counts { IfOk result (λ refused. Counts op.now self.old self.new refused) }
         ensures reads { (target : Target) (p count : ℕ) → op.now ≡ CellOp.SpliceIn target p count
             → steps.new ≤ steps.old + 9 * (depth_of target (grid_state self.old 0 true) + 1) }
     {
@@ -187,6 +186,7 @@ impl Grid {
         ensures above { IfOk result (λ refused. refused ≡ None → IsAboveAll (stage + 1) (grid_state self.new 0 true)) }
         ensures edited { (last : ℕ) (doc : Document) (stages : List Stage) → stage ≡ last + 1 → Holds last self.old doc stages
             → IfOk result (λ refused. EditsOne last stage doc stages (CellOp.SpliceIn target pos count) self.old self.new refused) }
+        ensures counts { IfOk result (λ refused. Counts (CellOp.SpliceIn target pos count) self.old self.new refused) }
         ensures reads { steps.new ≤ steps.old + 9 * ((units_at target self.old).tree.depth + 1) }
     {
         if !insert_own_units(self.units_mut(target), pos, count, stage, steps)? {
@@ -221,6 +221,7 @@ impl Grid {
         ensures above { IfOk result (λ refused. refused ≡ None → IsAboveAll (stage + 1) (grid_state self.new 0 true)) }
         ensures edited { (last : ℕ) (doc : Document) (stages : List Stage) → stage ≡ last + 1 → Holds last self.old doc stages
             → IfOk result (λ refused. EditsOne last stage doc stages (CellOp.SpliceOut target pos1 pos2) self.old self.new refused) }
+        ensures counts { IfOk result (λ refused. Counts (CellOp.SpliceOut target pos1 pos2) self.old self.new refused) }
     {
         if !remove_own_units(self.units_mut(target), pos1, pos2, stage, steps)? {
             return Ok(Some(seen_count(self.units(target), LOCAL)));
@@ -252,6 +253,7 @@ impl Grid {
         ensures above { IfOk result (λ refused. refused ≡ None → IsAboveAll (stage + 1) (grid_state self.new 0 true)) }
         ensures edited { (last : ℕ) (doc : Document) (stages : List Stage) → stage ≡ last + 1 → Holds last self.old doc stages
             → IfOk result (λ refused. EditsOne last stage doc stages (CellOp.Set i j value.now) self.old self.new refused) }
+        ensures counts { IfOk result (λ refused. Counts (CellOp.Set i j value.now) self.old self.new refused) }
     {
         match self.rows.handle_at(LOCAL, i) {
             None => Ok(Some(seen_count(&self.rows, LOCAL))),

@@ -68,7 +68,8 @@ pub fn insert_units<G: Ledger>(
     let props = PropSet::new(units.tree.allocator());
     match units.tree.insert_remote(p, content, &props, seq, at, steps) {
         Ok(()) => Ok(true),
-        Err(_) => Err(OutOfMemory),
+        Err(TreeFault::OutOfRange { .. }) => unreachable!(),
+        Err(TreeFault::OutOfMemory) => Err(OutOfMemory),
     }
 }
 
@@ -99,7 +100,8 @@ pub fn insert_own_units<G: Ledger>(
     let props = PropSet::new(units.tree.allocator());
     match units.tree.insert_local(p, content, &props, stage, steps) {
         Ok(()) => Ok(true),
-        Err(_) => Err(OutOfMemory),
+        Err(TreeFault::OutOfRange { .. }) => unreachable!(),
+        Err(TreeFault::OutOfMemory) => Err(OutOfMemory),
     }
 }
 

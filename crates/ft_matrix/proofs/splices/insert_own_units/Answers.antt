@@ -5,7 +5,7 @@ use Rattle.ft_base.specs.Scan.{no_run}
 use Rattle.ft_block.specs.Leaves.{last_stage}
 use Rattle.ft_perm.specs.contracts.vectors.Vector.{the_view}
 use Rattle.ft_matrix.specs.Splices.{TakesRun}
-use Rattle.ft_matrix.proofs.SoundVectors.{puts-nothing, run-fits, vector-puts, vector-sound}
+use Rattle.ft_matrix.proofs.SoundVectors.{place-within, puts-nothing, run-fits, vector-puts, vector-sound}
 use Rattle.ft_matrix.proofs.splices.insert_own_units.Goals as goal
 
 later : (k : ℕ) → 1 ≤ k → nat_eq k 0 ≡ false
@@ -18,6 +18,12 @@ returns-then-count-eq0-clause-inserts g c =
 pub insert_local-requires-clause-made : goal.insert_local-requires-clause-made
 insert_local-requires-clause-made g c = run-fits c.args.count c.in_ok-content.content c.args.units.now (the_view c.units.inside)
     (subst (λ v. TakesRun c.args.count c.in_ok-content.content c.args.units.now v) (sym c.units.view_is) c.in_ok-content.ensures)
+
+pub unreachable-requires : goal.unreachable-requires
+unreachable-requires g c =
+    let t = subst (λ v. TakesRun c.args.count c.in_ok-content.content c.args.units.now v) (sym c.units.view_is) c.in_ok-content.ensures in
+    let r = rw c.in-Err-OutOfRange.field-0-is at c.in-Err-OutOfRange.ensures.refused in
+    place-within (last_stage) c.args.p c.args.count c.in_ok-content.content c.args.units.now (the_view c.units.inside) t (omega (arith, c.if-seen_count-p.false, c.seen_count.ensures)) r.1
 
 pub returns-in-Ok-clause-sound : goal.returns-in-Ok-clause-sound
 returns-in-Ok-clause-sound g c =

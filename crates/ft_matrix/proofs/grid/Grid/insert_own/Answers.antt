@@ -6,6 +6,7 @@ use Rattle.ft_op.specs.declared.operations.CellOp.TheVariants.{SpliceIn}
 use Rattle.ft_perm.specs.Vectors.{VectorState}
 use Rattle.ft_matrix.specs.Sides.{units_at}
 use Rattle.ft_matrix.specs.Splices.{Inserts}
+use Rattle.ft_matrix.proofs.OwnCounts.{insert-counted, insert-uncounted}
 use Rattle.ft_matrix.proofs.OwnEdits.{own-insert-refused, own-insert-taken, splice_stage}
 use Rattle.ft_matrix.proofs.OwnSound.{put-below, splice-above, stage-sound}
 use Rattle.ft_matrix.proofs.SideLaws.{at-side, behind-side, over, puts-used}
@@ -42,3 +43,15 @@ returns-clause-edited g c = λ last doc stages e h.
     let u = splice_stage c.args.stage (SpliceIn c.args.target c.args.pos c.args.count) in
     own-insert-taken last c.args.stage e (omega (arith, c.ranges.stage.fits)) c.args.self.now doc stages c.requires.sound h c.requires.above c.args.target c.args.pos c.args.count
     v (record c.args.self.now { stages = c.push_back.new.self }) i (behind-side c.args.target c.args.self.now v c.push_back.new.self.items u c.in_ok-push_back.ensures.items)
+
+pub returns-then-not-branch-clause-counts : goal.returns-then-not-branch-clause-counts
+returns-then-not-branch-clause-counts g c =
+    let i = over (λ (u : VectorState). Inserts last_stage no_run (Local c.args.stage) c.args.pos c.args.count u c.insert_own_units.new.units) c.units_mut.ensures.value c.if-not-branch.true c.in_ok-insert_own_units.ensures.inserts in
+    insert-uncounted c.args.target c.args.pos c.args.count c.args.stage c.seen_count.result c.args.self.now c.insert_own_units.new.units c.units.result.now i
+    (c.units.ensures ∙ at-side c.args.target c.args.self.now c.insert_own_units.new.units) c.seen_count.ensures
+
+pub returns-clause-counts : goal.returns-clause-counts
+returns-clause-counts g c =
+    let i = over (λ (u : VectorState). Inserts last_stage no_run (Local c.args.stage) c.args.pos c.args.count u c.insert_own_units.new.units) c.units_mut.ensures.value c.if-not-branch.false c.in_ok-insert_own_units.ensures.inserts in
+    insert-counted c.args.target c.args.pos c.args.count c.args.stage c.args.self.now c.insert_own_units.new.units (record c.args.self.now { stages = c.push_back.new.self })
+    (omega (arith, c.ranges.stage.fits)) i

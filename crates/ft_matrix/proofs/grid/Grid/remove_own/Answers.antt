@@ -5,6 +5,7 @@ use Rattle.ft_op.specs.declared.operations.CellOp.TheVariants.{SpliceOut}
 use Rattle.ft_perm.specs.Vectors.{VectorState}
 use Rattle.ft_matrix.specs.Sides.{units_at}
 use Rattle.ft_matrix.specs.Splices.{Removes}
+use Rattle.ft_matrix.proofs.OwnCounts.{remove-counted, remove-uncounted}
 use Rattle.ft_matrix.proofs.OwnEdits.{own-remove-refused, own-remove-taken, splice_stage}
 use Rattle.ft_matrix.proofs.OwnSound.{range-below, splice-above, stage-sound}
 use Rattle.ft_matrix.proofs.SideLaws.{at-side, behind-side, over, marks-used}
@@ -41,3 +42,15 @@ returns-clause-edited g c = λ last doc stages e h.
     let u = splice_stage c.args.stage (SpliceOut c.args.target c.args.pos1 c.args.pos2) in
     own-remove-taken last c.args.stage e (omega (arith, c.ranges.stage.fits)) c.args.self.now doc stages c.requires.sound h c.requires.above c.args.target c.args.pos1 c.args.pos2
     v (record c.args.self.now { stages = c.push_back.new.self }) i (behind-side c.args.target c.args.self.now v c.push_back.new.self.items u c.in_ok-push_back.ensures.items)
+
+pub returns-then-not-branch-clause-counts : goal.returns-then-not-branch-clause-counts
+returns-then-not-branch-clause-counts g c =
+    let i = over (λ (u : VectorState). Removes last_stage (Local c.args.stage) c.args.pos1 c.args.pos2 u c.remove_own_units.new.units) c.units_mut.ensures.value c.if-not-branch.true c.in_ok-remove_own_units.ensures.removes in
+    remove-uncounted c.args.target c.args.pos1 c.args.pos2 c.args.stage c.seen_count.result c.args.self.now c.remove_own_units.new.units c.units.result.now i
+    (c.units.ensures ∙ at-side c.args.target c.args.self.now c.remove_own_units.new.units) c.seen_count.ensures
+
+pub returns-clause-counts : goal.returns-clause-counts
+returns-clause-counts g c =
+    let i = over (λ (u : VectorState). Removes last_stage (Local c.args.stage) c.args.pos1 c.args.pos2 u c.remove_own_units.new.units) c.units_mut.ensures.value c.if-not-branch.false c.in_ok-remove_own_units.ensures.removes in
+    remove-counted c.args.target c.args.pos1 c.args.pos2 c.args.stage c.args.self.now c.remove_own_units.new.units (record c.args.self.now { stages = c.push_back.new.self })
+    (omega (arith, c.ranges.stage.fits)) c.requires.order i

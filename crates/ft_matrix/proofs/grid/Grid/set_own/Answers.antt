@@ -1,4 +1,5 @@
 use Rattle.std.proofs.Common.{◌≡◌, [], ◌∷◌, ◌++◌, arith, refl, subst}
+use Rattle.ft_matrix.proofs.OwnCounts.{col-uncounted, row-uncounted, write-counted}
 use Rattle.ft_matrix.proofs.OwnSound.{later-units, next-above, units-below}
 use Rattle.ft_matrix.proofs.OwnWrites.{IsPended, own-handle-in-use, own-no-col, own-no-row, own-set-taken, own-write-sound, pending-below, write_stage}
 use Rattle.ft_matrix.proofs.grid.Grid.set_own.Goals as goal
@@ -44,3 +45,16 @@ returns-in_ok-push_back-in-Some-handle_at-clause-edited c = λ last doc stages e
     (subst (λ v. c.push_back.new.self.items ≡ c.args.self.now.stages.items ++ (write_stage c.args.stage c.args.i c.args.j v c.in-Some.row c.in-Some-handle_at.col ∷ []))
     c.in_ok-copy-in-Some-handle_at-2.ensures c.in_ok-push_back-in-Some-handle_at.ensures.items)
     c.in-Some.ensures c.in-Some-handle_at.ensures
+
+pub returns-in-None-clause-counts : goal.returns-in-None-clause-counts
+returns-in-None-clause-counts c = row-uncounted c.args.i c.args.j c.args.value.now c.args.self.now c.seen_count.result c.in-None.ensures c.seen_count.ensures
+
+pub returns-in-None-handle_at-clause-counts : goal.returns-in-None-handle_at-clause-counts
+returns-in-None-handle_at-clause-counts c =
+    col-uncounted c.args.i c.args.j c.args.value.now c.args.self.now c.seen_count-in-None-handle_at.result c.in-Some.row c.in-Some.ensures c.in-None-handle_at.ensures
+    c.seen_count-in-None-handle_at.ensures
+
+pub returns-in_ok-push_back-in-Some-handle_at-clause-counts : goal.returns-in_ok-push_back-in-Some-handle_at-clause-counts
+returns-in_ok-push_back-in-Some-handle_at-clause-counts c =
+    write-counted c.args.i c.args.j c.args.value.now c.args.self.now c.in-Some.row c.in-Some-handle_at.col c.set_pending.new.self
+    (record c.args.self.now { stages = c.push_back.new.self }) c.in-Some.ensures c.in-Some-handle_at.ensures
