@@ -1,5 +1,6 @@
 -- Contents that are put at the end of a tree one after another are put there at once.
-use Rattle.std.proofs.Common.{◌≡◌, ℕ, ◌+◌, ◌<◌, List, [], ◌∷◌, ◌++◌, refl, sym, ◌∙◌, ap, subst, arith, length, length-append, append_assoc, append-nil, Some, drop, flat_map, get_or, map}
+use Rattle.std.proofs.Common.{◌≡◌, ℕ, ◌+◌, ◌<◌, List, [], ◌∷◌, ◌++◌, refl, sym, ◌∙◌, ap, subst, arith, length, length-append, append_assoc, append-nil, Result, Ok, Err, Some, drop, flat_map, get_or, map}
+use Rattle.std.specs.Prelude.{OnOk}
 use Rattle.std.proofs.lemmas.List.{drop_more}
 use Rattle.ft_tree_leaves.specs.declared.text.TextContent.{TextContent}
 use Rattle.ft_tree_leaves.specs.Elements.{element_with}
@@ -7,6 +8,7 @@ use Rattle.ft_tree_leaves.specs.TextLeaves.{text_units}
 use Rattle.ft_msg.specs.Summary.{segment_bodies, stamp_of}
 use Rattle.ft_sumdoc.specs.declared.summary.SegRec.{SegRec}
 use Rattle.ft_named.proofs.Lists.{map-append}
+use Rattle.ft_props.specs.Element.{ElementContent}
 use Rattle.ft_tree.specs.State.{KeepsRest, TreeState}
 use Rattle.ft_interval_store.specs.State.{text_elements}
 use Rattle.ft_string.specs.Loads.{Appends, segment_elements, summary_elements}
@@ -34,27 +36,43 @@ more-units (y ∷ ys) x = ap (λ us. text_units y ++ us) (more-units ys x) ∙ s
 
 -- ---- the contents of a segment
 
--- what was gone over stands at the end, and with what is left it is all
-pub record AppendsSoFar (seg : SegRec) (done left : List TextContent) (old now : TreeState TextContent) : Type 0 where
-  pub appends : Appends (segment_elements seg (flat_map text_units done)) old now
-  pub all : flat_map text_units (done ++ left) ≡ segment_bodies seg.body
+-- one more of them
+content-more : (seg : SegRec) (done : List TextContent) (x : TextContent) (old mid new : TreeState TextContent) → Appends (segment_elements seg (flat_map text_units done)) old mid
+    → Appends (segment_elements seg (text_units x)) mid new → Appends (segment_elements seg (flat_map text_units (done ++ x ∷ []))) old new
+content-more seg done x old mid new a b =
+    subst (λ es. Appends es old new)
+    (sym (ap (segment_elements seg) (more-units done x)
+    ∙ map-append (element_with (record { ins = stamp_of seg.ins; dels = map stamp_of seg.dels }) (Some (stamp_of seg.by)) (record { acked = seg.props; pending = [] }))
+    (flat_map text_units done) (text_units x)))
+    (appends-next (segment_elements seg (flat_map text_units done)) (segment_elements seg (text_units x)) old mid new a b)
 
-pub content-next : (seg : SegRec) (done : List TextContent) (x : TextContent) (left rest : List TextContent) (old mid new : TreeState TextContent) → left ≡ x ∷ rest
-    → AppendsSoFar seg done left old mid → Appends (segment_elements seg (text_units x)) mid new → AppendsSoFar seg (done ++ x ∷ []) rest old new
-content-next seg done x left rest old mid new front a b = record {
-  appends = subst (λ es. Appends es old new)
-      (sym (ap (segment_elements seg) (more-units done x)
-      ∙ map-append (element_with (record { ins = stamp_of seg.ins; dels = map stamp_of seg.dels }) (Some (stamp_of seg.by)) (record { acked = seg.props; pending = [] }))
-      (flat_map text_units done) (text_units x)))
-      (appends-next (segment_elements seg (flat_map text_units done)) (segment_elements seg (text_units x)) old mid new a.appends b);
-  all = ap (flat_map text_units) (append_assoc done (x ∷ []) rest ∙ ap (λ zs. done ++ zs) (sym front)) ∙ a.all;
+-- what was gone over stands at the end, and with what is left it is all
+pub record AppendsSoFar (seg : SegRec) (all done left : List TextContent) (old now : TreeState TextContent) : Type 0 where
+  pub appends : Appends (segment_elements seg (flat_map text_units done)) old now
+  pub whole : done ++ left ≡ all
+
+pub content-next : (seg : SegRec) (all done : List TextContent) (x : TextContent) (left rest : List TextContent) (old mid new : TreeState TextContent) → left ≡ x ∷ rest
+    → AppendsSoFar seg all done left old mid → Appends (segment_elements seg (text_units x)) mid new → AppendsSoFar seg all (done ++ x ∷ []) rest old new
+content-next seg all done x left rest old mid new front a b = record {
+  appends = content-more seg done x old mid new a.appends b;
+  whole = append_assoc done (x ∷ []) rest ∙ ap (λ zs. done ++ zs) (sym front) ∙ a.whole;
 }
 
-pub contents-done : (seg : SegRec) (done left : List TextContent) (old new : TreeState TextContent) → left ≡ [] → AppendsSoFar seg done left old new
-    → Appends (segment_elements seg (segment_bodies seg.body)) old new
-contents-done seg done left old new none a =
-    subst (λ us. Appends (segment_elements seg us) old new)
-    (ap (flat_map text_units) (sym (append-nil done) ∙ ap (λ zs. done ++ zs) (sym none)) ∙ a.all) a.appends
+pub contents-done : (seg : SegRec) (all done left : List TextContent) (old new : TreeState TextContent) → left ≡ [] → AppendsSoFar seg all done left old new
+    → Appends (segment_elements seg (flat_map text_units all)) old new
+contents-done seg all done left old new none a =
+    subst (λ xs. Appends (segment_elements seg (flat_map text_units xs)) old new) (sym (append-nil done) ∙ ap (λ zs. done ++ zs) (sym none) ∙ a.whole) a.appends
+
+-- the last one, if there is one, behind those before it
+pub with-last : {E : Type 0} (r : Result (Unit {0}) E) (seg : SegRec) (us : List ElementContent) (before : List TextContent) (x : TextContent) (old mid new : TreeState TextContent)
+    → flat_map text_units (before ++ x ∷ []) ≡ us → Appends (segment_elements seg (flat_map text_units before)) old mid → OnOk r (Appends (segment_elements seg (text_units x)) mid new)
+    → OnOk r (Appends (segment_elements seg us) old new)
+with-last (Ok u) seg us before x old mid new e a b = subst (λ vs. Appends (segment_elements seg vs) old new) e (content-more seg before x old mid new a b)
+with-last (Err f) seg us before x old mid new e a b = tt
+
+pub without-last : (seg : SegRec) (us : List ElementContent) (before : List TextContent) (old new : TreeState TextContent) → flat_map text_units (before ++ []) ≡ us
+    → Appends (segment_elements seg (flat_map text_units before)) old new → Appends (segment_elements seg us) old new
+without-last seg us before old new e a = subst (λ vs. Appends (segment_elements seg vs) old new) (ap (flat_map text_units) (sym (append-nil before)) ∙ e) a
 
 -- ---- segments
 

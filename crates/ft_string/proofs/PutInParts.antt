@@ -1,5 +1,5 @@
 -- Contents of text that are put into a tree part by part, the last part first, each at the same place.
-use Rattle.std.proofs.Common.{◌≡◌, ℕ, suc, ◌+◌, ◌*◌, ◌≤◌, Bool, true, false, is_none, IsTrue, List, [], ◌∷◌, ◌++◌, Option, Some, None, refl, sym, ◌∙◌, ap, subst, arith, length, flat_map, append-nil, length-append, option_map}
+use Rattle.std.proofs.Common.{◌≡◌, ℕ, suc, ◌+◌, ◌*◌, ◌<◌, ◌≤◌, Bool, true, false, is_none, IsTrue, List, [], ◌∷◌, ◌++◌, Option, Some, None, refl, sym, ◌∙◌, ap, subst, arith, length, flat_map, append-nil, length-append, option_map}
 use Rattle.std.proofs.lemmas.Grind.{flat_map-append}
 use Rattle.std.proofs.lemmas.List.{map-append}
 use Rattle.ft_base.specs.declared.stamps.Stamp.{Stamp}
@@ -151,10 +151,14 @@ pub inserts-done : (see past : TreeElement ElementContent → Bool) (p : ℕ) (i
 inserts-done see past p ins by props all left first now h none =
     inserts-end see past p ins by props all first now (subst (λ xs. InsertsLeft see past p ins by props all xs first now) (nothing-left left none) h)
 
--- few reads
-fewer-left : (n m : ℕ) (front left : List TextContent) (x : TextContent) → left ≡ front ++ (x ∷ []) → length left ≡ length front + 1
-fewer-left n m front left x h = ap length h ∙ length-append front (x ∷ [])
+-- how many are left
+fewer-left : (front left : List TextContent) (x : TextContent) → left ≡ front ++ (x ∷ []) → length left ≡ length front + 1
+fewer-left front left x h = ap length h ∙ length-append front (x ∷ [])
 
+pub fewer : (front left : List TextContent) (x : TextContent) → left ≡ front ++ (x ∷ []) → length front < length left
+fewer front left x h = let size = fewer-left front left x h in omega arith
+
+-- few reads
 pub reads-begin : (all : List ElementContent) (left : List TextContent) (first : TreeState TextContent) (old : ℕ) → (length all ≤ 256 → length left ≤ 1)
     → FewReads all left first first old old
 reads-begin all left first old few = record { few = few; before = λ l g. (refl, refl); after = λ l. omega arith }
@@ -162,7 +166,7 @@ reads-begin all left first old few = record { few = few; before = λ l g. (refl,
 pub reads-next : (all : List ElementContent) (front left : List TextContent) (x : TextContent) (first now next : TreeState TextContent) (old steps new : ℕ)
     → FewReads all left first now old steps → left ≡ front ++ (x ∷ []) → new ≤ steps + 9 * (now.depth + 1) → FewReads all front first next old new
 reads-next all front left x first now next old steps new h same bound =
-    let size = fewer-left 0 0 front left x same in
+    let size = fewer-left front left x same in
     record {
       few = λ l. (let f = h.few l in omega arith);
       before = λ l g. (let f = h.few l in absurd (omega arith));

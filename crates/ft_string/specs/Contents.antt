@@ -1,5 +1,5 @@
 -- What an insertion of several contents makes of a tree. No public clause cites this module.
-use Rattle.std.specs.Prelude.{◌≡◌, ℕ, ◌+◌, Bool, List, is_none, length}
+use Rattle.std.specs.Prelude.{◌≡◌, ℕ, ◌+◌, ◌++◌, Bool, List, is_none, length, option_to_list}
 use Rattle.std.specs.List.{list_all}
 use Rattle.ft_base.specs.Scan.{put}
 use Rattle.ft_interval_store.specs.State.{text_elements}
@@ -10,6 +10,11 @@ use Rattle.ft_tree_leaves.specs.Places.{put_place, shifted_place}
 use Rattle.ft_tree_leaves.specs.References.{ChangesReferences}
 use Rattle.ft_props.specs.Element.{ElementContent}
 use Rattle.ft_tree.specs.State.{KeepsRest, TreeState}
+use Rattle.ft_string.specs.declared.contents.Contents.{Contents}
+
+-- the contents in order
+abbrev pub contents_in : Contents → List TextContent
+contents_in c = c.before.items ++ option_to_list c.last
 
 -- whether the contents are of a pending insertion
 abbrev pub are_new : List TextContent → Bool

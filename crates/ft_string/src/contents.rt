@@ -1,7 +1,7 @@
 //! A segment as contents of leaves, and how they come into a tree: the last one first, each at the same place, so that they
 //! stand side by side in their order.
 
-ghost use Rattle.std.specs.Prelude.{◌≡◌, ◌+◌, ◌*◌, ◌≤◌, ◌++◌, ◌∷◌, [], string_bytes, true, IfOk, IsTrue, None, OnOk, chars, drop, flat_map, length, map, take};
+ghost use Rattle.std.specs.Prelude.{◌≡◌, ◌+◌, ◌*◌, ◌≤◌, ◌++◌, ◌∷◌, [], string_bytes, true, IfOk, IsTrue, MatchOption, None, OnOk, chars, drop, flat_map, length, map, take};
 ghost use Rattle.std.specs.Str.{IsCharBoundary};
 ghost use Rattle.ft_base.specs.declared.stamps.Stamp.TheVariants.{Acked, Local};
 ghost use Rattle.ft_base.specs.Scan.{no_run};
@@ -13,7 +13,7 @@ ghost use Rattle.ft_tree_leaves.specs.TextRuns.{longest_run};
 ghost use Rattle.ft_op.specs.Operation.{segment_contents};
 ghost use Rattle.ft_props.specs.Element.{Character};
 ghost use Rattle.ft_props.specs.Properties.{apply, max_safe_integer};
-ghost use Rattle.ft_string.specs.Contents.{PutsIn, are_new};
+ghost use Rattle.ft_string.specs.Contents.{PutsIn, are_new, contents_in};
 
 use ft_base::{OutOfMemory, Perspective, Steps};
 use ft_op::Seg;
@@ -22,19 +22,65 @@ use ft_tree::{MAX_RUN, TextContent, Tree, TreeFault};
 use std::alloc::Global;
 use std::sync::ledger::Ledger;
 
-/// The contents of the leaves of a segment, in order.
-pub(crate) fn contents_of(alloc: Global, seg: &Seg) -> Result<Vec<TextContent>, OutOfMemory>
-    ensures units { IfOk result (λ v. flat_map text_units v.items ≡ segment_contents seg.now) }
-    ensures new { IfOk result (λ v. are_new v.items ≡ true) }
-    ensures one { IfOk result (λ v. length (segment_contents seg.now) ≤ longest_run → length v.items ≤ 1) }
+/// The contents of the leaves of a segment: the last one, mostly the only one, and those before it in order. A single one takes no
+/// list.
+#[derive(Drop)]
+pub(crate) struct Contents {
+    pub before: Vec<TextContent>,
+    pub last: Option<TextContent>,
+}
+
+impl Contents {
+    // None.
+    fn none(alloc: Global) -> Contents
+        ensures { contents_in result ≡ [] }
+    {
+        Contents {
+            before: Vec::new(alloc),
+            last: None,
+        }
+    }
+
+    /// This one alone.
+    pub(crate) fn one(alloc: Global, content: TextContent) -> Contents
+        ensures { contents_in result ≡ content ∷ [] }
+    {
+        Contents {
+            before: Vec::new(alloc),
+            last: Some(content),
+        }
+    }
+
+    // Puts one behind the others.
+    fn push(&mut self, content: TextContent) -> Result<(), OutOfMemory>
+        ensures { OnOk result (contents_in self.new ≡ contents_in self.old ++ content ∷ []) }
+    {
+        if let Some(before) = self.last.replace(content) {
+            self.before.push(before)?;
+        }
+        Ok(())
+    }
+
+    // Takes the last one off.
+    fn pop(&mut self) -> Option<TextContent>
+        ensures { MatchOption result (contents_in self.old ≡ []) (λ content. contents_in self.old ≡ contents_in self.new ++ content ∷ []) }
+    {
+        match self.last.take() {
+            Some(content) => Some(content),
+            None => self.before.pop(),
+        }
+    }
+}
+
+// The contents of the leaves of a segment.
+fn contents_of(alloc: Global, seg: &Seg) -> Result<Contents, OutOfMemory>
+    ensures units { IfOk result (λ c. flat_map text_units (contents_in c) ≡ segment_contents seg.now) }
+    ensures new { IfOk result (λ c. are_new (contents_in c) ≡ true) }
+    ensures one { IfOk result (λ c. length (segment_contents seg.now) ≤ longest_run → length (contents_in c) ≤ 1) }
 {
     match seg {
         Seg::Chars { text } => runs_of(alloc, text.as_str()),
-        Seg::Marker { ref_type } => {
-            let mut contents = Vec::with_capacity(alloc, 1)?;
-            contents.push(TextContent::marker(*ref_type))?;
-            Ok(contents)
-        }
+        Seg::Marker { ref_type } => Ok(Contents::one(alloc, TextContent::marker(*ref_type))),
     }
 }
 
@@ -46,13 +92,13 @@ pub(crate) fn push_character(run: &mut String, c: char) -> Result<(), OutOfMemor
     Ok(())
 }
 
-// The characters as runs of as many as a leaf may have, but for the last one.
-fn runs_of(alloc: Global, text: &str) -> Result<Vec<TextContent>, OutOfMemory>
-    ensures units { IfOk result (λ v. flat_map text_units v.items ≡ map Character (chars text.now)) }
-    ensures new { IfOk result (λ v. are_new v.items ≡ true) }
-    ensures one { IfOk result (λ v. length (chars text.now) ≤ longest_run → length v.items ≤ 1) }
+/// The characters as runs of as many as a leaf may have, but for the last one.
+pub(crate) fn runs_of(alloc: Global, text: &str) -> Result<Contents, OutOfMemory>
+    ensures units { IfOk result (λ c. flat_map text_units (contents_in c) ≡ map Character (chars text.now)) }
+    ensures new { IfOk result (λ c. are_new (contents_in c) ≡ true) }
+    ensures one { IfOk result (λ c. length (chars text.now) ≤ longest_run → length (contents_in c) ≤ 1) }
 {
-    let mut contents = Vec::with_capacity(alloc, text.len() / MAX_RUN as usize + 1)?;
+    let mut contents = Contents::none(alloc);
     let mut rest = text;
     while !rest.is_empty() {
         let at = run_end(rest);

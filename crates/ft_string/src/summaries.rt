@@ -1,9 +1,8 @@
 //! A shared text from a summary, and as one.
 
-ghost use Rattle.std.specs.Prelude.{◌≡◌, ℕ, ◌≤◌, [], IfOk, IsTrue, None, OnOk, true};
+ghost use Rattle.std.specs.Prelude.{◌≡◌, ℕ, ◌≤◌, [], IfOk, IsTrue, None, OnOk, flat_map, true};
 ghost use Rattle.ft_op.specs.Document.{Document};
 ghost use Rattle.ft_msg.specs.Summary.{doc_of, segment_bodies};
-ghost use Rattle.ft_op.specs.Operation.{segment_contents};
 ghost use Rattle.ft_props.specs.Keys.{key_cmp, put_rising};
 ghost use Rattle.ft_props.specs.Properties.{apply};
 ghost use Rattle.ft_sumdoc.specs.Forms.{rises};
@@ -13,10 +12,11 @@ ghost use Rattle.ft_interval_store.specs.State.{text_elements};
 ghost use Rattle.ft_tree_leaves.specs.References.{reference_at};
 ghost use Rattle.ft_tree_leaves.specs.TextLeaves.{text_units};
 ghost use Rattle.ft_string.specs.Calls.{HasNoText, KeepsSummary, SavesText};
+ghost use Rattle.ft_string.specs.Contents.{contents_in};
 ghost use Rattle.ft_string.specs.Holds.{HoldsSome, HoldsText, IsTextSound};
 ghost use Rattle.ft_string.specs.Loads.{AddsInterval, AllFitOn, Appends, HasIntervals, IsAddOf, everybody, fits_on, given_ends, given_property, segment_elements, summary_elements};
 
-use crate::contents::contents_of;
+use crate::contents::{Contents, runs_of};
 use crate::lengths::{have_room, made_in};
 use crate::segments::segments_of;
 use crate::shown::listed;
@@ -25,22 +25,20 @@ use ft_base::{Datum, OutOfMemory, Perspective, Text};
 use ft_interval::Collections;
 use ft_json::ValText;
 use ft_msg::marks::element_of;
-use ft_op::{Ends, Seg as Segment, TextOp};
+use ft_op::{Ends, TextOp};
 use ft_props::{PropSet, Props};
 use ft_sumdoc::{Ends2, IntervalRec, Seg, SegRec, SumDoc};
 use ft_tree::{Content, TextContent, Tree};
 use std::alloc::Global;
 use std::collections::VecDeque;
 
-// What a segment of a summary holds, as an operation has it.
-fn segment_of(seg: &Seg) -> Result<Segment, OutOfMemory>
-    ensures { IfOk result (λ segment. segment_contents segment ≡ segment_bodies seg.now) }
+// The contents of the leaves of a segment of a summary.
+fn contents_of(alloc: Global, seg: &Seg) -> Result<Contents, OutOfMemory>
+    ensures { IfOk result (λ c. flat_map text_units (contents_in c) ≡ segment_bodies seg.now) }
 {
     match seg {
-        Seg::Chars { text } => Ok(Segment::Chars { text: text.copy()? }),
-        Seg::Marker { ref_type } => Ok(Segment::Marker {
-            ref_type: *ref_type,
-        }),
+        Seg::Chars { text } => runs_of(alloc, text.as_str()),
+        Seg::Marker { ref_type } => Ok(Contents::one(alloc, TextContent::marker(*ref_type))),
     }
 }
 
@@ -64,6 +62,23 @@ fn append_content(
     tree.append(content, &seg.props, stamps)
 }
 
+// Puts the elements of contents at the end.
+//
+// Returns `OutOfMemory` where there is no room for them, or the number of elements would pass its limit.
+fn append_contents(
+    tree: &mut Tree<TextContent>,
+    contents: Vec<TextContent>,
+    seg: &SegRec,
+) -> Result<(), OutOfMemory>
+    requires { IsTrue tree.old.usable }
+    ensures { OnOk result (Appends (segment_elements seg.now (flat_map text_units contents.items)) tree.old tree.new) }
+{
+    for content in contents {
+        append_content(tree, content, seg)?;
+    }
+    Ok(())
+}
+
 // Puts the elements of a segment at the end.
 //
 // Returns `OutOfMemory` where there is no room for them, or the number of elements would pass its limit.
@@ -71,11 +86,12 @@ fn append(tree: &mut Tree<TextContent>, seg: &SegRec) -> Result<(), OutOfMemory>
     requires { IsTrue tree.old.usable }
     ensures { OnOk result (Appends (segment_elements seg.now (segment_bodies seg.now.body)) tree.old tree.new) }
 {
-    let contents = contents_of(tree.allocator(), &segment_of(&seg.body)?)?;
-    for content in contents {
-        append_content(tree, content, seg)?;
+    let Contents { before, last } = contents_of(tree.allocator(), &seg.body)?;
+    append_contents(tree, before, seg)?;
+    match last {
+        Some(content) => append_content(tree, content, seg),
+        None => Ok(()),
     }
-    Ok(())
 }
 
 // Puts the elements of segments at the end.

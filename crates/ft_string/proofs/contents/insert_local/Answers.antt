@@ -1,4 +1,4 @@
-use Rattle.std.proofs.Common.{[], None, arith, refl}
+use Rattle.std.proofs.Common.{[], None, ap, length, refl}
 use Rattle.ft_base.specs.declared.stamps.Stamp.TheVariants.{Local}
 use Rattle.ft_base.specs.Scan.{no_run}
 use Rattle.ft_block.specs.Leaves.{last_stage}
@@ -6,39 +6,43 @@ use Rattle.ft_tree_leaves.specs.Elements.{seen_in}
 use Rattle.ft_tree_leaves.specs.TextLeaves.{text_units}
 use Rattle.ft_op.specs.Operation.{segment_contents}
 use Rattle.ft_props.specs.Properties.{apply}
-use Rattle.ft_string.proofs.PutInParts.{inserts-begin, inserts-done, inserts-next, last-new, puts-by, puts-made, reads-begin, reads-next}
+use Rattle.ft_string.specs.Contents.{contents_in}
+use Rattle.ft_string.proofs.PutInParts.{fewer, inserts-begin, inserts-done, inserts-next, last-new, puts-by, puts-made, reads-begin, reads-next}
 use Rattle.ft_string.proofs.contents.insert_local.Goals as goal
 
 pub loop-content-init : goal.loop-content-init
 loop-content-init g c = record {
   inserts = inserts-begin (seen_in last_stage) no_run c.args.p (Local c.args.stage) None (apply [] c.args.props.now) (segment_contents c.args.seg.now)
-      c.in_ok-contents.contents.items c.args.tree.now c.in_ok-contents.ensures.units c.in_ok-contents.ensures.new c.requires.usable;
-  reads = reads-begin (segment_contents c.args.seg.now) c.in_ok-contents.contents.items c.args.tree.now c.args.steps.now c.in_ok-contents.ensures.one;
+      (contents_in c.in_ok-contents.contents) c.args.tree.now c.in_ok-contents.ensures.units c.in_ok-contents.ensures.new c.requires.usable;
+  reads = reads-begin (segment_contents c.args.seg.now) (contents_in c.in_ok-contents.contents) c.args.tree.now c.args.steps.now c.in_ok-contents.ensures.one;
 }
+
+pub loop-content-smaller : goal.loop-content-smaller
+loop-content-smaller g c = fewer (contents_in c.pop.new.self) (contents_in c.loop-content.contents) c.in-Some.content c.in-Some.ensures
 
 pub loop-content-preserved : goal.loop-content-preserved
 loop-content-preserved g c =
     let ins = Local c.args.stage in
     let props = apply [] c.args.props.now in
-    let by = last-new (seen_in last_stage) no_run c.args.p ins None props c.pop.new.self.items c.in-Some.content c.loop-content.contents.items
-    c.loop-content.invariant.inserts.fresh c.in-Some.ensures.items in
+    let by = last-new (seen_in last_stage) no_run c.args.p ins None props (contents_in c.pop.new.self) c.in-Some.content (contents_in c.loop-content.contents)
+    c.loop-content.invariant.inserts.fresh c.in-Some.ensures in
     record {
-      inserts = inserts-next (seen_in last_stage) no_run c.args.p ins None props (segment_contents c.args.seg.now) c.pop.new.self.items c.in-Some.content
-          c.loop-content.contents.items c.args.tree.now c.loop-content.tree c.insert_local.new.self c.loop-content.invariant.inserts c.in-Some.ensures.items
+      inserts = inserts-next (seen_in last_stage) no_run c.args.p ins None props (segment_contents c.args.seg.now) (contents_in c.pop.new.self) c.in-Some.content
+          (contents_in c.loop-content.contents) c.args.tree.now c.loop-content.tree c.insert_local.new.self c.loop-content.invariant.inserts c.in-Some.ensures
           (λ e h. refl) c.in_ok-insert_local.ensures.inside
           (puts-made (seen_in last_stage) no_run c.args.p ins None props (text_units c.in-Some.content) c.loop-content.tree c.insert_local.new.self
           (puts-by (seen_in last_stage) no_run c.args.p ins props (text_units c.in-Some.content) c.loop-content.tree c.insert_local.new.self by c.in_ok-insert_local.ensures.elements)
           c.in_ok-insert_local.ensures.refs c.in_ok-insert_local.ensures.rest c.in_ok-insert_local.ensures.made);
-      reads = reads-next (segment_contents c.args.seg.now) c.pop.new.self.items c.loop-content.contents.items c.in-Some.content c.args.tree.now c.loop-content.tree
-          c.insert_local.new.self c.args.steps.now c.loop-content.steps c.insert_local.new.steps c.loop-content.invariant.reads c.in-Some.ensures.items
+      reads = reads-next (segment_contents c.args.seg.now) (contents_in c.pop.new.self) (contents_in c.loop-content.contents) c.in-Some.content c.args.tree.now c.loop-content.tree
+          c.insert_local.new.self c.args.steps.now c.loop-content.steps c.insert_local.new.steps c.loop-content.invariant.reads c.in-Some.ensures
           c.in_ok-insert_local.ensures.reads;
     }
 
 pub returns-clause-ok : goal.returns-clause-ok
 returns-clause-ok g c =
     inserts-done (seen_in last_stage) no_run c.args.p (Local c.args.stage) None (apply [] c.args.props.now)
-    (segment_contents c.args.seg.now) c.loop-content.contents.items c.args.tree.now c.loop-content.tree c.loop-content.invariant.inserts
-    (omega (arith, c.in_default.ensures.cases.0, c.loop-content.contents.ok.0))
+    (segment_contents c.args.seg.now) (contents_in c.loop-content.contents) c.args.tree.now c.loop-content.tree c.loop-content.invariant.inserts
+    (ap length c.in_default.ensures)
 
 pub returns-clause-reads : goal.returns-clause-reads
 returns-clause-reads g c = c.loop-content.invariant.reads.after

@@ -8,6 +8,7 @@ use Rattle.ft_tree_leaves.specs.declared.text.TextPiece.TheVariants.{Run}
 use Rattle.ft_tree_leaves.specs.TextLeaves.{new_text, text_units}
 use Rattle.ft_tree_leaves.specs.TextRuns.{longest_run}
 use Rattle.ft_props.specs.Element.{Character}
+use Rattle.ft_string.specs.Contents.{contents_in}
 use Rattle.ft_string.proofs.RunsSoFar.{RunsSoFar, next-run}
 use Rattle.ft_string.proofs.contents.runs_of.Goals as goal
 
@@ -65,13 +66,13 @@ loop-rest-preserved c =
     let front = run-characters bs c.range.result.now c.run_end-at.result c.range.ensures.value c.run_end-at.ensures.front in
     let rear : chars c.range_from-rest.result.now ≡ drop longest_run (chars bs) = ap chars c.range_from-rest.ensures.value ∙ c.run_end-at.ensures.rear in (
       c.range_from-rest.utf8,
-      next-cut (chars c.args.text.now) (chars bs) (chars c.range.result.now) (chars c.range_from-rest.result.now) c.loop-rest.contents.items c.push.new.self.items
-          c.in_ok-run.field-0 c.loop-rest.invariant.1 some front rear c.in_ok-run.ensures c.in_ok-push.ensures.items,
+      next-cut (chars c.args.text.now) (chars bs) (chars c.range.result.now) (chars c.range_from-rest.result.now) (contents_in c.loop-rest.contents) (contents_in c.push.new.self)
+          c.in_ok-run.field-0 c.loop-rest.invariant.1 some front rear c.in_ok-run.ensures c.in_ok-push.ensures,
     )
 
 pub returns-clause-units : goal.returns-clause-units
 returns-clause-units c =
     let none_left : length c.loop-rest.rest.now ≡ 0 = search rules in
     let none = no_character c.loop-rest.rest.now none_left in
-    let so_far = flat_map text_units c.loop-rest.contents.items in
+    let so_far = flat_map text_units (contents_in c.loop-rest.contents) in
     sym (append-nil so_far) ∙ ap (λ cs. so_far ++ map Character cs) (sym none) ∙ c.loop-rest.invariant.1.units

@@ -1,26 +1,20 @@
-use Rattle.std.proofs.Common.{IsTrue, ◌∙◌, ap, arith, flat_map, subst, sym}
-use Rattle.std.proofs.lemmas.List.{nil_from_length}
+use Rattle.std.proofs.Common.{◌∙◌, ◌++◌, IsTrue, ap, flat_map, option_to_list, subst, sym}
 use Rattle.ft_tree_leaves.specs.TextLeaves.{text_units}
-use Rattle.ft_string.proofs.Appended.{appends-none, content-next, contents-done}
+use Rattle.ft_msg.specs.Summary.{segment_bodies}
+use Rattle.ft_string.proofs.Appended.{with-last, without-last}
 use Rattle.ft_string.proofs.summaries.append.Goals as goal
 
-pub loop-content-init : goal.loop-content-init
-loop-content-init c = record {
-  appends = appends-none c.args.tree.now;
-  all = ap (flat_map text_units) c.into_iter-content-iterator.ensures.into_iter_gives.0 ∙ c.in_ok-contents.ensures.units ∙ c.in_ok-segment_of.ensures;
-}
-
-pub loop-content-preserved : goal.loop-content-preserved
-loop-content-preserved c =
-    content-next c.args.seg.now c.loop-content.yielded c.in-Some.content c.loop-content.content-iterator.rest.items c.next.new.self.rest.items c.args.tree.now c.loop-content.tree
-    c.append_content.new.tree c.in-Some.ensures.steps.0 c.loop-content.invariant c.in_ok-append_content.ensures
-
 pub append_content-requires : goal.append_content-requires
-append_content-requires c = subst (λ b. IsTrue b) (sym c.loop-content.invariant.appends.rest.usable) c.requires
+append_content-requires c = subst (λ b. IsTrue b) (sym c.in_ok-append_contents.ensures.rest.usable) c.requires
 
--- what was gone over are all contents
-pub returns : goal.returns
-returns c =
-    let rest = c.loop-content.content-iterator.rest in
-    contents-done c.args.seg.now c.loop-content.yielded rest.items c.args.tree.now c.loop-content.tree
-    (nil_from_length rest.items (omega (arith, c.in-None.ensures.steps.0, rest.ok.0))) c.loop-content.invariant
+pub returns-in-Some : goal.returns-in-Some
+returns-in-Some c =
+    let before = c.in_ok-before.field-0.before.items in
+    with-last c.append_content.result c.args.seg.now (segment_bodies c.args.seg.now.body) before c.in-Some.content c.args.tree.now c.append_contents.new.tree c.append_content.new.tree
+    (ap (λ o. flat_map text_units (before ++ option_to_list o)) (sym c.in-Some.is) ∙ c.in_ok-before.ensures) c.in_ok-append_contents.ensures c.append_content.ensures
+
+pub returns-in-None : goal.returns-in-None
+returns-in-None c =
+    let before = c.in_ok-before.field-0.before.items in
+    without-last c.args.seg.now (segment_bodies c.args.seg.now.body) before c.args.tree.now c.append_contents.new.tree
+    (ap (λ o. flat_map text_units (before ++ option_to_list o)) (sym c.in-None.is) ∙ c.in_ok-before.ensures) c.in_ok-append_contents.ensures
