@@ -112,12 +112,12 @@ module _ (s : TreeOwn) (entry : Entry) (count : ℕ) (known : HoldsOne HoldsTree
       }
 
   -- ---- and after it
-  pub own-acked : (own left : List OwnStage) (before mid new : TreeOwn) → before ≡ record s { stages = before.stages } → before.stages.items ≡ left → own ≡ take count s.stages.items → left ≡ drop count s.stages.items
-      → AcksPart own entry.msg.seq entry.origin before mid → new ≡ record mid { numbers = new.numbers }
+  pub own-acked : (own : List OwnStage) (before mid new : TreeOwn) → before ≡ record s { stages = before.stages } → own ≡ take count s.stages.items
+      → new.stages.items ≡ drop count s.stages.items → AcksPart own entry.msg.seq entry.origin before mid → new ≡ record mid { stages = new.stages; numbers = new.numbers }
       → new.numbers ≡ record mid.numbers { number = entry.msg.seq; minimum = entry.msg.min }
       → (held : HeldDocument) (mine rest : List Stage) → NamesFit held → held.stages ≡ mine ++ rest → length mine ≡ count → HoldsTree s held
       → HoldsTree new (acknowledged entry mine rest held)
-  own-acked own left before mid new b m o l (acks_text h f k same) u numbers held mine rest named parts counted holds =
+  own-acked own before mid new b o l (acks_text h f k same) u numbers held mine rest named parts counted holds =
       let front = taken-are s.stages.items held.stages mine rest count holds.stages parts counted in
       let behind = left-are s.stages.items held.stages mine rest count holds.stages parts counted in
       let on = text-parts mine (subst (λ ts. list_all (λ (t : OwnStage). is_text_part t.part) ts ≡ true) (o ∙ front) h) in
@@ -126,7 +126,7 @@ module _ (s : TreeOwn) (entry : Entry) (count : ℕ) (known : HoldsOne HoldsTree
       let acked = f held.last held.doc mine rest
       (subst (λ ts. AreOldest 1 (1 + last_from 0 ts) mine rest) (sym (o ∙ front)) (are-oldest held.last mine rest (subst (λ ts. RiseTo 0 held.last ts) parts named.rise) on))
       (subst (λ ts. IsTextSound held.last held.doc ts) parts sound) (subst (λ t. HoldsText t held.doc (mine ++ rest)) (sym (ap (λ (x : TreeOwn). x.text) b)) (subst (λ ts. HoldsText s.text held.doc ts) parts holds.text)) in
-      text-acked s new held named holds entry mine rest parts (ap (λ (x : TreeOwn). x.stages.items) u ∙ ap (λ (x : TreeOwn). x.stages.items) same ∙ m ∙ l ∙ behind)
+      text-acked s new held named holds entry mine rest parts (l ∙ behind)
       (numbers ∙ ap (λ (x : TreeOwn). record x.numbers { number = entry.msg.seq; minimum = entry.msg.min }) same ∙ ap (λ (x : TreeOwn). record x.numbers { number = entry.msg.seq; minimum = entry.msg.min }) b) on
       (record {
         marks = rows-marks known.start p known.made s known.low known.document held named holds;
@@ -139,7 +139,7 @@ module _ (s : TreeOwn) (entry : Entry) (count : ℕ) (known : HoldsOne HoldsTree
       (subst (λ t. HoldsAcked t entry.msg.seq entry.origin mine rest held.doc) (sym text) acked)
       (subst (KeepsText s.text) (sym text) (subst (λ t. KeepsText t mid.text) (ap (λ (x : TreeOwn). x.text) b) k))
       (ap (λ (x : TreeOwn). x.table) u ∙ ap (λ (x : TreeOwn). x.table) same ∙ ap (λ (x : TreeOwn). x.table) b)
-  own-acked own left before mid new b m o l (acks_grid h f k same) u numbers held mine rest named parts counted holds =
+  own-acked own before mid new b o l (acks_grid h f k same) u numbers held mine rest named parts counted holds =
       let front = taken-are s.stages.items held.stages mine rest count holds.stages parts counted in
       let behind = left-are s.stages.items held.stages mine rest count holds.stages parts counted in
       let on = grid-parts mine (subst (λ ts. list_all (λ (t : OwnStage). is_grid_part t.part) ts ≡ true) (o ∙ front) h) in
@@ -148,7 +148,7 @@ module _ (s : TreeOwn) (entry : Entry) (count : ℕ) (known : HoldsOne HoldsTree
       let acked = f held.last held.doc mine rest (sym (o ∙ front)) (subst (λ ts. AreWellNamed held.last held.doc ts) parts named)
       (counted-front held.doc mine rest (subst (AreCounted held.doc) parts (held-counted known.start p known.made s known.low known.document held named holds)))
       (subst (λ g. HoldsGrid g held.doc (mine ++ rest)) (sym (ap (λ (x : TreeOwn). x.table) b)) (subst (λ ts. HoldsGrid s.table held.doc ts) parts holds.table)) in
-      grid-acked s new held named holds entry mine rest parts (ap (λ (x : TreeOwn). x.stages.items) u ∙ ap (λ (x : TreeOwn). x.stages.items) same ∙ m ∙ l ∙ behind)
+      grid-acked s new held named holds entry mine rest parts (l ∙ behind)
       (numbers ∙ ap (λ (x : TreeOwn). record x.numbers { number = entry.msg.seq; minimum = entry.msg.min }) same ∙ ap (λ (x : TreeOwn). record x.numbers { number = entry.msg.seq; minimum = entry.msg.min }) b) on sound
       (subst (λ g. HoldsAckedGrid g entry.msg.seq entry.origin mine rest held.doc) (sym table) acked)
       (subst (KeepsGrid s.table) (sym table) (subst (λ g. KeepsGrid g mid.table) (ap (λ (x : TreeOwn). x.table) b) k))

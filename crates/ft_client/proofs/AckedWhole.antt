@@ -316,20 +316,14 @@ pub last-none : (ts : List OwnStage) → slice_get ts (length ts - 1) ≡ None �
 last-none [] e = refl
 last-none (u ∷ us) e = absurd (none-last (length us) (u ∷ us) refl (sym (ap (slice_get (u ∷ us)) (less-one (length us))) ∙ e))
 
--- the next one taken off too
-off-next : (xs : List OwnStage) (i : ℕ) (t : OwnStage) (ys : List OwnStage) → drop i xs ≡ t ∷ ys → (take (suc i) xs ≡ take i xs ++ t ∷ []) × (drop (suc i) xs ≡ ys)
+-- the next one dropped too
+off-next : (xs : List OwnStage) (i : ℕ) (t : OwnStage) (ys : List OwnStage) → drop i xs ≡ t ∷ ys → drop (suc i) xs ≡ ys
 off-next [] zero t ys e = (cc)
 off-next [] (suc i) t ys e = (cc)
-off-next (x ∷ xs) zero t ys e =
-    let first : x ≡ t = (cc) in
-    let rest : xs ≡ ys = (cc) in
-    (ap (λ y. y ∷ []) first, rest)
-off-next (x ∷ xs) (suc i) t ys e =
-    let r = off-next xs i t ys e in
-    (ap (λ zs. x ∷ zs) r.0, r.1)
+off-next (x ∷ xs) zero t ys e = let rest : xs ≡ ys = (cc) in rest
+off-next (x ∷ xs) (suc i) t ys e = off-next xs i t ys e
 
-pub next-off : (xs : List OwnStage) (i : ℕ) (t : OwnStage) (ys : List OwnStage) → drop i xs ≡ t ∷ ys → (take (i + 1) xs ≡ take i xs ++ t ∷ []) × (drop (i + 1) xs ≡ ys)
+pub next-off : (xs : List OwnStage) (i : ℕ) (t : OwnStage) (ys : List OwnStage) → drop i xs ≡ t ∷ ys → drop (i + 1) xs ≡ ys
 next-off xs i t ys e =
     let up : i + 1 ≡ suc i = omega arith in
-    let r = off-next xs i t ys e in
-    (ap (λ n. take n xs) up ∙ r.0, ap (λ n. drop n xs) up ∙ r.1)
+    ap (λ n. drop n xs) up ∙ off-next xs i t ys e

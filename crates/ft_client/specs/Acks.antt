@@ -1,5 +1,5 @@
 -- The acknowledgement of stages of one part. No public clause cites this module.
-use Rattle.std.specs.Prelude.{◌≡◌, ℕ, true, ◌+◌, List, [], ◌∷◌, ◌++◌, map}
+use Rattle.std.specs.Prelude.{◌≡◌, ℕ, true, false, ◌+◌, List, [], ◌∷◌, ◌++◌, map}
 use Rattle.std.specs.List.{AllByRecursion, list_all}
 use Rattle.ft_props.specs.Element.{ElementId}
 use Rattle.ft_op.specs.Document.{Document}
@@ -7,7 +7,7 @@ use Rattle.ft_op.specs.Stages.{Stage}
 use Rattle.ft_msg.specs.Acknowledgement.{ack_stages, renamed_stage}
 use Rattle.ft_laws_names.specs.GridFacts.{AreCounted, IsCounted}
 use Rattle.ft_laws_names.specs.WellNamed.{AreWellNamed}
-use Rattle.ft_string.specs.Calls.{AreOldest, HoldsAcked}
+use Rattle.ft_string.specs.Calls.{AreOldest, HoldsAcked, HoldsOldest}
 use Rattle.ft_string.specs.Holds.{HoldsText, IsTextSound}
 use Rattle.ft_string.specs.State.{KeepsRest as KeepsText, TextState}
 use Rattle.ft_matrix.specs.Conditions.{KeepsRest as KeepsGrid}
@@ -37,6 +37,12 @@ pub record HoldsFrontGrid (last : ℕ) (own : List OwnStage) (s : GridState) : T
   pub named : AreWellNamed last doc (mine ++ rest)
   pub counted : AreCounted doc mine
   pub holds : HoldsGrid s doc (mine ++ rest)
+
+-- they are the first ones of a text and a table, and all of the text or all of the grid
+pub record IsFrontOfOne (own : List OwnStage) (text : TextState) (table : GridState) : Type 0 where
+  pub of_one : list_all (λ t. is_text_part t.part) own ≡ false → list_all (λ t. is_grid_part t.part) own ≡ true
+  pub of_text : list_all (λ t. is_text_part t.part) own ≡ true → (last : ℕ) × HoldsOldest last 1 (1 + last_from 0 own) text
+  pub of_grid : list_all (λ t. is_grid_part t.part) own ≡ true → (last : ℕ) × HoldsFrontGrid last own table
 
 -- some of the stages are acknowledged, and these are left: then acknowledging them makes what acknowledging all makes
 pub record AcksSome (last s c : ℕ) (g : GridState) (doc : Document) (mine left rest : List Stage) : Type 0 where

@@ -1,6 +1,6 @@
 //! The acknowledgement of the client's own messages.
 
-ghost use Rattle.std.specs.Prelude.{◌≡◌, ◌∷◌, [], All, ◌≤◌, ◌+◌, ◌++◌, ℕ, IfOk, IsTrue, List, None, OnOk, drop, false, length, map, take, true};
+ghost use Rattle.std.specs.Prelude.{◌≡◌, ◌∷◌, [], All, ◌≤◌, ◌++◌, ℕ, IsTrue, List, None, OnOk, drop, length, map, take, true};
 ghost use Rattle.std.specs.List.{list_all};
 ghost use Rattle.ft_op.specs.Stages.{Stage};
 ghost use Rattle.ft_op.specs.Document.{Document};
@@ -11,10 +11,9 @@ ghost use Rattle.ft_laws_names.specs.GridFacts.{AreCounted};
 ghost use Rattle.ft_laws_names.specs.WellNamed.{AreWellNamed};
 ghost use Rattle.ft_replica.specs.Own.{HeldDocument, HoldsOne, NamesFit, acknowledged, oldest_stages};
 ghost use Rattle.ft_matrix.specs.HoldsGrid.{HoldsGrid};
-ghost use Rattle.ft_string.specs.Calls.{HoldsOldest};
-ghost use Rattle.ft_client.specs.Acks.{AcksPart, HoldsAckedGrid, HoldsFrontGrid, last_from};
+ghost use Rattle.ft_client.specs.Acks.{AcksPart, HoldsAckedGrid, HoldsFrontGrid, IsFrontOfOne, last_from};
 ghost use Rattle.ft_client.specs.Holds.{HoldsTree};
-ghost use Rattle.ft_client.specs.Parts.{is_grid_part, is_text_part, own_stage};
+ghost use Rattle.ft_client.specs.Parts.{is_text_part, own_stage};
 ghost use Rattle.ft_matrix.specs.Conditions.{KeepsRest as KeepsGrid};
 
 use crate::own::TreeOwn;
@@ -23,8 +22,8 @@ use crate::stages::{OwnStage, Part};
 use ft_base::OutOfMemory;
 use ft_matrix::SharedMatrix;
 use ft_msg::Entry;
-use std::alloc::Global;
 use std::collections::VecDeque;
+use std::mem;
 
 impl TreeOwn {
     /// Takes the client's own message: its first `count` stages, those of its oldest edit, become sequenced.
@@ -34,10 +33,37 @@ impl TreeOwn {
         ensures { (held : HeldDocument) (own rest : List Stage) → NamesFit held → held.stages ≡ own ++ rest → length own ≡ count → HoldsTree self.old held
             → OnOk result (HoldsTree self.new (acknowledged entry.now own rest held)) }
     {
-        let own = take_front(self.text.allocator(), &mut self.stages, count)?;
-        self.ack_own(own.as_slice(), entry)?;
+        let none = VecDeque::new(self.text.allocator());
+        let mut stages = mem::replace(&mut self.stages, none);
+        self.ack_front(&mut stages, count, entry)?;
+        drop_front(&mut stages, count);
+        self.stages = stages;
         self.numbers.take(entry);
         Ok(())
+    }
+
+    // Acknowledges the first `count` of these stages. They are moved only where those `count` don't stand side by side in memory.
+    fn ack_front(
+        &mut self,
+        stages: &mut VecDeque<OwnStage>,
+        count: usize,
+        entry: &Entry,
+    ) -> Result<(), OutOfMemory>
+        requires enough { count ≤ length stages.old.items }
+        requires text_usable { self.old.text.usable ≡ true }
+        requires table_usable { self.old.table.usable ≡ true }
+        requires text_given { self.old.text.given ≡ 0 }
+        requires table_given { self.old.table.given ≡ 0 }
+        requires front { IsFrontOfOne (take count stages.old.items) self.old.text self.old.table }
+        ensures acks { OnOk result (AcksPart (take count stages.old.items) entry.now.msg.seq entry.now.origin self.old self.new) }
+        ensures stages { stages.new.items ≡ stages.old.items }
+    {
+        let (first, _) = stages.as_slices();
+        if count <= first.len() {
+            return self.ack_own(&first[..count], entry);
+        }
+        let all: &[OwnStage] = stages.make_contiguous();
+        self.ack_own(&all[..count], entry)
     }
 
     // Acknowledges these stages, which are the lowest, and all of the text or all of the grid.
@@ -46,9 +72,7 @@ impl TreeOwn {
         requires table_usable { self.old.table.usable ≡ true }
         requires text_given { self.old.text.given ≡ 0 }
         requires table_given { self.old.table.given ≡ 0 }
-        requires of_one { list_all (λ t. is_text_part t.part) own.now ≡ false → list_all (λ t. is_grid_part t.part) own.now ≡ true }
-        requires of_text { list_all (λ t. is_text_part t.part) own.now ≡ true → (last : ℕ) × HoldsOldest last 1 (1 + last_from 0 own.now) self.old.text }
-        requires of_grid { list_all (λ t. is_grid_part t.part) own.now ≡ true → (last : ℕ) × HoldsFrontGrid last own.now self.old.table }
+        requires front { IsFrontOfOne own.now self.old.text self.old.table }
         ensures { OnOk result (AcksPart own.now entry.now.msg.seq entry.now.origin self.old self.new) }
     {
         if are_of_text(own) {
@@ -70,21 +94,14 @@ fn last_number(stages: &[OwnStage]) -> u64
     }
 }
 
-// Takes the first `count` stages off.
-fn take_front(
-    alloc: Global,
-    stages: &mut VecDeque<OwnStage>,
-    count: usize,
-) -> Result<Vec<OwnStage>, OutOfMemory>
+// Drops the first `count` stages.
+fn drop_front(stages: &mut VecDeque<OwnStage>, count: usize)
     requires { count ≤ length stages.old.items }
-    ensures own { IfOk result (λ own. own.items ≡ take count stages.old.items) }
-    ensures rest { OnOk result (stages.new.items ≡ drop count stages.old.items) }
+    ensures { stages.new.items ≡ drop count stages.old.items }
 {
-    let mut own = Vec::new(alloc);
     for _i in 0..count {
-        own.push(take_next(stages))?;
+        take_next(stages);
     }
-    Ok(own)
 }
 
 // Whether all stages are of the text.

@@ -5,10 +5,10 @@ use Rattle.ft_client.proofs.own.TreeOwn.ack_own.Goals as goal
 
 pub ack-requires-clause-held : goal.ack-requires-clause-held
 ack-requires-clause-held c =
-    subst (λ n. (last : ℕ) × HoldsOldest last 1 (1 + n) c.args.self.now.text) (sym c.last_number.ensures) (c.requires.of_text (sym c.are_of_text.ensures ∙ c.if-are_of_text.true))
+    subst (λ n. (last : ℕ) × HoldsOldest last 1 (1 + n) c.args.self.now.text) (sym c.last_number.ensures) (c.requires.front.of_text (sym c.are_of_text.ensures ∙ c.if-are_of_text.true))
 
 pub ack_table-requires-clause-held : goal.ack_table-requires-clause-held
-ack_table-requires-clause-held c = c.requires.of_grid (c.requires.of_one (sym c.are_of_text.ensures ∙ c.if-are_of_text.false))
+ack_table-requires-clause-held c = c.requires.front.of_grid (c.requires.front.of_one (sym c.are_of_text.ensures ∙ c.if-are_of_text.false))
 
 pub returns-then-are_of_text : goal.returns-then-are_of_text
 returns-then-are_of_text c =
@@ -21,5 +21,5 @@ pub returns-else-are_of_text : goal.returns-else-are_of_text
 returns-else-are_of_text c =
     let s = c.args.self.now in
     on-grid c.ack_table.result c.args.own.now c.args.entry.now.msg.seq c.args.entry.now.origin s (record c.args.self.now { table = c.ack_table.new.table })
-    (c.requires.of_one (sym c.are_of_text.ensures ∙ c.if-are_of_text.false))
+    (c.requires.front.of_one (sym c.are_of_text.ensures ∙ c.if-are_of_text.false))
     (λ last doc mine rest n w a t. c.ack_table.ensures.acked last doc mine rest n w a t) c.ack_table.ensures.rest refl
