@@ -16,6 +16,7 @@ use Rattle.ft_laws_agreement.proofs.CompactedScans.{Alike, len-kept}
 use Rattle.ft_laws_compaction.specs.Free.{AreFree}
 use Rattle.ft_msg.specs.Answers.{count_held}
 use Rattle.ft_msg.specs.Client.{NaiveClient, floor, stages_of}
+use Rattle.ft_msg.proofs.ReplicaStarts.{keeps-itself}
 use Rattle.ft_laws_names.specs.WellNamed.{IsWellNamed}
 use Rattle.ft_replica.specs.Own.{Compacts, HoldsOne, held_by}
 use Rattle.ft_string.specs.Calls.{CompactsText, HoldsFree, is_held}
@@ -65,6 +66,31 @@ module _ (s : TreeOwn) (seq : ℕ) (known : HoldsOne HoldsTree s (λ p. floor p 
     pub free-of : AreFree seq (is_held p.doc (stages_of p)) p.doc.text.items
     free-of = subst (λ n. AreFree n (is_held p.doc (stages_of p)) p.doc.text.items) known.fits
         (held-free known.start known.client known.made s known.low known.document (held_by low p) named h)
+
+  -- a document that is left as it is
+  pub itself : (low : ℕ) (p : NaiveClient) → floor p ≡ seq → HoldsTree s (held_by low p) → Compacts HoldsTree s p
+  itself low p e h = record {
+    fewer = p.doc;
+    keeps = (keeps-itself p).doc;
+    cells = λ row col a b. refl;
+    document = record {
+      text = h.text;
+      table = h.table;
+      stages = h.stages;
+      numbers = h.numbers;
+      settled = record {
+        text = h.settled.text;
+        table = h.settled.table;
+        text_given = h.settled.text_given;
+        table_given = h.settled.table_given;
+        text_floor = below known.document.settled.text_floor;
+        table_floor = below known.document.settled.table_floor;
+      };
+    };
+  }
+    where
+      below : {n : ℕ} → n ≤ known.low → n ≤ floor p
+      below f = let above = known.above in let at = known.fits in omega (arith, f, above, at, e)
 
 -- ---- the whole
 

@@ -21,8 +21,12 @@ use std::collections::VecDeque;
 use std::marker::Brand;
 use std::sync::ledger::{Blank, Ledger};
 
-/// How many leaves of each list a tidying looks at.
-const TIDIED: u64 = 2;
+/// By how many sequence numbers the floor rises from one tidying to the next at least: a tidying costs much besides its looks at
+/// leaves, and sixteen numbers share that.
+const TIDYING_STEP: u64 = 16;
+
+/// At how many leaves of each list a tidying looks: two for each of those numbers.
+const TIDIED: u64 = 2 * TIDYING_STEP;
 
 /// A text, a table, the pending stages in order, and the numbers of a document.
 #[derive(Drop)]
@@ -144,6 +148,10 @@ impl OwnDocument for TreeOwn {
     }
 
     fn tidy(&mut self, seq: u64) -> Result<(), OutOfMemory> {
+        // The floor that the text keeps is that of the last tidying or compaction.
+        if seq.saturating_sub(self.text.floor()) < TIDYING_STEP {
+            return Ok(());
+        }
         self.text.tidy(seq, TIDIED)?;
         self.table.tidy(seq, TIDIED)
     }

@@ -1,7 +1,7 @@
 use Rattle.std.proofs.Common.{refl}
 use Rattle.ft_msg.specs.Client.{stages_of}
 use Rattle.ft_client.proofs.Answered.{three-ok}
-use Rattle.ft_client.proofs.Compacted.{are-free, compacted, free-of, holds-free, sound-of}
+use Rattle.ft_client.proofs.Compacted.{are-free, compacted, free-of, holds-free, itself, sound-of}
 use Rattle.ft_client.proofs.own.TreeOwnOwnDocument.tidy.Goals as goal
 
 pub tidy-requires-clause-held : goal.tidy-requires-clause-held
@@ -9,6 +9,9 @@ tidy-requires-clause-held c = (c.requires.client.last_stage, holds-free c.args.s
 
 pub tidy-requires-2-clause-free : goal.tidy-requires-2-clause-free
 tidy-requires-2-clause-free c = are-free c.args.self.now c.args.seq c.requires
+
+pub returns-then-saturating_sub-lt-TIDYING_STEP : goal.returns-then-saturating_sub-lt-TIDYING_STEP
+returns-then-saturating_sub-lt-TIDYING_STEP c = λ low p named e h. itself c.args.self.now c.args.seq c.requires low p e h
 
 pub returns : goal.returns
 returns c = λ low p named e h.
