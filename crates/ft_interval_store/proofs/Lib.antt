@@ -20,3 +20,4 @@ pub mod WrittenLists
 pub mod StandingEnds
 pub mod RisingLists
 pub mod Gathered
+pub mod AckedRecords

@@ -188,20 +188,25 @@ module _ (tree : TreeState TextContent) (k : ℕ) where
 
 module _ (tree : TreeState TextContent) where
   -- what is shown at the last stage
+  pub record-shown : (i : Interval ℕ) (j : Interval Place) → ShowsInterval tree last i j → record_at tree j ≡ shown_record (text_elements tree) i
+  record-shown i j h =
+      let xs = text_elements tree in
+      let label = h.label in
+      let id = h.id in
+      let props = h.props in
+      let first = ap (number_at xs last) h.ends.start.is in
+      let second = ap (number_at xs last) h.ends.end.is in
+      λ t. record { label = label t; id = id t; ends = record { start = first t; end = second t }; props = props t }
+
   pub records-shown : (is : List (Interval ℕ)) (js : List (Interval Place)) → ShowsAll tree last is js
       → map (record_at tree) js ≡ map (shown_record (text_elements tree)) is
   records-shown [] [] h = refl
   records-shown [] (j ∷ js) h = absurd h
   records-shown (i ∷ is) [] h = absurd h
   records-shown (i ∷ is) (j ∷ js) h =
-      let xs = text_elements tree in
+      let first = record-shown i j h.0 in
       let rest = records-shown is js h.1 in
-      let label = h.0.label in
-      let id = h.0.id in
-      let props = h.0.props in
-      let first = ap (number_at xs last) h.0.ends.start.is in
-      let second = ap (number_at xs last) h.0.ends.end.is in
-      λ t. record { label = label t; id = id t; ends = record { start = first t; end = second t }; props = props t } ∷ rest t
+      λ t. first t ∷ rest t
 
 -- ---- from stage to stage
 
@@ -215,7 +220,7 @@ module _ (tree : TreeState TextContent) (k m : ℕ) where
   pub rise-carried : (is js : List (Interval Place)) → AllZip (IsCarriedInterval tree k m) is js → NamesRise is → NamesRise js
   rise-carried is js h r = rise-alike (IsCarriedInterval tree k m) carried-name is js h r
 
-  carried-one : (i : Interval ℕ) (j x : Interval Place) → ShowsInterval tree k i j → IsCarriedInterval tree k m j x → ShowsInterval tree m (carried_interval elements_of k m i) x
+  pub carried-one : (i : Interval ℕ) (j x : Interval Place) → ShowsInterval tree k i j → IsCarriedInterval tree k m j x → ShowsInterval tree m (carried_interval elements_of k m i) x
   carried-one i j x s c = record {
     label = c.label ∙ s.label;
     id = c.id ∙ s.id;

@@ -15,20 +15,21 @@ use Rattle.ft_interval_store.specs.State.{text_elements}
 use Rattle.ft_interval_store.proofs.Removals.{last-stands}
 
 module _ (tree : TreeState TextContent) where
-  -- where no stage behind a up to m removes elements, all intervals stay as they are
+  -- where no stage behind a up to m removes elements, an interval stays as it is
+  pub one-stays : (a m : ℕ) → a ≤ m → until m (next_removal_above a (text_elements tree)) ≡ None → (i : Interval Place) → IsCarriedInterval tree a m i i
+  one-stays a m rises none i = record {
+    label = refl;
+    id = refl;
+    props = refl;
+    start = λ end s. last-stands tree a m end i.ends.start rises none s;
+    end = λ end s. last-stands tree a m end i.ends.end rises none s;
+  }
+
+  -- and so do all
   pub all-stay : (a m : ℕ) → a ≤ m → until m (next_removal_above a (text_elements tree)) ≡ None → (is : List (Interval Place))
       → AllZip (IsCarriedInterval tree a m) is is
   all-stay a m rises none [] = tt
-  all-stay a m rises none (i ∷ is) = (
-    record {
-      label = refl;
-      id = refl;
-      props = refl;
-      start = λ end s. last-stands tree a m end i.ends.start rises none s;
-      end = λ end s. last-stands tree a m end i.ends.end rises none s;
-    },
-    all-stay a m rises none is,
-  )
+  all-stay a m rises none (i ∷ is) = (one-stays a m rises none i, all-stay a m rises none is)
 
   -- ends that are shown stand on leaves
   pub shows-on : (k : ℕ) (i : Option (Interval ℕ)) (e : Option (EndPair Place)) → ShowsEnds tree k i e → IfSome e (AreOnTree tree)

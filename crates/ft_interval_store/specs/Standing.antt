@@ -3,14 +3,17 @@ use Rattle.std.specs.Prelude.{◌≡◌, ℕ, ◌-◌, List, Option, Some, None,
 use Rattle.std.specs.List.{AllZip}
 use Rattle.ft_sumdoc.specs.declared.summary.IntervalRec.{IntervalRec}
 use Rattle.ft_tree_leaves.specs.declared.text.TextContent.{TextContent}
+use Rattle.ft_tree_leaves.specs.Edits.{next_removal_above}
 use Rattle.ft_tree_leaves.specs.TextLeaves.{text_units}
 use Rattle.ft_tree_blocks.specs.LeafPlaces.{IsOnLeaf, place_on}
 use Rattle.ft_refs.specs.declared.numbers.Place.{Place}
 use Rattle.ft_tree.specs.State.{TreeState}
 use Rattle.ft_interval_store.specs.declared.intervals.EndPair.{EndPair}
 use Rattle.ft_interval_store.specs.declared.intervals.Interval.{Interval}
-use Rattle.ft_interval_store.specs.Shown.{carried_end, last, number_at, settled_end}
-use Rattle.ft_interval_store.specs.State.{text_elements}
+use Rattle.ft_interval_store.specs.Ends.{places_of_ends}
+use Rattle.ft_interval_store.specs.Numbers.{until}
+use Rattle.ft_interval_store.specs.Shown.{carried_end, carried_interval, last, number_at, settled_end, settled_interval, shown_record}
+use Rattle.ft_interval_store.specs.State.{text_elements, with_mapped_ends}
 
 module _ (tree : TreeState TextContent) where
   -- the place of the element in the whole list, none where the end is detached
@@ -83,3 +86,13 @@ module _ (tree : TreeState TextContent) where
         ends = record { start = number_at xs last (end_place i.ends.start); end = number_at xs last (end_place i.ends.end) };
         props = i.props;
       }
+
+  -- no stage removes an element
+  abbrev pub HasNoRemoval : Type 0
+  HasNoRemoval = until last (next_removal_above 0 (text_elements tree)) ≡ None
+
+  -- an acknowledged interval as it is shown where nothing is pending on it
+  unfoldable pub acked_record : Interval ℕ → IntervalRec
+  acked_record i =
+      let xs = text_elements tree in
+      shown_record xs (carried_interval xs 0 last (settled_interval xs 0 (with_mapped_ends (places_of_ends tree.refs) i)))

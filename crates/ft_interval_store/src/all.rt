@@ -1,14 +1,14 @@
 //! All intervals as they are shown.
 
-ghost use Rattle.std.specs.Prelude.{◌≡◌, ◌≤◌, ℕ, List, All, IsTrue, IfOk, OnOk, map};
+ghost use Rattle.std.specs.Prelude.{◌≡◌, ◌≤◌, ℕ, List, All, [], IsTrue, IfOk, OnOk, map};
 ghost use Rattle.std.specs.Ordering.{is_eq};
 ghost use Rattle.std.specs.List.{AllZip};
 ghost use Rattle.ft_interval_store.specs.declared.intervals.Interval.{Interval};
 ghost use Rattle.ft_interval_store.specs.Ends.{AreLiveEnds, map_ends, places_of_ends};
 ghost use Rattle.ft_interval_store.specs.Gathered.{Gathers, IsPartOf, is_on_any};
 ghost use Rattle.ft_interval_store.specs.Intervals.{after_operation, is_on, name_cmp};
-ghost use Rattle.ft_interval_store.specs.Shown.{carried, last, settled_end, settled_interval, shown_from, shown_record};
-ghost use Rattle.ft_interval_store.specs.Standing.{AreOnTree, HasPlaces, IsCarriedInterval, ShowsAll, ShowsInterval, record_at};
+ghost use Rattle.ft_interval_store.specs.Shown.{carried, last, settled_end, settled_interval, shown_from, shown_intervals, shown_record};
+ghost use Rattle.ft_interval_store.specs.Standing.{AreOnTree, HasNoRemoval, HasPlaces, IsCarriedInterval, ShowsAll, ShowsInterval, acked_record, record_at};
 ghost use Rattle.ft_interval_store.specs.State.{AreLiveIntervals, AreLiveOperations, StagesRise, placed_intervals, placed_operations, text_elements, with_mapped_ends};
 
 use crate::intervals::{Held, Interval, Intervals};
@@ -128,12 +128,11 @@ fn take_next(
 }
 
 // The interval as it is shown.
-fn record_at(tree: &Tree<TextContent>, i: Held<Place>) -> IntervalRec
+fn record_at(tree: &Tree<TextContent>, i: Interval<Place>) -> IntervalRec
     requires usable { IsTrue tree.now.usable }
     requires on_leaf { AreOnTree tree.now i.ends }
     ensures { result ≡ record_at tree.now i }
 {
-    let i = i.into_interval();
     let ends = shown_numbers(tree, i.ends);
     IntervalRec {
         label: i.label,
@@ -154,7 +153,45 @@ fn records(tree: &Tree<TextContent>, all: Intervals<Place>) -> Result<Vec<Interv
 {
     let mut records = Vec::new(all.allocator());
     for i in all.items {
-        records.push(record_at(tree, i))?;
+        records.push(record_at(tree, i.into_interval()))?;
+    }
+    Ok(records)
+}
+
+/// Whether nothing is pending on intervals and no stage removes elements, so that each is shown as it is acknowledged.
+pub fn is_at_rest(tree: &Tree<TextContent>, pending: &[Operation]) -> bool
+    requires usable { IsTrue tree.now.usable }
+    ensures { IsTrue result → (pending.now ≡ []) × HasNoRemoval tree.now }
+{
+    pending.is_empty() && removal_until(tree, 0, u64::MAX).is_none()
+}
+
+// The interval as it is shown where nothing is pending on it and no stage removes elements.
+fn acked_record(tree: &Tree<TextContent>, i: &Interval<RefId>) -> Result<IntervalRec, OutOfMemory>
+    requires usable { IsTrue tree.now.usable }
+    requires live { AreLiveEnds tree.now.refs i.now.ends }
+    requires still { HasNoRemoval tree.now }
+    ensures { IfOk result (λ r. r ≡ acked_record tree.now i.now) }
+{
+    let interval = placed(tree, i)?;
+    Ok(record_at(tree, interval))
+}
+
+/// The intervals as they are shown where nothing is pending on them and no stage removes elements.
+pub fn acked_records(
+    tree: &Tree<TextContent>,
+    acked: &Intervals<RefId>,
+) -> Result<Vec<IntervalRec>, OutOfMemory>
+    requires usable { IsTrue tree.now.usable }
+    requires live { AreLiveIntervals tree.now.refs acked.now }
+    requires still { HasNoRemoval tree.now }
+    ensures { let xs = text_elements tree.now in
+        IfOk result (λ all. all.items ≡ map (shown_record xs) (shown_intervals xs (placed_intervals tree.now.refs acked.now) [])) }
+{
+    let intervals = acked.as_slice();
+    let mut records = Vec::with_capacity(acked.allocator(), intervals.len())?;
+    for i in intervals {
+        records.push(acked_record(tree, i.get())?)?;
     }
     Ok(records)
 }

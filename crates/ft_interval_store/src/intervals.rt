@@ -198,7 +198,7 @@ impl<T> Held<T> {
 
 /// Where the interval that an operation is on was found, so that it is searched for only once.
 #[derive(Clone, Copy)]
-pub struct Found<T> {
+pub struct FoundInterval<T> {
     // Its place, or else, as an error, the place where it would stand.
     pub(crate) place: Result<usize, usize>,
     /// Its ends, none where it isn't there.
@@ -290,16 +290,16 @@ impl<T: Copy + Drop> Intervals<T> {
     }
 
     /// Where the interval that an operation is on stands, and its ends.
-    pub fn find(&self, op: &TextOp) -> Found<T>
+    pub fn find(&self, op: &TextOp) -> FoundInterval<T>
         ensures place { result.place ≡ place_of_operation op.now self.now }
         ensures ends { AreOwnEnds op.now self.now result.ends }
     {
         match self.place_of(op) {
-            Ok(i) => Found {
+            Ok(i) => FoundInterval {
                 place: Ok(i),
                 ends: self.items[i].ends(),
             },
-            Err(i) => Found {
+            Err(i) => FoundInterval {
                 place: Err(i),
                 ends: EndPair::none(),
             },

@@ -109,16 +109,45 @@ fn last_number(tree: &Tree<TextContent>, at: Option<Place>) -> Option<u64>
     Some(tree.number_at(&place, u64::MAX))
 }
 
-/// The ends as such numbers, -1 where they are detached.
+// Whether both are one element.
+fn is_same_place(first: &Place, second: &Place) -> bool
+    ensures { IsTrue result → first.now ≡ second.now }
+{
+    first.owner == second.owner && first.offset == second.offset
+}
+
+// Whether both ends are on one element.
+fn are_on_one(ends: &EndPair<Place>) -> bool
+    ensures { IsTrue result → ends.now.start ≡ ends.now.end }
+{
+    match (&ends.start, &ends.end) {
+        (Some(first), Some(second)) => is_same_place(first, second),
+        _ => false,
+    }
+}
+
+// The number of the second end, where the first one has that number.
+fn second_number(tree: &Tree<TextContent>, ends: &EndPair<Place>, first: Option<u64>) -> Option<u64>
+    requires usable { IsTrue tree.now.usable }
+    requires on_leaf { AreOnTree tree.now ends.now }
+    requires first { first ≡ number_of (text_elements tree.now) last (end_place tree.now ends.now.start) }
+    ensures { result ≡ number_of (text_elements tree.now) last (end_place tree.now ends.now.end) }
+{
+    if are_on_one(ends) {
+        return first;
+    }
+    last_number(tree, ends.end)
+}
+
+/// The ends as such numbers, -1 where they are detached. Where both are on one element, it goes up from its leaf once.
 pub fn shown_numbers(tree: &Tree<TextContent>, ends: EndPair<Place>) -> Ends
     requires usable { IsTrue tree.now.usable }
     requires on_leaf { AreOnTree tree.now ends }
     ensures { result ≡ numbers_at (text_elements tree.now) last (end_places tree.now ends) }
 {
-    ends_of_numbers(EndPair {
-        start: last_number(tree, ends.start),
-        end: last_number(tree, ends.end),
-    })
+    let start = last_number(tree, ends.start);
+    let end = second_number(tree, &ends, start);
+    ends_of_numbers(EndPair { start, end })
 }
 
 /// The number of the reference's element among those that the client sees, after all stages settled it one after another: -1 where

@@ -16,11 +16,13 @@ ghost use Rattle.ft_interval_store.specs.Shown.{last, numbers_at, regenerated, s
 ghost use Rattle.ft_interval_store.specs.Standing.{ShowsAll};
 ghost use Rattle.ft_interval_store.specs.State.{AreOwnEnds, IsAboveAll, IsAfter, IsAfterFirst, IsAsBefore, IsFirst, IsInOrder, IsLive, IsRefusedEdit, KeepsReferences, Pushes, first_operation, first_stage, is_add, is_at_stage, is_interval_operation, is_shown, operation_at, placed, placed_intervals, placed_operations, text_elements, with_effect, with_ends_at, with_first_acked};
 
-use crate::all::{add_named, first_places, places_of_pending, shown_behind};
+use crate::all::{
+    acked_records, add_named, first_places, is_at_rest, places_of_pending, shown_behind,
+};
 use crate::effects::take_effect;
 use crate::ends::{add_ends, drop_ends, given_ends_fit};
 use crate::faults::IntervalFault;
-use crate::intervals::{EndPair, Found, Intervals};
+use crate::intervals::{EndPair, FoundInterval, Intervals};
 use crate::numbers::{add_numbers, settled_numbers, with_numbers};
 use crate::pending::{Operation, given_ends, has_stage, is_add, place_of_stage, push_copy};
 use crate::shown::shown_ends;
@@ -149,7 +151,7 @@ impl Store {
     }
 
     /// Where the acknowledged interval that an operation is on stands, and its ends.
-    pub fn find(&self, op: &TextOp) -> Found<RefId>
+    pub fn find(&self, op: &TextOp) -> FoundInterval<RefId>
         ensures place { result.place ≡ place_of_operation op.now self.now.acked }
         ensures ends { AreOwnEnds op.now self.now.acked result.ends }
     {
@@ -167,7 +169,7 @@ impl Store {
         tree: &mut Tree<TextContent>,
         op: &TextOp,
         at: Perspective,
-        found: &Found<RefId>,
+        found: &FoundInterval<RefId>,
     ) -> Result<Option<EndPair<RefId>>, OutOfMemory>
         requires usable { IsTrue tree.old.usable }
         requires live { IsLive tree.old.refs self.old }
@@ -202,7 +204,7 @@ impl Store {
         &mut self,
         tree: &mut Tree<TextContent>,
         stage: u64,
-        found: &Found<RefId>,
+        found: &FoundInterval<RefId>,
     ) -> Result<AckedOperation, OutOfMemory>
         requires usable { IsTrue tree.old.usable }
         requires live { IsLive tree.old.refs self.old }
@@ -276,6 +278,9 @@ impl Store {
             let c = placed tree.now.refs self.now in
             IfOk result (λ all. all.items ≡ map (shown_record xs) (shown_intervals xs c.acked c.pending)) }
     {
+        if is_at_rest(tree, &self.pending) {
+            return acked_records(tree, &self.acked);
+        }
         shown_behind(tree, first_places(tree, &self.acked)?, &self.pending)
     }
 

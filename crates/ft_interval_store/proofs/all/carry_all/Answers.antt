@@ -1,10 +1,7 @@
-use Rattle.std.proofs.Common.{◌≡◌, ℕ, false, Option, Some, None, is_some, refl, sym, ◌∙◌}
+use Rattle.std.proofs.Common.{sym, ◌∙◌}
+use Rattle.ft_interval_store.proofs.AckedRecords.{none-there}
 use Rattle.ft_interval_store.proofs.StandingEnds.{all-stay}
 use Rattle.ft_interval_store.proofs.all.carry_all.Goals as goal
-
-none-there : (o : Option ℕ) → is_some o ≡ false → o ≡ None
-none-there None e = refl
-none-there (Some k) e = (cc)
 
 pub returns-then-is_none : goal.returns-then-is_none
 returns-then-is_none c =

@@ -4,7 +4,7 @@ use Rattle.std.proofs.lemmas.List.Elements.{All-head, All-tail}
 use Rattle.ft_sumdoc.specs.declared.summary.IntervalRec.{IntervalRec}
 use Rattle.ft_refs.specs.declared.numbers.Place.{Place}
 use Rattle.ft_interval_store.specs.declared.intervals.Interval.{Interval}
-use Rattle.ft_interval_store.specs.Standing.{HasPlaces, record_at}
+use Rattle.ft_interval_store.specs.Standing.{AreOnTree, HasPlaces, record_at}
 use Rattle.ft_interval_store.proofs.all.records.Goals as goal
 
 pub loop-i-init : goal.loop-i-init
@@ -21,7 +21,8 @@ pub record_at-requires-clause-on_leaf : goal.record_at-requires-clause-on_leaf
 record_at-requires-clause-on_leaf c =
     let tree = c.args.tree.now in
     let rest = c.next.new.self.rest.items in
-    All-head (HasPlaces tree) c.in-Some.i rest (subst (λ (is : List (Interval Place)). All (HasPlaces tree) is) c.in-Some.ensures.steps.0 c.loop-i.invariant.on_leaf)
+    subst (λ (i : Interval Place). AreOnTree tree i.ends) (sym c.into_interval.ensures)
+    (All-head (HasPlaces tree) c.in-Some.i rest (subst (λ (is : List (Interval Place)). All (HasPlaces tree) is) c.in-Some.ensures.steps.0 c.loop-i.invariant.on_leaf))
 
 pub loop-i-preserved : goal.loop-i-preserved
 loop-i-preserved c =
@@ -32,7 +33,7 @@ loop-i-preserved c =
     record {
       on_leaf = All-tail (HasPlaces tree) c.in-Some.i rest
           (subst (λ (is : List (Interval Place)). All (HasPlaces tree) is) c.in-Some.ensures.steps.0 c.loop-i.invariant.on_leaf);
-      made = ap (λ rs. rs ++ all rest) c.in_ok-push.ensures.items ∙ ap (λ r. (made ++ r ∷ []) ++ all rest) c.record_at.ensures
+      made = ap (λ rs. rs ++ all rest) c.in_ok-push.ensures.items ∙ ap (λ r. (made ++ r ∷ []) ++ all rest) (c.record_at.ensures ∙ ap (record_at tree) c.into_interval.ensures)
           ∙ append_assoc made (record_at tree c.in-Some.i ∷ []) (all rest) ∙ ap (λ is. made ++ all is) (sym c.in-Some.ensures.steps.0) ∙ c.loop-i.invariant.made;
     }
 

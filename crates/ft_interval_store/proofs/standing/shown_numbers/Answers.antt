@@ -10,6 +10,6 @@ pub returns : goal.returns
 returns c =
     let tree = c.args.tree.now in
     let xs = text_elements tree in
-    let first = ap number_or_none c.last_number.ensures ∙ number-shown xs last (end_place tree c.args.ends.start) in
-    let second = ap number_or_none c.last_number-2.ensures ∙ number-shown xs last (end_place tree c.args.ends.end) in
+    let first = ap number_or_none c.last_number-start.ensures ∙ number-shown xs last (end_place tree c.args.ends.start) in
+    let second = ap number_or_none c.second_number-end.ensures ∙ number-shown xs last (end_place tree c.args.ends.end) in
     c.ends_of_numbers.ensures ∙ (λ t. record { start = first t; end = second t })
