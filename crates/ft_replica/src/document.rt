@@ -227,7 +227,7 @@ pub trait OwnDocument: Sized + Drop {
         ensures compacts { (low : ℕ) (p : NaiveClient) → IsWellNamed p → floor p ≡ seq → holds self.old (held_by low p) → OnOk result (Compacts holds self.new p) }
         ensures full { IsTrue COMPACTS → OnOk result (HasNoTombstone seq (shown self.new).content) };
 
-    /// Takes away some of them, which needs little time: called again and again, all of them.
+    /// May take away some of them, little by little as messages raise the floor.
     fn tidy(&mut self, seq: u64) -> Result<(), OutOfMemory>
         requires { HoldsOne holds self.old (λ p. floor p ≡ seq) }
         ensures { (low : ℕ) (p : NaiveClient) → IsWellNamed p → floor p ≡ seq → holds self.old (held_by low p) → OnOk result (Compacts holds self.new p) };
