@@ -5,6 +5,7 @@ ghost use Rattle.ft_base.specs.Texts.{IsText};
 
 use crate::lists::Datum;
 use crate::memory::OutOfMemory;
+use crate::small_strings::SmallString;
 use std::alloc::Global;
 use std::marker::Model;
 
@@ -12,15 +13,15 @@ use std::marker::Model;
 /// number). Names, labels, ids and keys are texts too.
 #[derive(Drop)]
 pub struct Text {
-    text: String,
+    text: SmallString,
 }
 
 impl Model for Text {
-    ghost use Rattle.std.specs.Prelude.{List, ℕ, chars, string_bytes};
+    ghost use Rattle.std.specs.Prelude.{List, ℕ, chars};
 
     ghost Value = { List ℕ };
 
-    ghost view = { λ a. chars (string_bytes a.text) };
+    ghost view = { λ a. chars a.text };
 }
 
 impl Text {
@@ -29,7 +30,7 @@ impl Text {
         ensures { IfOk result (λ copy. copy ≡ chars text.now) }
     {
         Ok(Text {
-            text: String::from_str(alloc, text)?,
+            text: SmallString::new(alloc, text)?,
         })
     }
 
@@ -37,7 +38,9 @@ impl Text {
     pub fn from_string(text: String) -> Text
         ensures { result ≡ chars (string_bytes text) }
     {
-        Text { text }
+        Text {
+            text: SmallString::from_string(text),
+        }
     }
 
     /// The characters, as a string slice.
@@ -53,11 +56,11 @@ impl Text {
 impl Datum for Text {
     fn copy(&self) -> Result<Text, OutOfMemory> {
         Ok(Text {
-            text: self.text.clone()?,
+            text: self.text.copy()?,
         })
     }
 
     fn same(&self, other: &Text) -> bool {
-        self.text == other.text
+        self.as_str() == other.as_str()
     }
 }

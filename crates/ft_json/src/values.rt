@@ -8,7 +8,7 @@ ghost use Rattle.ft_json.specs.Bounds.{read_levels};
 ghost use Rattle.ft_json.specs.Canonical.{IsCanonical, IsCanonicalText, IsTextWithin, value_of};
 ghost use Rattle.ft_json.specs.Reading.{whole_within};
 
-use ft_base::{Datum, OutOfMemory};
+use ft_base::{Datum, OutOfMemory, SmallString};
 use serde_json::Value;
 use std::alloc::Global;
 use std::marker::Model;
@@ -19,18 +19,18 @@ use std::marker::Model;
 /// are whole numbers from -9223372036854775808 to 18446744073709551615.
 #[derive(Drop)]
 pub struct ValText {
-    text: String,
+    text: SmallString,
 }
 
 impl Model for ValText {
-    ghost use Rattle.std.specs.Prelude.{List, ℕ, string_bytes};
+    ghost use Rattle.std.specs.Prelude.{List, ℕ};
     ghost use Rattle.ft_json.specs.Canonical.{IsCanonicalText};
 
     ghost Value = { List ℕ };
 
-    ghost view = { λ a. string_bytes a.text };
+    ghost view = { λ a. a.text };
 
-    ghost invariant = { λ a. IsCanonicalText (string_bytes a.text) };
+    ghost invariant = { λ a. IsCanonicalText a.text };
 }
 
 impl ValText {
@@ -40,7 +40,7 @@ impl ValText {
         ensures { IfOk result (λ copy. copy ≡ text.now) }
     {
         Ok(ValText {
-            text: String::from_str(alloc, text)?,
+            text: SmallString::new(alloc, text)?,
         })
     }
 
@@ -49,7 +49,9 @@ impl ValText {
         requires { IsCanonicalText (string_bytes text) }
         ensures { result ≡ string_bytes text }
     {
-        ValText { text }
+        ValText {
+            text: SmallString::from_string(text),
+        }
     }
 
     /// The text.
@@ -67,7 +69,7 @@ impl ValText {
         ensures canonical { IfOk result (λ value. IsCanonical (view value)) }
         ensures text { IfOk result (λ value. compact_text (view value) ≡ self.now) }
     {
-        match Value::from_str(*self.text.allocator(), self.text.as_str()) {
+        match Value::from_str(self.text.allocator(), self.text.as_str()) {
             Ok(value) => Ok(value),
             Err(error) if error.is_memory() => Err(OutOfMemory),
             Err(_) => unreachable!(),
@@ -93,11 +95,11 @@ impl ValText {
 impl Datum for ValText {
     fn copy(&self) -> Result<ValText, OutOfMemory> {
         Ok(ValText {
-            text: self.text.clone()?,
+            text: self.text.copy()?,
         })
     }
 
     fn same(&self, other: &ValText) -> bool {
-        self.text == other.text
+        self.text.same(&other.text)
     }
 }
