@@ -3,6 +3,7 @@
 //! A call that can't return `OutOfMemory` takes no memory; one that can returns it where there is no room.
 #![tactic(auto)]
 
+mod authors;
 pub mod block_leaf;
 mod characters;
 pub mod content;

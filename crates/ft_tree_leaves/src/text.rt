@@ -8,6 +8,7 @@ ghost use Rattle.ft_tree_leaves.specs.TextRuns.{IsTextRun};
 ghost use Rattle.ft_tree_leaves.specs.TextLaws.{front_text_units, joined_text_units, joined_text_by, rear_text_units};
 ghost use Rattle.std.proofs.Common.{refl};
 
+use crate::authors::Author;
 use crate::content::Content;
 use crate::text_runs::{MAX_RUN, TextRun};
 use ft_base::{OutOfMemory, Stamp};
@@ -27,7 +28,7 @@ pub enum TextPiece {
 #[derive(Drop)]
 pub struct TextContent {
     piece: TextPiece,
-    by: Option<Stamp>,
+    by: Author,
 }
 
 /// One element of a text, which contracts see as the content of the document's element.
@@ -57,7 +58,7 @@ impl TextContent {
     {
         Ok(TextContent {
             piece: TextPiece::Run(TextRun::new(alloc, text)?),
-            by: None,
+            by: Author::pending(),
         })
     }
 
@@ -67,7 +68,7 @@ impl TextContent {
     {
         TextContent {
             piece: TextPiece::Marker { ref_type },
-            by: None,
+            by: Author::pending(),
         }
     }
 
@@ -97,7 +98,7 @@ impl TextContent {
     pub fn by(&self) -> Option<Stamp>
         ensures { result ≡ self.now.by }
     {
-        self.by
+        self.by.stamp()
     }
 }
 
@@ -131,7 +132,7 @@ impl Content for TextContent {
         match &mut self.piece {
             TextPiece::Run(run) => Ok(TextContent {
                 piece: TextPiece::Run(run.split(at)?),
-                by: self.by,
+                by: self.by.copy(),
             }),
             TextPiece::Marker { .. } => unreachable!(),
         }
@@ -140,7 +141,7 @@ impl Content for TextContent {
     fn can_join(&self, other: &TextContent) -> bool {
         match (&self.piece, &other.piece) {
             (TextPiece::Run(mine), TextPiece::Run(theirs)) => {
-                is_same_author(self.by, other.by) && mine.len() + theirs.len() <= MAX_RUN
+                is_same_author(self.by(), other.by()) && mine.len() + theirs.len() <= MAX_RUN
             }
             _ => false,
         }
@@ -157,7 +158,7 @@ impl Content for TextContent {
     }
 
     fn stamped(&mut self, seq: u64, conn: u32) {
-        self.by = Some(Stamp::Acked { seq, conn });
+        self.by = Author::known(seq, conn);
     }
 
     ghost front_units = { front_text_units };
