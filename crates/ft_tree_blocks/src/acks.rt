@@ -12,7 +12,7 @@ ghost use Rattle.ft_tree_blocks.specs.Touched.{HaveAllOf, Tracks};
 ghost use Rattle.ft_tree_blocks.specs.Unsettled.{IsSoundOn};
 
 use crate::leaf_refs::LeafRefs;
-use crate::stage_nodes::StageNodes;
+use crate::stage_nodes::{StageNodes, TouchedNode};
 use crate::touched::take_stage;
 use ft_arena::NodeId;
 use ft_base::OutOfMemory;
@@ -64,7 +64,7 @@ fn ack_at<C: Content>(
 fn ack_nodes<C: Content>(
     blocks: &mut Blocks<TreeLeaf<C>>,
     alloc: Global,
-    nodes: &[NodeId],
+    nodes: &[TouchedNode],
     stage: u64,
     seq: u64,
     conn: u32,
@@ -80,7 +80,7 @@ fn ack_nodes<C: Content>(
     // What holds of the leaves at any time is read off its contract.
     let _first = blocks.first();
     for id in nodes {
-        ack_at(blocks, alloc, *id, stage, seq, conn)?;
+        ack_at(blocks, alloc, id.0, stage, seq, conn)?;
     }
     Ok(())
 }

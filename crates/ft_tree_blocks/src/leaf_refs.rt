@@ -6,6 +6,7 @@ ghost use Rattle.ft_tree_blocks.specs.Anchors.{MovesAnchors};
 ghost use Rattle.ft_tree_blocks.specs.Unsettled.{Notes, NotesAll, NotesUnless};
 
 use crate::anchors::Anchors;
+use crate::stage_nodes::TouchedNode;
 use ft_arena::NodeId;
 use ft_base::OutOfMemory;
 use std::alloc::Global;
@@ -32,12 +33,12 @@ fn note(anchors: &Anchors, unsettled: &mut Vec<NodeId>, id: NodeId) -> Result<()
 fn note_all(
     anchors: &Anchors,
     unsettled: &mut Vec<NodeId>,
-    nodes: &[NodeId],
+    nodes: &[TouchedNode],
 ) -> Result<(), OutOfMemory>
     ensures { OnOk result (NotesAll anchors.now nodes.now unsettled.old.items unsettled.new.items) }
 {
     for id in nodes {
-        note(anchors, unsettled, *id)?;
+        note(anchors, unsettled, id.0)?;
     }
     Ok(())
 }
@@ -75,7 +76,7 @@ impl LeafRefs {
     }
 
     /// Lists each of these leaves that has references.
-    pub(crate) fn unsettle_all(&mut self, nodes: &[NodeId]) -> Result<(), OutOfMemory>
+    pub(crate) fn unsettle_all(&mut self, nodes: &[TouchedNode]) -> Result<(), OutOfMemory>
         ensures anchors { self.new.anchors ≡ self.old.anchors }
         ensures notes { OnOk result (NotesAll self.new.anchors nodes.now self.old.unsettled.items self.new.unsettled.items) }
     {

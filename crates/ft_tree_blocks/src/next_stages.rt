@@ -8,9 +8,8 @@ ghost use Rattle.ft_tree_blocks.specs.Touched.{Tracks};
 ghost use Rattle.ft_tree_blocks.specs.Wanted.{IsLeastStage, has_wanted, is_wanted_at};
 
 use crate::acks::is_touched_by;
-use crate::stage_nodes::StageNodes;
+use crate::stage_nodes::{StageNodes, TouchedNode};
 use crate::touched::stage_place;
-use ft_arena::NodeId;
 use ft_block::Blocks;
 use ft_tree_leaves::stamps::has_stage;
 use ft_tree_leaves::{Content, TreeLeaf};
@@ -38,7 +37,7 @@ fn has_wanted<C: Content>(leaf: &TreeLeaf<C>, stage: u64, wanted: Wanted) -> boo
 // Whether the leaf of one of these nodes has that of the stage.
 fn is_any_wanted<C: Content>(
     blocks: &Blocks<TreeLeaf<C>>,
-    nodes: &[NodeId],
+    nodes: &[TouchedNode],
     stage: u64,
     wanted: Wanted,
 ) -> bool
@@ -47,7 +46,7 @@ fn is_any_wanted<C: Content>(
     ensures { result ≡ list_any (is_wanted_at wanted blocks.now.leaves stage) nodes.now }
 {
     for id in nodes {
-        if has_wanted(blocks.leaf(*id), stage, wanted) {
+        if has_wanted(blocks.leaf(id.0), stage, wanted) {
             return true;
         }
     }

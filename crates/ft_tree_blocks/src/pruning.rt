@@ -8,11 +8,11 @@ ghost use Rattle.ft_tree_blocks.specs.Touched.{Tracks};
 ghost use Rattle.ft_tree_blocks.specs.Wanted.{is_wanted_at};
 
 use crate::acks::is_touched_by;
-use crate::stage_nodes::StageNodes;
-use ft_arena::NodeId;
+use crate::stage_nodes::{Nodes, StageNodes, TouchedNode};
 use ft_base::OutOfMemory;
 use ft_block::Blocks;
 use ft_tree_leaves::{Content, TreeLeaf};
+use smallvec::SmallVec;
 use std::alloc::Global;
 use std::collections::VecDeque;
 
@@ -20,16 +20,16 @@ use std::collections::VecDeque;
 fn touched_of<C: Content>(
     blocks: &Blocks<TreeLeaf<C>>,
     alloc: Global,
-    nodes: &[NodeId],
+    nodes: &[TouchedNode],
     stage: u64,
-) -> Result<Vec<NodeId>, OutOfMemory>
+) -> Result<Nodes, OutOfMemory>
     requires usable { IsTrue blocks.now.usable }
     requires live { All (λ id. IsLeafIn blocks.now.leaves id) nodes.now }
     ensures { IfOk result (λ v. v.items ≡ filter (is_wanted_at Anything blocks.now.leaves stage) nodes.now) }
 {
-    let mut touched = Vec::new(alloc);
+    let mut touched = SmallVec::new(alloc);
     for id in nodes {
-        if is_touched_by(blocks.leaf(*id), stage) {
+        if is_touched_by(blocks.leaf(id.0), stage) {
             touched.push(*id)?;
         }
     }

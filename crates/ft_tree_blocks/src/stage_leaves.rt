@@ -7,7 +7,7 @@ ghost use Rattle.ft_tree_blocks.specs.StageLeaves.{is_given_node, touched_places
 ghost use Rattle.ft_tree_blocks.specs.Touched.{Tracks};
 
 use crate::acks::is_touched_by;
-use crate::stage_nodes::StageNodes;
+use crate::stage_nodes::{StageNodes, TouchedNode};
 use crate::touched::nodes_of;
 use ft_arena::NodeId;
 use ft_base::OutOfMemory;
@@ -20,7 +20,7 @@ use std::collections::VecDeque;
 fn touched_places<C: Content>(
     blocks: &Blocks<TreeLeaf<C>>,
     alloc: Global,
-    nodes: &[NodeId],
+    nodes: &[TouchedNode],
     stage: u64,
 ) -> Result<Vec<(u64, NodeId)>, OutOfMemory>
     requires usable { IsTrue blocks.now.usable }
@@ -29,8 +29,8 @@ fn touched_places<C: Content>(
 {
     let mut places = Vec::new(alloc);
     for id in nodes {
-        if is_touched_by(blocks.leaf(*id), stage) {
-            places.push((blocks.position_of(*id, LenView::All), *id))?;
+        if is_touched_by(blocks.leaf(id.0), stage) {
+            places.push((blocks.position_of(id.0, LenView::All), id.0))?;
         }
     }
     Ok(places)

@@ -5,14 +5,39 @@ ghost use Rattle.ft_tree_blocks.specs.Touched.{holds, is_some_node, purged, with
 
 use ft_arena::NodeId;
 use ft_base::OutOfMemory;
+use smallvec::SmallVec;
 use std::alloc::Global;
 use std::marker::Model;
+
+/// The node of a leaf that a stage touched. Contracts see the number of the node.
+#[derive(Clone, Copy, Drop)]
+pub(crate) struct TouchedNode(pub(crate) NodeId);
+
+impl Model for TouchedNode {
+    ghost use Rattle.std.specs.Prelude.{ℕ};
+
+    ghost Value = { ℕ };
+
+    ghost view = { λ n. n.0 };
+
+    ghost inverse = { λ n. record { 0 = n } };
+}
+
+/// What stands in a place of a list that isn't in use.
+impl Default for TouchedNode {
+    fn default() -> TouchedNode {
+        TouchedNode(NodeId(0))
+    }
+}
+
+/// A list of nodes, which takes no memory as long as there are at most two.
+pub(crate) type Nodes = SmallVec<TouchedNode, 2>;
 
 /// A pending stage, and the nodes of leaves that it touched. A node may stand there more than once.
 #[derive(Drop)]
 pub struct StageNodes {
     stage: u64,
-    nodes: Vec<NodeId>,
+    nodes: Nodes,
 }
 
 impl Model for StageNodes {
@@ -28,8 +53,8 @@ impl StageNodes {
     pub(crate) fn of(alloc: Global, stage: u64, id: NodeId) -> Result<StageNodes, OutOfMemory>
         ensures { IfOk result (λ s. s ≡ record { stage = stage; nodes = id ∷ [] }) }
     {
-        let mut nodes = Vec::new(alloc);
-        nodes.push(id)?;
+        let mut nodes = SmallVec::new(alloc);
+        nodes.push(TouchedNode(id))?;
         Ok(StageNodes { stage, nodes })
     }
 
@@ -41,14 +66,14 @@ impl StageNodes {
     }
 
     /// The nodes.
-    pub(crate) fn nodes(&self) -> &[NodeId]
+    pub(crate) fn nodes(&self) -> &[TouchedNode]
         ensures { result.now ≡ self.now.nodes }
     {
         self.nodes.as_slice()
     }
 
     /// The nodes, taken out.
-    pub(crate) fn into_nodes(self) -> Vec<NodeId>
+    pub(crate) fn into_nodes(self) -> Nodes
         ensures { result.items ≡ self.nodes }
     {
         self.nodes
@@ -65,14 +90,14 @@ impl StageNodes {
     fn holds(&self, id: NodeId) -> bool
         ensures { result ≡ holds self.now.nodes id }
     {
-        self.nodes.iter().any(|n| n.0 == id.0)
+        self.nodes.as_slice().iter().any(|n| n.0.0 == id.0)
     }
 
     /// Adds a node.
     pub(crate) fn add(&mut self, id: NodeId) -> Result<(), OutOfMemory>
         ensures { OnOk result (self.new ≡ record self.old { nodes = self.old.nodes ++ id ∷ [] }) }
     {
-        self.nodes.push(id)?;
+        self.nodes.push(TouchedNode(id))?;
         Ok(())
     }
 
@@ -87,7 +112,7 @@ impl StageNodes {
     }
 
     /// Gives it these nodes instead of those that it has.
-    pub(crate) fn set_nodes(&mut self, nodes: Vec<NodeId>)
+    pub(crate) fn set_nodes(&mut self, nodes: Nodes)
         ensures { self.new ≡ record self.old { nodes = nodes.items } }
     {
         self.nodes = nodes;
@@ -97,6 +122,6 @@ impl StageNodes {
     pub(crate) fn purge(&mut self, id: NodeId)
         ensures { self.new ≡ purged id self.old }
     {
-        self.nodes.retain(|n| n.0 != id.0);
+        self.nodes.retain(|n| n.0.0 != id.0);
     }
 }

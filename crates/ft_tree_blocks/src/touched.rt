@@ -5,10 +5,11 @@ ghost use Rattle.std.specs.List.{list_any};
 ghost use Rattle.ft_base.specs.Visibility.{is_of_stage};
 ghost use Rattle.ft_tree_blocks.specs.Touched.{AreRising, Notes, all_purged, holds, is_list_of, is_listed, is_stamped_by, purged, stages_below, with_heir};
 
-use crate::stage_nodes::StageNodes;
+use crate::stage_nodes::{Nodes, StageNodes, TouchedNode};
 use ft_arena::NodeId;
 use ft_base::{Element, OutOfMemory, Stamp};
 use ft_tree_leaves::stamps::{has_stage, is_of_stage};
+use smallvec::SmallVec;
 use std::collections::VecDeque;
 
 /// How many lists are of lower stages.
@@ -154,7 +155,7 @@ fn purge_each(touched: &mut [StageNodes], id: NodeId)
 }
 
 /// The nodes that are listed for a stage.
-pub(crate) fn nodes_of(touched: &VecDeque<StageNodes>, stage: u64) -> &[NodeId]
+pub(crate) fn nodes_of(touched: &VecDeque<StageNodes>, stage: u64) -> &[TouchedNode]
     requires { AreRising touched.now.items }
     ensures { (id : ℕ) → holds result.now id ≡ is_listed touched.now.items stage id }
 {
@@ -166,7 +167,7 @@ pub(crate) fn nodes_of(touched: &VecDeque<StageNodes>, stage: u64) -> &[NodeId]
 }
 
 /// Takes the list of a stage out, and returns its nodes: none where there is no list.
-pub(crate) fn take_stage(touched: &mut VecDeque<StageNodes>, stage: u64) -> Vec<NodeId>
+pub(crate) fn take_stage(touched: &mut VecDeque<StageNodes>, stage: u64) -> Nodes
     requires { AreRising touched.old.items }
     ensures nodes { (id : ℕ) → holds result.items id ≡ is_listed touched.old.items stage id }
     ensures gone { (id : ℕ) → is_listed touched.new.items stage id ≡ false }
@@ -176,10 +177,10 @@ pub(crate) fn take_stage(touched: &mut VecDeque<StageNodes>, stage: u64) -> Vec<
     let alloc = *touched.allocator();
     let i = stage_place(touched, stage);
     if !is_at(touched, i, stage) {
-        return Vec::new(alloc);
+        return SmallVec::new(alloc);
     }
     match touched.remove(i) {
         Some(list) => list.into_nodes(),
-        None => Vec::new(alloc),
+        None => SmallVec::new(alloc),
     }
 }

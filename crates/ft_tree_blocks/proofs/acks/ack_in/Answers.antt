@@ -20,7 +20,7 @@ ack_nodes-requires g c =
     let ss = c.args.touched.now.items in
     let k = c.args.stage in
     let same : (z : ℕ) → holds c.as_slice-nodes.result.now z ≡ is_listed ss k z = λ z.
-    ap (λ (ns : List ℕ). holds ns z) c.as_slice-nodes.ensures.value ∙ c.take_stage-taken.ensures.nodes z in
+    ap (λ (ns : List ℕ). holds ns z) c.as_slice-nodes.ensures ∙ c.take_stage-taken.ensures.nodes z in
     record {
       usable = c.requires.usable;
       lowest = c.requires.lowest;
@@ -54,7 +54,7 @@ returns-clause-refs g c =
     let k = c.args.stage in
     let ids = c.as_slice-nodes.result.now in
     let same : (z : ℕ) → holds ids z ≡ is_listed ss k z = λ z.
-    ap (λ (ns : List ℕ). holds ns z) c.as_slice-nodes.ensures.value ∙ c.take_stage-taken.ensures.nodes z in
+    ap (λ (ns : List ℕ). holds ns z) c.as_slice-nodes.ensures ∙ c.take_stage-taken.ensures.nodes z in
     let more = c.unsettle_all.new.self.unsettled.items in
     let now = c.ack_nodes.new.blocks.leaves in
     let notes = subst (λ (b : AnchorLists). NotesAll b ids ns more) c.unsettle_all.ensures.anchors c.in_ok-unsettle_all.ensures.notes in
@@ -77,7 +77,7 @@ returns-clause-sound g c =
     let k = c.args.stage in
     let ids = c.as_slice-nodes.result.now in
     let same : (z : ℕ) → holds ids z ≡ is_listed ss k z = λ z.
-    ap (λ (ns : List ℕ). holds ns z) c.as_slice-nodes.ensures.value ∙ c.take_stage-taken.ensures.nodes z in
+    ap (λ (ns : List ℕ). holds ns z) c.as_slice-nodes.ensures ∙ c.take_stage-taken.ensures.nodes z in
     let more = c.unsettle_all.new.self.unsettled.items in
     let now = c.ack_nodes.new.blocks.leaves in
     let notes = subst (λ (b : AnchorLists). NotesAll b ids ns more) c.unsettle_all.ensures.anchors c.in_ok-unsettle_all.ensures.notes in

@@ -1,4 +1,4 @@
-use Rattle.std.proofs.Common.{◌≡◌, ℕ, ◌+◌, List, ◌∷◌, Some, drop, map, refl, subst, sym, ◌∙◌, ap, arith}
+use Rattle.std.proofs.Common.{◌≡◌, ℕ, ◌+◌, List, ◌∷◌, Some, drop, get_or, map, refl, subst, sym, ◌∙◌, ap, arith}
 use Rattle.std.proofs.lemmas.List.{drop_all, drop_more}
 use Rattle.std.proofs.lemmas.List.Elements.{All-get_or}
 use Rattle.ft_block.specs.Leaves.{IsLeafIn, change_leaf, value_at}
@@ -28,10 +28,11 @@ loop-id-preserved g c =
     let xs = c.loop-id.blocks.leaves in
     let i = c.loop-id.id-index in
     let ids = c.args.nodes.now in
-    let id = c.id-item.result in
+    let id = c.id.inside.0 in
+    let is : id ≡ get_or ids i id = subst (λ z. z ≡ get_or ids i z) (sym c.id.view_is) c.id-item.is in
     let f : ℕ × TreeLeaf g.row.C.Denot → ℕ × TreeLeaf g.row.C.Denot = acked_pair stamped k s n in
     let step : c.ack_at.new.blocks.leaves ≡ change_leaf (acked_leaf stamped k s n) xs id = c.in_ok-ack_at.ensures.leaves in
-    let next : drop i ids ≡ id ∷ drop (i + 1) ids = drop_more ids i id c.loop-id-test.true ∙ ap (λ m. m ∷ drop (i + 1) ids) (sym c.id-item.is) in
+    let next : drop i ids ≡ id ∷ drop (i + 1) ids = drop_more ids i id c.loop-id-test.true ∙ ap (λ m. m ∷ drop (i + 1) ids) (sym is) in
     record {
       acked = ap (map f) step ∙ acked-again stamped k s n xs id ∙ c.loop-id.invariant.acked;
       rest = subst (λ (ys : List (ℕ × TreeLeaf g.row.C.Denot)). HaveAllOf k ys (drop (i + 1) ids)) (sym step)
@@ -47,10 +48,12 @@ ack_at-requires g c =
     let xs = c.loop-id.blocks.leaves in
     let old = c.args.blocks.now.leaves in
     let ids = c.args.nodes.now in
-    let id = c.id-item.result in
+    let i = c.loop-id.id-index in
+    let id = c.id.inside.0 in
+    let is : id ≡ get_or ids i id = subst (λ z. z ≡ get_or ids i z) (sym c.id.view_is) c.id-item.is in
     let k = c.args.stage in
-    let was : IsLeafIn old id = subst (IsLeafIn old) (sym c.id-item.is)
-    (All-get_or (λ z. IsLeafIn old z) ids c.loop-id.id-index id c.loop-id-test.true c.requires.live) in
+    let was : IsLeafIn old id = subst (IsLeafIn old) (sym is)
+    (All-get_or (λ z. IsLeafIn old z) ids i id c.loop-id-test.true c.requires.live) in
     let live : IsLeafIn xs id = omega (arith, was, same_times g.C.Content.stamped k c.args.seq c.args.conn xs old id c.loop-id.invariant.acked) in
     let v = live_value xs id live in
     record {

@@ -1,4 +1,4 @@
-use Rattle.std.proofs.Common.{ℕ, ◌+◌, List, drop, subst, arith}
+use Rattle.std.proofs.Common.{◌≡◌, ℕ, ◌+◌, List, drop, get_or, subst, sym, arith}
 use Rattle.std.proofs.lemmas.List.{drop_all}
 use Rattle.ft_tree_blocks.proofs.NotedLeaves.{NotesSome, drop_next, some_all, some_first, some_next}
 use Rattle.ft_tree_blocks.proofs.leaf_refs.note_all.Goals as goal
@@ -10,8 +10,10 @@ pub loop-id-preserved : goal.loop-id-preserved
 loop-id-preserved c =
     let nodes = c.args.nodes.now in
     let i = c.loop-id.id-index in
-    let next = drop_next nodes i c.id-item.result c.loop-id-test.true c.id-item.is in
-    some_next c.args.anchors.now nodes (drop (i + 1) nodes) c.args.unsettled.now.items c.loop-id.unsettled.items c.note.new.unsettled.items c.id-item.result
+    let id = c.id.inside.0 in
+    let is : id ≡ get_or nodes i id = subst (λ z. z ≡ get_or nodes i z) (sym c.id.view_is) c.id-item.is in
+    let next = drop_next nodes i id c.loop-id-test.true is in
+    some_next c.args.anchors.now nodes (drop (i + 1) nodes) c.args.unsettled.now.items c.loop-id.unsettled.items c.note.new.unsettled.items id
     (subst (λ (zs : List ℕ). NotesSome c.args.anchors.now nodes zs c.args.unsettled.now.items c.loop-id.unsettled.items) next c.loop-id.invariant) c.in_ok-note.ensures
 
 pub returns : goal.returns

@@ -1,5 +1,5 @@
 use Rattle.std.proofs.Common.{ℕ, List, ap, not, nat_eq, rules}
-use Rattle.std.proofs.lemmas.Fn.{filter_same}
+use Rattle.arrayvec.proofs.ArrayVecLemmas.{filter-from_retain}
 use Rattle.ft_tree_blocks.specs.Touched.{NodesOfStage}
 use Rattle.ft_tree_blocks.proofs.stage_nodes.StageNodes.purge.Goals as goal
 
@@ -11,4 +11,4 @@ pub returns : goal.returns
 returns c =
     let a = c.self.inside in
     rw (← c.self.view_is)
-    (ap (with_nodes a.stage) (filter_same _ (λ n. not (nat_eq n c.args.id)) _ (λ x b f' k. search rules) a.nodes.items _ c.retain.ensures.filtered))
+    (ap (with_nodes a.stage) (filter-from_retain _ (λ n. not (nat_eq n c.args.id)) _ (λ x b f' y k. search rules) a.nodes.items _ c.retain.ensures.filtered))
