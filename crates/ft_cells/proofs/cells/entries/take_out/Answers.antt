@@ -11,4 +11,4 @@ returns-clause-cells c = λ r d.
     (c.remove.ensures.updates.0 (crossing r d)) refl refl
 
 pub returns-clause-columns : goal.returns-clause-columns
-returns-clause-columns c = λ r d. place_left c.args.row c.args.col r d _ _ (c.remove-3.ensures.updates.0 (crossing d r))
+returns-clause-columns c = λ r d. place_left c.args.row c.args.col r d _ _ (c.remove-5.ensures.updates.0 (crossing d r))
