@@ -1,4 +1,6 @@
+pub mod PageLists
 pub mod RisingNames
+pub mod NamesOnPages
 pub mod OneInterval
 pub mod OperationEnds
 pub mod ShownOne

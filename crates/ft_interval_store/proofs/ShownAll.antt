@@ -27,11 +27,13 @@ use Rattle.std.proofs.Common.{
   ◌∙◌,
   ap,
   subst,
+  arith,
 }
+use Rattle.std.specs.Global.{Vec}
 use Rattle.std.specs.List.{AllZip}
 use Rattle.std.specs.declared.cmp.Ordering.{Ordering}
 use Rattle.std.specs.declared.cmp.Ordering.TheVariants.{Less, Equal, Greater}
-use Rattle.std.proofs.lemmas.List.{drop_more, map-append, take_more}
+use Rattle.std.proofs.lemmas.List.{drop_more, length-map, map-append, take_more}
 use Rattle.std.proofs.lemmas.List.Elements.{All-cons, All-nil}
 use Rattle.ft_tree_leaves.specs.Elements.{TreeElement}
 use Rattle.ft_op.specs.declared.operations.Ends.{Ends}
@@ -48,9 +50,11 @@ use Rattle.ft_interval_store.specs.declared.intervals.Interval.{Interval}
 use Rattle.ft_interval_store.specs.declared.pending.Operation.{Operation}
 use Rattle.ft_interval_store.specs.Ends.{References, map_ends, places_of_ends}
 use Rattle.ft_interval_store.specs.Intervals.{IsBeforeNames, Name, NamesRise, after_operation, changed_interval, interval_cmp, interval_of, name_cmp, name_of, with_changed, without_name}
+use Rattle.ft_interval_store.specs.Pages.{from_pages}
 use Rattle.ft_interval_store.specs.Shown.{carried, carried_interval, last, number_at, settled_end, shown_from, shown_record}
 use Rattle.ft_interval_store.specs.Standing.{HasPlaces, IsCarriedInterval, ShowsAll, ShowsInterval, StandAt, record_at}
 use Rattle.ft_interval_store.specs.State.{placed_operations, text_elements}
+use Rattle.ft_interval_store.proofs.PageLists.{length-zip, next-page, zip-append}
 
 -- two lists of intervals side by side, with one name at each place
 module _ {S T : Type 0} (R : Interval S → Interval T → Type 0) (same : (i : Interval S) (j : Interval T) → R i j → name_of j ≡ name_of i) where
@@ -92,6 +96,22 @@ module _ (tree : TreeState TextContent) (k : ℕ) where
       let front : take (n + 1) is ≡ take n is ++ i ∷ [] = take_more is n i within ∙ ap (λ x. take n is ++ x ∷ []) (sym at) in
       let all = ap (λ us. map f (map g us)) front ∙ ap (λ us. map f us) (map-append g (take n is) (i ∷ [])) ∙ map-append f (map g (take n is)) (g i ∷ []) in
       subst (λ us. ShowsAll tree k us (js ++ j ∷ [])) (sym all) (push-shown (map f (map g (take n is))) js (f (g i)) j h s)
+
+  -- one page more
+  pub page-shown : (f g : Interval ℕ → Interval ℕ) (ps : List (Vec (Interval ℕ))) (n : ℕ) (p : Vec (Interval ℕ)) (js us : List (Interval Place))
+      → n < length ps → p ≡ get_or ps n p
+      → ShowsAll tree k (map f (map g (from_pages (take n ps)))) js → ShowsAll tree k (map f (map g p.items)) us
+      → ShowsAll tree k (map f (map g (from_pages (take (n + 1) ps)))) (js ++ us)
+  page-shown f g ps n p js us within at h s =
+      let front = from_pages (take n ps) in
+      let all = ap (λ is. map f (map g is)) (next-page n ps p within at) ∙ ap (λ is. map f is) (map-append g front p.items)
+      ∙ map-append f (map g front) (map g p.items) in
+      subst (λ is. ShowsAll tree k is (js ++ us)) (sym all) (zip-append (ShowsInterval tree k) (map f (map g front)) js (map f (map g p.items)) us h s)
+
+  -- a page shows as many
+  pub filled-shown : (f g : Interval ℕ → Interval ℕ) (is : List (Interval ℕ)) (js : List (Interval Place)) → ShowsAll tree k (map f (map g is)) js → 0 < length is → 0 < length js
+  filled-shown f g is js h some =
+      omega (arith, length-map is g, length-map (map g is) f, length-zip (ShowsInterval tree k) (map f (map g is)) js h, some)
 
   pub places-shown : (is : List (Interval ℕ)) (js : List (Interval Place)) → ShowsAll tree k is js → All (HasPlaces tree) js
   places-shown [] [] h = All-nil (HasPlaces tree)

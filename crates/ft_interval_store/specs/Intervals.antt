@@ -1,7 +1,8 @@
 -- Intervals by rising label and id, each with its ends: references where they are kept, places where a view is worked out.
 -- What an operation makes of them doesn't depend on that.
-use Rattle.std.specs.Prelude.{◌≡◌, ℕ, Bool, false, cond, is_some, List, [], ◌∷◌, Option, Some, None, Result, Ok, Err, ⊤}
-use Rattle.std.specs.Ordering.{is_eq, ordering_then}
+use Rattle.std.specs.Prelude.{◌≡◌, ◌<◌, ◌≤◌, ℕ, Bool, true, false, cond, get_or, is_some, length, List, [], ◌∷◌, Option, Some, None, Result, Ok, Err, ⊤}
+use Rattle.std.specs.Global.{Vec}
+use Rattle.std.specs.Ordering.{is_eq, is_le, ordering_then}
 use Rattle.std.specs.declared.cmp.Ordering.{Ordering}
 use Rattle.std.specs.declared.cmp.Ordering.TheVariants.{Less, Equal, Greater}
 use Rattle.ft_op.specs.declared.operations.Ends.{Ends}
@@ -108,3 +109,14 @@ module _ {T : Type 0} where
   -- what any operation makes of the interval of that name, if it is there
   abbrev pub one_after : Name → TextOp → EndPair T → Option (Interval T) → Option (Interval T)
   one_after n op ends i = cond (is_on n op) (after_own op ends i) i
+
+  -- whether the first interval doesn't stand behind the name
+  abbrev pub begins_by : Name → List (Interval T) → Bool
+  begins_by n [] = false
+  begins_by n (i ∷ is) = is_le (name_cmp (name_of i) n)
+
+  -- of the pages those before place k don't begin behind the name, and the others do
+  pub record IsCutBy (n : Name) (ps : List (Vec (Interval T))) (k : ℕ) : Type 0 where
+    pub within : k ≤ length ps
+    pub by : (i : ℕ) (p : Vec (Interval T)) → i < k → begins_by n (get_or ps i p).items ≡ true
+    pub behind : (i : ℕ) (p : Vec (Interval T)) → k ≤ i → i < length ps → begins_by n (get_or ps i p).items ≡ false

@@ -1,4 +1,6 @@
 pub mod FaultTexts
+pub mod Pages
+pub mod LentPlaces
 pub mod Intervals
 pub mod Ends
 pub mod Shown

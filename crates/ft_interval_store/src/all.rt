@@ -1,6 +1,6 @@
 //! All intervals as they are shown.
 
-ghost use Rattle.std.specs.Prelude.{◌≡◌, ◌≤◌, ℕ, List, All, [], IsTrue, IfOk, OnOk, map};
+ghost use Rattle.std.specs.Prelude.{◌≡◌, ◌++◌, ◌≤◌, ℕ, List, All, [], IsTrue, IfOk, OnOk, map};
 ghost use Rattle.std.specs.Ordering.{is_eq};
 ghost use Rattle.std.specs.List.{AllZip};
 ghost use Rattle.ft_interval_store.specs.declared.intervals.Interval.{Interval};
@@ -12,6 +12,7 @@ ghost use Rattle.ft_interval_store.specs.Standing.{AreOnTree, HasNoRemoval, HasP
 ghost use Rattle.ft_interval_store.specs.State.{AreLiveIntervals, AreLiveOperations, StagesRise, placed_intervals, placed_operations, text_elements, with_mapped_ends};
 
 use crate::intervals::{Held, Interval, Intervals};
+use crate::pages::Pages;
 use crate::pending::Operation;
 use crate::standing::{carried, removal_until, settled, shown_numbers};
 use ft_base::{Datum, OutOfMemory, Text};
@@ -52,6 +53,24 @@ fn placed_on_heap(
     Ok(held)
 }
 
+// Those of a page.
+fn placed_page(
+    alloc: Global,
+    tree: &Tree<TextContent>,
+    page: &[Held<RefId>],
+) -> Result<Vec<Held<Place>>, OutOfMemory>
+    requires usable { IsTrue tree.now.usable }
+    requires live { AreLiveIntervals tree.now.refs page.now }
+    ensures { let xs = text_elements tree.now in
+        IfOk result (λ items. ShowsAll tree.now 0 (map (settled_interval xs 0) (placed_intervals tree.now.refs page.now)) items.items) }
+{
+    let mut items = Vec::with_capacity(alloc, page.len())?;
+    for i in page {
+        items.push(placed_on_heap(alloc, tree, i)?)?;
+    }
+    Ok(items)
+}
+
 /// The intervals at stage 0, with their ends as elements that this sees.
 pub fn first_places(
     tree: &Tree<TextContent>,
@@ -63,10 +82,10 @@ pub fn first_places(
         IfOk result (ShowsAll tree.now 0 (map (settled_interval xs 0) (placed_intervals tree.now.refs acked.now))) }
 {
     let alloc = acked.allocator();
-    let mut items = Vec::new(alloc);
-    let intervals = acked.as_slice();
-    for i in intervals {
-        items.push(placed_on_heap(alloc, tree, i)?)?;
+    let mut items = Pages::new(alloc);
+    let pages = acked.pages();
+    for page in pages {
+        items.push_page(placed_page(alloc, tree, page)?)?;
     }
     Ok(Intervals { items })
 }
@@ -81,6 +100,30 @@ fn carry(tree: &Tree<TextContent>, i: &mut Held<Place>, from: u64, to: u64)
     i.set_ends(carried(tree, i.ends(), from, to));
 }
 
+// Takes the intervals of a page from stage `from` to stage `to`.
+fn carry_page(tree: &Tree<TextContent>, page: &mut [Held<Place>], from: u64, to: u64)
+    requires usable { IsTrue tree.now.usable }
+    requires on_leaf { All (HasPlaces tree.now) page.old }
+    requires rises { from ≤ to }
+    ensures { AllZip (IsCarriedInterval tree.now from to) page.old page.new }
+{
+    for i in page.iter_mut() {
+        carry(tree, i, from, to);
+    }
+}
+
+// Takes the intervals of all pages from stage `from` to stage `to`.
+fn carry_pages(tree: &Tree<TextContent>, items: &mut Pages<Held<Place>>, from: u64, to: u64)
+    requires usable { IsTrue tree.now.usable }
+    requires on_leaf { All (HasPlaces tree.now) items.old }
+    requires rises { from ≤ to }
+    ensures { AllZip (IsCarriedInterval tree.now from to) items.old items.new }
+{
+    for page in items.pages.iter_mut() {
+        carry_page(tree, page, from, to);
+    }
+}
+
 // Takes all intervals from stage `from` to stage `to`, one after another.
 fn carry_each(tree: &Tree<TextContent>, all: &mut Intervals<Place>, from: u64, to: u64)
     requires usable { IsTrue tree.now.usable }
@@ -88,9 +131,7 @@ fn carry_each(tree: &Tree<TextContent>, all: &mut Intervals<Place>, from: u64, t
     requires rises { from ≤ to }
     ensures { AllZip (IsCarriedInterval tree.now from to) all.old all.new }
 {
-    for i in all.items.iter_mut() {
-        carry(tree, i, from, to);
-    }
+    carry_pages(tree, &mut all.items, from, to);
 }
 
 // Takes all intervals from stage `from` to stage `to`. Where no stage between removes elements, they stay as they are.
@@ -145,15 +186,33 @@ fn record_at(tree: &Tree<TextContent>, i: Interval<Place>) -> IntervalRec
     }
 }
 
+// Adds the intervals of a page as they are shown.
+//
+// Returns `OutOfMemory` where there is no room for them.
+fn add_records(
+    tree: &Tree<TextContent>,
+    page: Vec<Held<Place>>,
+    records: &mut Vec<IntervalRec>,
+) -> Result<(), OutOfMemory>
+    requires usable { IsTrue tree.now.usable }
+    requires on_leaf { All (HasPlaces tree.now) page.items }
+    ensures { OnOk result (records.new.items ≡ records.old.items ++ map (record_at tree.now) page.items) }
+{
+    for i in page {
+        records.push(record_at(tree, i.into_interval()))?;
+    }
+    Ok(())
+}
+
 // The intervals as they are shown.
 fn records(tree: &Tree<TextContent>, all: Intervals<Place>) -> Result<Vec<IntervalRec>, OutOfMemory>
     requires usable { IsTrue tree.now.usable }
     requires on_leaf { All (HasPlaces tree.now) all }
     ensures { IfOk result (λ records. records.items ≡ map (record_at tree.now) all) }
 {
-    let mut records = Vec::new(all.allocator());
-    for i in all.items {
-        records.push(record_at(tree, i.into_interval()))?;
+    let mut records = Vec::with_capacity(all.allocator(), all.items.len())?;
+    for page in all.items.into_pages() {
+        add_records(tree, page, &mut records)?;
     }
     Ok(records)
 }
@@ -177,6 +236,25 @@ fn acked_record(tree: &Tree<TextContent>, i: &Interval<RefId>) -> Result<Interva
     Ok(record_at(tree, interval))
 }
 
+// Adds the intervals of a page as they are shown there.
+//
+// Returns `OutOfMemory` where there is no room for them.
+fn add_acked_records(
+    tree: &Tree<TextContent>,
+    page: &[Held<RefId>],
+    records: &mut Vec<IntervalRec>,
+) -> Result<(), OutOfMemory>
+    requires usable { IsTrue tree.now.usable }
+    requires live { AreLiveIntervals tree.now.refs page.now }
+    requires still { HasNoRemoval tree.now }
+    ensures { OnOk result (records.new.items ≡ records.old.items ++ map (acked_record tree.now) page.now) }
+{
+    for i in page {
+        records.push(acked_record(tree, i.get())?)?;
+    }
+    Ok(())
+}
+
 /// The intervals as they are shown where nothing is pending on them and no stage removes elements.
 pub fn acked_records(
     tree: &Tree<TextContent>,
@@ -188,10 +266,10 @@ pub fn acked_records(
     ensures { let xs = text_elements tree.now in
         IfOk result (λ all. all.items ≡ map (shown_record xs) (shown_intervals xs (placed_intervals tree.now.refs acked.now) [])) }
 {
-    let intervals = acked.as_slice();
-    let mut records = Vec::with_capacity(acked.allocator(), intervals.len())?;
-    for i in intervals {
-        records.push(acked_record(tree, i.get())?)?;
+    let mut records = Vec::with_capacity(acked.allocator(), acked.items.len())?;
+    let pages = acked.pages();
+    for page in pages {
+        add_acked_records(tree, page, &mut records)?;
     }
     Ok(records)
 }

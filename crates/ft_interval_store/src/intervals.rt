@@ -6,14 +6,15 @@ ghost use Rattle.ft_props.specs.Keys.{put_rising};
 ghost use Rattle.ft_props.specs.Properties.{apply};
 ghost use Rattle.ft_interval_store.specs.Ends.{no_ends};
 ghost use Rattle.ft_interval_store.specs.Intervals.{Name, added_interval, after_operation, changed_interval, interval_cmp, interval_of, name_cmp, name_of, place_of_name, place_of_operation, with_changed, without_name};
+ghost use Rattle.ft_interval_store.specs.Pages.{AreFilled, from_pages};
 ghost use Rattle.ft_interval_store.specs.State.{AreOwnEnds, IsEndsAfter, ends_changed, ends_missing};
 
+use crate::pages::Pages;
+use crate::search::search_in;
 use ft_base::{Datum, OutOfMemory, Text};
 use ft_op::{Ends, TextOp};
-use ft_props::keys::compare;
 use ft_props::{PropSet, Props};
 use std::alloc::Global;
-use std::cmp::Ordering;
 use std::marker::Model;
 
 /// The two ends of an interval, each None where it is detached.
@@ -66,16 +67,6 @@ pub struct Interval<T> {
     pub id: Text,
     pub ends: EndPair<T>,
     pub props: Props,
-}
-
-// The order of two names: by label, then by id, which is read only where the labels are the same.
-fn name_order(label: &Text, id: &Text, other_label: &Text, other_id: &Text) -> Ordering
-    ensures { result ≡ name_cmp (label.now, id.now) (other_label.now, other_id.now) }
-{
-    match compare(label.as_str(), other_label.as_str()) {
-        Ordering::Equal => compare(id.as_str(), other_id.as_str()),
-        unequal => unequal,
-    }
 }
 
 /// Whether two names are the same. Ids differ more often than labels, so they are compared first.
@@ -226,10 +217,11 @@ fn added<T: Copy + Drop>(
     Held::new(alloc, interval)
 }
 
-/// Intervals by rising label and id, so that no name stands twice. One is found by a binary search.
+/// Intervals by rising label and id, so that no name stands twice. One is found by a binary search for its page, and by
+/// another one there.
 #[derive(Drop)]
 pub struct Intervals<T> {
-    pub(crate) items: Vec<Held<T>>,
+    pub(crate) items: Pages<Held<T>>,
 }
 
 impl<T> Model for Intervals<T> {
@@ -239,9 +231,9 @@ impl<T> Model for Intervals<T> {
 
     ghost Value = { List (Interval T) };
 
-    ghost view = { λ a. a.items.items };
+    ghost view = { λ a. a.items };
 
-    ghost invariant = { λ a. NamesRise a.items.items };
+    ghost invariant = { λ a. NamesRise a.items };
 }
 
 impl<T: Copy + Drop> Intervals<T> {
@@ -252,29 +244,29 @@ impl<T: Copy + Drop> Intervals<T> {
         ensures { result ≡ [] }
     {
         Intervals {
-            items: Vec::new(alloc),
+            items: Pages::new(alloc),
         }
     }
 
     /// Where it takes its memory.
     pub fn allocator(&self) -> Global {
-        *self.items.allocator()
+        self.items.allocator()
     }
 
-    /// All in order.
-    pub fn as_slice(&self) -> &[Held<T>]
-        ensures value { result.now ≡ self.now }
+    /// All in order, page by page.
+    pub(crate) fn pages(&self) -> &[Vec<Held<T>>]
+        ensures value { from_pages result.now ≡ self.now }
+        ensures filled { AreFilled result.now }
         ensures rising { NamesRise self.now }
     {
-        self.items.as_slice()
+        self.items.pages()
     }
 
     // The place of the interval of that label and id, or else, as an error, the place where it would stand.
     fn search(&self, label: &Text, id: &Text) -> Result<usize, usize>
         ensures { result ≡ place_of_name (label.now, id.now) self.now }
     {
-        self.items
-            .binary_search_by(|i| name_order(&i.get().label, &i.get().id, label, id))
+        search_in(self.items.pages(), label, id)
     }
 
     // The same of the interval that an operation is on.
@@ -337,7 +329,7 @@ impl<T: Copy + Drop> Intervals<T> {
                 self.items[i] = held;
                 Ok(())
             }
-            Err(i) => Ok(self.items.insert(i, held)?),
+            Err(i) => self.items.insert(i, held),
         }
     }
 

@@ -118,7 +118,7 @@ pub fn shown_ends(
         ShowsEnds tree.now last (interval_of (label.now, id.now) (shown_intervals xs is ts)) result }
 {
     // That names rise is read off its contract.
-    let _all = acked.as_slice();
+    let _all = acked.pages();
     let mut shown = first_shown(tree, acked, label, id);
     let mut stage = 0;
     for t in pending {

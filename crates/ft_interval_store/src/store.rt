@@ -233,7 +233,7 @@ impl Store {
         ensures names { NamesRise self.now.acked }
     {
         // That names rise is read off its contract.
-        let _all = self.acked.as_slice();
+        let _all = self.acked.pages();
         match self.pending.first() {
             Some(t) => Some(t.stage),
             None => None,

@@ -64,7 +64,7 @@ returns c =
     let w = c.loop-t.invariant.shows in
     let none : drop c.loop-t.t-index c.args.pending.now ≡ [] = drop_of_length-le c.args.pending.now c.loop-t-test.false in
     let shown = last-shown xs refs n c.loop-t.stage c.loop-t.t-index c.args.pending.now w.0 none ∙ w.2
-    ∙ sym (interval_of-shown xs n refs c.args.acked.now (placed_operations refs c.args.pending.now) c.as_slice-all.ensures.rising) in
+    ∙ sym (interval_of-shown xs n refs c.args.acked.now (placed_operations refs c.args.pending.now) c.pages-all.ensures.rising) in
     subst (λ i. ShowsEnds c.args.tree.now last i c.carried_shown.result) shown (c.carried_shown.ensures w.0 w.1)
 
 pub carried_shown-requires-clause-rises : goal.carried_shown-requires-clause-rises

@@ -9,12 +9,12 @@ pub index_mut-requires : goal.index_mut-requires
 index_mut-requires g c =
     let n : Name = c.requires.place.0 in
     let place = ap (place_of_name n) c.self.view_is ∙ sym c.requires.place.1 ∙ c.in-Ok.is in
-    omega (arith, found-in_range n c.in-Ok.i c.self.inside.items.items place)
+    omega (arith, found-in_range n c.in-Ok.i c.self.inside.items place)
 
 pub invariant_of-self : goal.invariant_of-self
 invariant_of-self g c =
     let n : Name = c.requires.place.0 in
-    let items = c.self.inside.items.items in
+    let items = c.self.inside.items in
     let place = ap (place_of_name n) c.self.view_is ∙ sym c.requires.place.1 ∙ c.in-Ok.is in
     let was = c.index_mut.result.now in
     let name = c.change.ensures.name ∙ ap (λ x. name_of x) c.index_mut.ensures.value in
@@ -22,7 +22,7 @@ invariant_of-self g c =
 
 pub returns-in-Ok-clause-ok : goal.returns-in-Ok-clause-ok
 returns-in-Ok-clause-ok g c = λ n p.
-    let items = c.self.inside.items.items in
+    let items = c.self.inside.items in
     let place = ap (place_of_name n) c.self.view_is ∙ sym p ∙ c.in-Ok.is in
     let was = c.index_mut.result.now in
     let f = changed_interval c.args.given c.args.ends c.args.props.now in
@@ -32,7 +32,7 @@ returns-in-Ok-clause-ok g c = λ n p.
 
 pub returns-in-Ok-clause-ends : goal.returns-in-Ok-clause-ends
 returns-in-Ok-clause-ends g c = λ n p.
-    let items = c.self.inside.items.items in
+    let items = c.self.inside.items in
     let place = ap (place_of_name n) c.self.view_is ∙ sym p ∙ c.in-Ok.is in
     let was = c.index_mut.result.now in
     let there = sym (ap (interval_of n) c.self.view_is) ∙ interval_of-found n c.in-Ok.i was items place ∙ sym (ap Some c.index_mut.ensures.value) in

@@ -8,12 +8,12 @@ pub index-requires : goal.index-requires
 index-requires g c =
     let op = c.args.op.now in
     let place = ap (place_of_operation op) c.self.view_is ∙ sym c.place_of.ensures ∙ c.in-Ok.is in
-    omega (arith, operation-in_range op c.in-Ok.i c.self.inside.items.items place)
+    omega (arith, operation-in_range op c.in-Ok.i c.self.inside.items place)
 
 pub returns-in-Ok-clause-ends : goal.returns-in-Ok-clause-ends
 returns-in-Ok-clause-ends g c = λ n on.
     let op = c.args.op.now in
-    let items = c.self.inside.items.items in
+    let items = c.self.inside.items in
     let place = ap (place_of_operation op) c.self.view_is ∙ sym c.place_of.ensures ∙ c.in-Ok.is in
     c.ends.ensures ∙ ap (λ x. x.ends) c.index.ensures ∙ own-found op c.in-Ok.i c.index.result.now items place n on ∙ ap (ends_of_name n) c.self.view_is
 

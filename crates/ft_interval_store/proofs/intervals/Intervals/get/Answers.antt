@@ -6,13 +6,13 @@ use Rattle.ft_interval_store.proofs.intervals.Intervals.get.Goals as goal
 pub index-requires : goal.index-requires
 index-requires g c =
     let n : Name = (c.args.label.now, c.args.id.now) in
-    omega (arith, found-in_range n c.in-Ok.i c.self.inside.items.items (ap (place_of_name n) c.self.view_is ∙ sym c.search.ensures ∙ c.in-Ok.is))
+    omega (arith, found-in_range n c.in-Ok.i c.self.inside.items (ap (place_of_name n) c.self.view_is ∙ sym c.search.ensures ∙ c.in-Ok.is))
 
 pub returns-in-Ok : goal.returns-in-Ok
 returns-in-Ok g c =
     let n : Name = (c.args.label.now, c.args.id.now) in
     let place = ap (place_of_name n) c.self.view_is ∙ sym c.search.ensures ∙ c.in-Ok.is in
-    ap Some c.get.ensures ∙ ap Some c.index.ensures ∙ sym (interval_of-found n c.in-Ok.i c.index.result.now c.self.inside.items.items place) ∙ ap (interval_of n) c.self.view_is
+    ap Some c.get.ensures ∙ ap Some c.index.ensures ∙ sym (interval_of-found n c.in-Ok.i c.index.result.now c.self.inside.items place) ∙ ap (interval_of n) c.self.view_is
 
 pub returns-in-Err : goal.returns-in-Err
 returns-in-Err g c =
