@@ -1,5 +1,5 @@
 -- Lists on pages: what a change of one page makes of the list.
-use Rattle.std.proofs.Common.{◌≡◌, ℕ, zero, suc, ◌+◌, ◌-◌, ◌<◌, ◌≤◌, List, [], ◌∷◌, ◌++◌, All, append-nil, append_assoc, drop, flat_map, get_or, length, length-append, length-set, set, take, Result, Ok, Err, refl, sym, ◌∙◌, ap, subst, arith}
+use Rattle.std.proofs.Common.{◌≡◌, ℕ, zero, suc, ◌+◌, ◌-◌, ◌<◌, ◌≤◌, List, [], ◌∷◌, ◌++◌, All, append_assoc, drop, get_or, length, length-append, length-set, set, take, Result, Ok, Err, refl, sym, ◌∙◌, ap, subst, arith}
 use Rattle.std.specs.Prelude.{OnErr, OnOk}
 use Rattle.std.specs.List.{AllZip, insert, remove}
 use Rattle.std.specs.Global.{Vec}
@@ -8,6 +8,7 @@ use Rattle.std.proofs.lemmas.List.Edits.{insert-append_left, insert-append_right
 use Rattle.std.proofs.lemmas.List.Elements.{All-cons, All-head, All-nil, All-set, All-tail}
 use Rattle.ft_interval_store.specs.Pages.{AreFilled, ArePages, count_before, from_pages}
 
+-- a fact that doesn't ask how a call ends
 pub on-any : {A E P : Type 0} (r : Result A E) → P → OnErr r P
 on-any (Ok x) p = tt
 on-any (Err e) p = p

@@ -53,7 +53,7 @@ fn placed_on_heap(
     Ok(held)
 }
 
-// Those of a page.
+// Those of a page at stage 0, with their ends as elements that this sees.
 fn placed_page(
     alloc: Global,
     tree: &Tree<TextContent>,

@@ -1,7 +1,7 @@
 //! A list on pages, so that an element that is put in moves few others.
 
 ghost use Rattle.std.specs.Prelude.{◌≡◌, ◌<◌, ◌≤◌, ◌^◌, ℕ, ◌∷◌, ◌++◌, [], OnOk, OnErr, length};
-ghost use Rattle.std.specs.Borrow.{Lends, sem};
+ghost use Rattle.std.specs.Borrow.{sem};
 ghost use Rattle.std.specs.List.{insert, remove, slice_index_or};
 ghost use Rattle.ft_interval_store.specs.Pages.{AreFilled, IsPageGap, IsPagePlace, count_before, from_pages};
 
@@ -10,7 +10,7 @@ use std::alloc::Global;
 use std::marker::Model;
 use std::ops::{Index, IndexMut};
 
-// A page with more elements is cut in two.
+// A page of so many elements is cut in two. So it takes no room for more.
 const MOST: usize = 512;
 
 /// A list on pages, none of which is empty. Where an element is put in, only others of its page move. Contracts see
@@ -33,7 +33,7 @@ impl<T> Model for Pages<T> {
     ghost invariant = { λ a. ArePages a.pages.items a.len };
 }
 
-/// Where an element stands: on which page, and how many of the page's elements stand before it.
+// Where an element stands: on which page, and how many of the page's elements stand before it.
 #[derive(Clone, Copy)]
 struct PagePlace {
     page: usize,
@@ -69,7 +69,7 @@ impl<T: Drop> Pages<T> {
         ensures filled { AreFilled result.now }
         ensures fits { length self.now < 2 ^ 64 }
     {
-        // That there are so few is read off its length.
+        // That it is a number of 64 bits is read off the field.
         let _len = self.len;
         self.pages.as_slice()
     }
@@ -157,8 +157,8 @@ fn page_place<T>(pages: &[Vec<T>], place: usize) -> PagePlace
     ensures { IsPagePlace place pages.now result }
 {
     let mut offset = place;
-    for page in 0..pages.len() {
-        let length = pages[page].len();
+    for (page, items) in pages.iter().enumerate() {
+        let length = items.len();
         if offset < length {
             return PagePlace { page, offset };
         }
@@ -272,7 +272,7 @@ fn cut_long<T: Drop>(pages: &mut Vec<Vec<T>>, page: usize)
     ensures list { from_pages pages.new.items ≡ from_pages pages.old.items }
     ensures filled { AreFilled pages.new.items }
 {
-    if pages[page].len() <= MOST {
+    if pages[page].len() < MOST {
         return;
     }
     let Ok(()) = pages.reserve(1) else {

@@ -1,4 +1,4 @@
-use Rattle.std.proofs.Common.{◌∙◌, ap, arith, drop, subst, sym, take, length, set, get_or, ◌<◌, ◌+◌}
+use Rattle.std.proofs.Common.{◌∙◌, ap, arith, drop, subst, sym, take, set, get_or, ◌+◌}
 use Rattle.std.specs.List.{insert}
 use Rattle.std.proofs.lemmas.List.{get_or_default}
 use Rattle.ft_interval_store.specs.Pages.{AreFilled, from_pages}
@@ -31,4 +31,4 @@ returns-clause-filled g c =
     let same = c.index.ensures ∙ get_or_default ps k c.index.result.now was c.requires.page ∙ sym at in
     subst (λ xs. AreFilled xs) (sym (c.in-Ok-insert.ensures.items ∙ ap (λ xs. insert (set xs k front) (k + 1) rear) c.reserve.ensures.items))
     (filled-cut k ps front rear c.requires.page (omega (arith, c.in-Ok-split_off.ensures.len, front.ok.0))
-    (omega (arith, c.in-Ok-split_off.ensures.tail_len, c.if-len-le-MOST.false, c.len.ensures, ap (λ v. v.len) same, rear.ok.0)) c.requires.filled)
+    (omega (arith, c.in-Ok-split_off.ensures.tail_len, c.if-len-lt-MOST.false, c.len.ensures, ap (λ v. v.len) same, rear.ok.0)) c.requires.filled)

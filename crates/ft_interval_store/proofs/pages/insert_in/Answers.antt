@@ -1,4 +1,4 @@
-use Rattle.std.proofs.Common.{List, ◌++◌, refl, ap, sym, ◌∙◌}
+use Rattle.std.proofs.Common.{ap, ◌∙◌}
 use Rattle.std.specs.List.{insert}
 use Rattle.ft_interval_store.proofs.PageLists.{inserted, on-any, same-page}
 use Rattle.ft_interval_store.proofs.pages.insert_in.Goals as goal

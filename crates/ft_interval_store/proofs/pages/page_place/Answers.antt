@@ -1,4 +1,4 @@
-use Rattle.std.proofs.Common.{get_or, ◌<◌, length, ◌∙◌, ap, arith, subst, sym}
+use Rattle.std.proofs.Common.{◌<◌, length, ◌∙◌, ap, arith, subst}
 use Rattle.std.proofs.lemmas.List.{get_or_default}
 use Rattle.ft_interval_store.proofs.PageLists.{count-all, next-place}
 use Rattle.ft_interval_store.proofs.pages.page_place.Goals as goal

@@ -1,7 +1,5 @@
 use Rattle.std.proofs.Common.{arith, rules}
-use Rattle.std.specs.Global.{Vec}
 use Rattle.std.proofs.lemmas.List.Sorted.{IsPartitionPoint-from_clause}
-use Rattle.ft_interval_store.specs.declared.intervals.Interval.{Interval}
 use Rattle.ft_interval_store.specs.Intervals.{Name, begins_by}
 use Rattle.ft_interval_store.proofs.NamesOnPages.{partitioned}
 use Rattle.ft_interval_store.proofs.search.pages_by.Goals as goal
