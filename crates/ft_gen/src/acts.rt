@@ -6,6 +6,7 @@ ghost use Rattle.ft_gen.specs.Acts.{event_of};
 ghost use Rattle.ft_gen.specs.Rounds.{client_name};
 
 use crate::edits::DrawnOp;
+use crate::texts::numbered;
 use ft_base::{OutOfMemory, Text};
 use ft_op::{CellOp, ChannelOp, GridOp, Target};
 use ft_seqr::{Event, HowMany};
@@ -40,7 +41,7 @@ pub struct Act {
 fn client_name(alloc: Global, number: u64) -> Result<Text, OutOfMemory>
     ensures { IfOk result (λ name. name ≡ client_name number) }
 {
-    Ok(Text::from_string(format!(in alloc; "c{number}")?))
+    numbered(alloc, "c", number)
 }
 
 impl Act {

@@ -1,6 +1,6 @@
 //! The operations of edits that are drawn.
 
-ghost use Rattle.std.specs.Prelude.{◌≡◌, IfOk, decimal};
+ghost use Rattle.std.specs.Prelude.{◌≡◌, ◌≤◌, ◌++◌, IfOk, chars, decimal, length};
 ghost use Rattle.ft_op.specs.WellFormed.{IsWellFormed};
 ghost use Rattle.ft_gen.specs.declared.edits.DrawnOp.TheVariants as drawn;
 ghost use Rattle.ft_gen.specs.Acts.{op_of};
@@ -8,11 +8,25 @@ ghost use Rattle.ft_gen.specs.Edits.{letters};
 
 use crate::draws::draw;
 use crate::edits::DrawnOp;
+use arrayvec::ArrayString;
 use ft_base::{OutOfMemory, Text};
 use ft_json::ValText;
 use ft_op::{BaseOp, CellOp, ChannelOp, Ends, GridOp, Seg, TextOp};
 use ft_props::{AdjSet, Changes, PropSet};
+use itoa::Buffer;
 use std::alloc::Global;
+
+/// A name: a few letters, and a number behind them.
+pub(crate) fn numbered(alloc: Global, letters: &str, number: u64) -> Result<Text, OutOfMemory>
+    requires { length letters.now ≤ 4 }
+    ensures { IfOk result (λ name. name ≡ chars (letters.now ++ decimal number)) }
+{
+    let mut digits = Buffer::new();
+    let mut name = ArrayString::<24>::new();
+    name.push_str(letters);
+    name.push_str(digits.format(number));
+    Text::new(alloc, name.as_str())
+}
 
 impl DrawnOp {
     /// The operation.
@@ -60,7 +74,8 @@ fn insertion(alloc: Global, pos: u64, count: u64, state: u64) -> Result<ChannelO
 fn number_text(alloc: Global, number: u64) -> Result<ValText, OutOfMemory>
     ensures { IfOk result (λ text. text ≡ decimal number) }
 {
-    ValText::new(alloc, number.to_string(alloc)?.as_str())
+    let mut digits = Buffer::new();
+    ValText::new(alloc, digits.format(number))
 }
 
 // The annotation of one element.
@@ -99,7 +114,7 @@ fn new_interval(alloc: Global, number: u64, pos: u64) -> Result<ChannelOp, OutOf
     };
     Ok(ChannelOp::Text(TextOp::IntervalAdd {
         label: Text::new(alloc, "notes")?,
-        id: Text::from_string(format!(in alloc; "i{number}")?),
+        id: numbered(alloc, "i", number)?,
         ends,
         props: PropSet::new(alloc),
     }))

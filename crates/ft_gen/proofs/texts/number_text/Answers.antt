@@ -4,6 +4,4 @@ use Rattle.ft_gen.proofs.DrawnTexts.{canonical_decimal}
 use Rattle.ft_gen.proofs.texts.number_text.Goals as goal
 
 pub new-requires : goal.new-requires
-new-requires c =
-    let text : c.as_str.result.now ≡ decimal c.args.number = search rules in
-    subst IsCanonicalText (sym text) (canonical_decimal c.args.number (omega arith))
+new-requires c = subst IsCanonicalText (sym c.format.ensures.text) (canonical_decimal c.args.number (omega arith))
