@@ -38,7 +38,7 @@ IsClientAct name client.Show e = e ≡ event.Show name
 IsClientAct name client.Queue e = e ≡ event.Queue name
 IsClientAct name client.Compact e = e ≡ event.Compact name
 IsClientAct name client.Summary e = e ≡ event.Summary name
-IsClientAct name (client.Offer read) e = (text : Characters) × (e ≡ event.Offer name text) × (message (encode_utf8_all text) ≡ read)
+IsClientAct name (client.Offer read) e = (text : Characters) × (e ≡ event.Offer name text) × (message (encode_utf8_all text) ≡ read.value)
 IsClientAct name (client.Overlap label a b) e = e ≡ event.Overlap name label.now a b
 IsClientAct name (client.Blame a b) e = e ≡ event.Blame name a b
 IsClientAct name client.Authors e = e ≡ event.Authors name
@@ -48,7 +48,7 @@ abbrev pub IsSessionAct : SessionAct → Event → Type 0
 IsSessionAct (session.Start name from) e = e ≡ event.Start name.now from.now
 IsSessionAct session.History e = e ≡ event.History
 IsSessionAct (session.Guest name) e = e ≡ event.Guest name.now
-IsSessionAct (session.Submit name read) e = (text : Characters) × (e ≡ event.Submit name.now text) × (draft (encode_utf8_all text) ≡ read)
+IsSessionAct (session.Submit name read) e = (text : Characters) × (e ≡ event.Submit name.now text) × (draft (encode_utf8_all text) ≡ read.value)
 IsSessionAct (session.Part name) e = e ≡ event.Part name.now
 
 -- the event that does this
@@ -85,7 +85,7 @@ client_step client.Show = show_client
 client_step client.Queue = queue_client
 client_step client.Compact = λ w c. quietly w
 client_step client.Summary = summarize_client
-client_step (client.Offer read) = λ w c. offered_client w c read
+client_step (client.Offer read) = λ w c. offered_client w c read.value
 client_step (client.Overlap label a b) = overlap_client label.now a b
 client_step (client.Blame a b) = λ w c. blame_client w c.client a b
 client_step client.Authors = authors_client
@@ -95,7 +95,7 @@ abbrev pub session_step : NaiveWorld → SessionAct → Stepped
 session_step w (session.Start name from) = happen w (event.Start name.now from.now)
 session_step w session.History = happen w event.History
 session_step w (session.Guest name) = happen w (event.Guest name.now)
-session_step w (session.Submit name read) = of_guest w name.now (λ g. submitted_guest w g read)
+session_step w (session.Submit name read) = of_guest w name.now (λ g. submitted_guest w g read.value)
 session_step w (session.Part name) = happen w (event.Part name.now)
 
 -- what becomes of what happens
@@ -129,11 +129,11 @@ draft_load (Err fault) = 0
 -- what they add, beside one for each of them
 abbrev pub client_load : ClientAct → ℕ
 client_load (client.Edit op) = op_load op.now
-client_load (client.Offer read) = message_load read
+client_load (client.Offer read) = message_load read.value
 client_load _ = 0
 
 abbrev pub session_load : SessionAct → ℕ
-session_load (session.Submit name read) = draft_load read
+session_load (session.Submit name read) = draft_load read.value
 session_load _ = 0
 
 abbrev pub act_load : Act → ℕ

@@ -1,5 +1,6 @@
 -- What an answer says of the output of the naive session.
-use Rattle.std.specs.Prelude.{◌≡◌, length, map, ⊤}
+use Rattle.std.specs.Prelude.{◌≡◌, length, map, Option, Some, None, Box, ⊤}
+use Rattle.std.specs.declared.alloc.Global.{Global}
 use Rattle.serde_json.specs.Written.{compact_text}
 use Rattle.ft_msg.specs.declared.views.View.{View as ClientView}
 use Rattle.ft_session.specs.declared.outputs.Out.{Out}
@@ -9,6 +10,11 @@ use Rattle.ft_props.specs.Properties.{Characters}
 use Rattle.ft_msg.specs.Content.{content}
 use Rattle.ft_msg.specs.Answers.{view_content}
 use Rattle.ft_seqr.specs.World.{NamedClient, NaiveWorld, Nothing, Output, Texts, View, furthest}
+
+-- what is written: nothing where there is no box
+abbrev pub unboxed : Option (Box Out Global) → Out
+unboxed None = out.Nothing
+unboxed (Some b) = b.value
 
 -- the view is the client's: its numbers, but how many elements its replica held, and what it shows
 pub record IsViewOf (c : NamedClient) (name : Characters) (view : ClientView) : Type 0 where

@@ -33,7 +33,7 @@ pub(crate) enum ClientAct<'a> {
     Compact,
     Summary,
     /// The text that is offered, as it was read.
-    Offer(Result<Message, Cause>),
+    Offer(Box<Result<Message, Cause>>),
     /// A label, and the start and the end of a range.
     Overlap(&'a Text, u64, u64),
     /// The start and the end of a range.
@@ -49,7 +49,7 @@ pub(crate) enum SessionAct<'a> {
     History,
     Guest(&'a Text),
     /// A guest, and the text that is submitted, as it was read.
-    Submit(&'a Text, Result<Draft, Cause>),
+    Submit(&'a Text, Box<Result<Draft, Cause>>),
     Part(&'a Text),
 }
 
@@ -93,7 +93,7 @@ pub(crate) fn act_of(alloc: Global, event: &Event) -> Result<Act<'_>, OutOfMemor
 fn offer<'a>(alloc: Global, client: &'a Text, text: &Text) -> Result<Act<'a>, OutOfMemory>
     ensures { IfOk result (λ act. IsAct act (Event.Offer client.now text.now)) }
 {
-    let read = read_offer(alloc, text)?;
+    let read = Box::new(alloc, read_offer(alloc, text)?)?;
     Ok(Act::OfClient(client, ClientAct::Offer(read)))
 }
 
@@ -101,7 +101,7 @@ fn offer<'a>(alloc: Global, client: &'a Text, text: &Text) -> Result<Act<'a>, Ou
 fn submission<'a>(alloc: Global, guest: &'a Text, text: &Text) -> Result<Act<'a>, OutOfMemory>
     ensures { IfOk result (λ act. IsAct act (Event.Submit guest.now text.now)) }
 {
-    let read = read_submission(alloc, text)?;
+    let read = Box::new(alloc, read_submission(alloc, text)?)?;
     Ok(Act::OfSession(SessionAct::Submit(guest, read)))
 }
 

@@ -13,7 +13,7 @@ ghost use Rattle.ft_session.specs.Effects.{ShowsNumbers};
 ghost use Rattle.ft_session.specs.Worlds.{AnswersReading, MeetsSome};
 
 use crate::members::Member;
-use crate::outputs::{Out, Values};
+use crate::outputs::{BoxedOut, Out, Values};
 use crate::service::Service;
 use ft_attrib::AttrRun;
 use ft_base::{Datum, OutOfMemory, Text};
@@ -23,36 +23,40 @@ use ft_sumdoc::{IntervalRec, SumDoc, write_summary};
 use std::alloc::Global;
 
 /// The client's view.
-pub(crate) fn show<R: Replica>(member: &Member<R>, service: &Service) -> Result<Out, Refusal>
+pub(crate) fn show<R: Replica>(member: &Member<R>, service: &Service) -> Result<BoxedOut, Refusal>
     requires { MeetsSome member.now service.now }
     ensures answers { AnswersReading show_client member.now service.now result }
     ensures numbers { IfOk result (ShowsNumbers member.now) }
 {
     let view = member.replica.view()?;
-    Ok(Out::View {
+    let out = Out::View {
         name: member.name.copy()?,
         view,
-    })
+    };
+    Ok(BoxedOut::of(service.alloc, out)?)
 }
 
 /// The client's unsent messages, the oldest first.
-pub(crate) fn queue<R: Replica>(member: &Member<R>, service: &Service) -> Result<Out, Refusal>
+pub(crate) fn queue<R: Replica>(member: &Member<R>, service: &Service) -> Result<BoxedOut, Refusal>
     requires { MeetsSome member.now service.now }
     ensures { AnswersReading queue_client member.now service.now result }
 {
     let values = queue_texts(service.alloc, &member.replica)?;
-    Ok(Out::Texts(values))
+    Ok(BoxedOut::of(service.alloc, Out::Texts(values))?)
 }
 
 /// The client's summary.
-pub(crate) fn summarize<R: Replica>(member: &Member<R>, service: &Service) -> Result<Out, Refusal>
+pub(crate) fn summarize<R: Replica>(
+    member: &Member<R>,
+    service: &Service,
+) -> Result<BoxedOut, Refusal>
     requires { MeetsSome member.now service.now }
     ensures { AnswersReading summarize_client member.now service.now result }
 {
     let summary = summary_of(member, service)?;
     let mut values = Values::new(service.alloc);
     values.push(write_summary(service.alloc, &summary)?)?;
-    Ok(Out::Texts(values))
+    Ok(BoxedOut::of(service.alloc, Out::Texts(values))?)
 }
 
 /// The summary of the replica, over the names of all connections.
@@ -73,14 +77,14 @@ pub(crate) fn overlap<R: Replica>(
     label: &Text,
     start: u64,
     end: u64,
-) -> Result<Out, Refusal>
+) -> Result<BoxedOut, Refusal>
     requires range { start ≤ end }
     requires meets { MeetsSome member.now service.now }
     ensures { AnswersReading (overlap_client label.now start end) member.now service.now result }
 {
     let found = member.replica.overlapping(label, start, end)?;
     let values = overlap_texts(service.alloc, found.as_slice())?;
-    Ok(Out::Texts(values))
+    Ok(BoxedOut::of(service.alloc, Out::Texts(values))?)
 }
 
 /// Who inserted the visible elements of a range.
@@ -89,7 +93,7 @@ pub(crate) fn blame<R: Replica>(
     service: &Service,
     start: u64,
     end: u64,
-) -> Result<Out, Refusal>
+) -> Result<BoxedOut, Refusal>
     requires range { start ≤ end }
     requires meets { MeetsSome member.now service.now }
     ensures { AnswersReading (λ w c. blame_client w c.client start end) member.now service.now result }
@@ -102,17 +106,20 @@ pub(crate) fn blame<R: Replica>(
     }
     let runs = origins.runs(start, end)?;
     let values = run_texts(service.alloc, &service.names, runs.as_slice())?;
-    Ok(Out::Texts(values))
+    Ok(BoxedOut::of(service.alloc, Out::Texts(values))?)
 }
 
 /// How many visible elements each connection inserted.
-pub(crate) fn authors<R: Replica>(member: &Member<R>, service: &Service) -> Result<Out, Refusal>
+pub(crate) fn authors<R: Replica>(
+    member: &Member<R>,
+    service: &Service,
+) -> Result<BoxedOut, Refusal>
     requires { MeetsSome member.now service.now }
     ensures { AnswersReading authors_client member.now service.now result }
 {
     let origins = member.replica.attribution()?;
     let texts = author_texts(service.alloc, &service.names, &origins)?;
-    Ok(Out::Texts(Values::of(texts)))
+    Ok(BoxedOut::of(service.alloc, Out::Texts(Values::of(texts)))?)
 }
 
 // The texts of the unsent messages, the oldest first.

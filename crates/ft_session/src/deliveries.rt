@@ -9,7 +9,7 @@ ghost use Rattle.ft_session.specs.Worlds.{AnswersClient, MeetsSome};
 
 use crate::counts::next_count;
 use crate::members::Member;
-use crate::outputs::Out;
+use crate::outputs::BoxedOut;
 use crate::service::Service;
 use ft_msg::{Cause, Entry, Message, Replica};
 use ft_seqr::same_message::same_message;
@@ -20,7 +20,7 @@ pub(crate) fn deliver<R: Replica>(
     member: &mut Member<R>,
     service: &Service,
     count: HowMany,
-) -> Result<Out, Refusal>
+) -> Result<BoxedOut, Refusal>
     requires { MeetsSome member.old service.now }
     ensures { AnswersClient (λ w c. deliver_client w c count) member.old member.new service.now service.now result }
 {
@@ -34,7 +34,7 @@ pub(crate) fn deliver<R: Replica>(
         return Err(Refusal::NothingToDeliver { have });
     };
     process_all(&mut member.replica, &ahead[..wanted as usize])?;
-    Ok(Out::Nothing)
+    Ok(BoxedOut::nothing())
 }
 
 /// The client processes the message that an offered text was read as, if it is the next one and the log
@@ -43,7 +43,7 @@ pub(crate) fn offer<R: Replica>(
     member: &mut Member<R>,
     service: &Service,
     read: &Result<Message, Cause>,
-) -> Result<Out, Refusal>
+) -> Result<BoxedOut, Refusal>
     requires { MeetsSome member.old service.now }
     ensures { AnswersClient (λ w c. offered_client w c read.now) member.old member.new service.now service.now result }
 {
@@ -61,7 +61,7 @@ fn offer_message<R: Replica>(
     member: &mut Member<R>,
     service: &Service,
     message: &Message,
-) -> Result<Out, Refusal>
+) -> Result<BoxedOut, Refusal>
     requires meets { MeetsSome member.old service.now }
     requires linked { HasConnection member.old }
     ensures { AnswersClient (λ w c. offer_message w c message.now) member.old member.new service.now service.now result }
@@ -80,7 +80,7 @@ fn offer_message<R: Replica>(
         });
     };
     process_one(&mut member.replica, entry)?;
-    Ok(Out::Nothing)
+    Ok(BoxedOut::nothing())
 }
 
 // The next of the messages, if it is the one offered.

@@ -8,7 +8,7 @@ ghost use Rattle.ft_session.specs.Worlds.{AnswersClient, MeetsSome, service_of};
 ghost use Rattle.ft_msg.specs.Answers.{IsFullyCompacted, with_queue};
 
 use crate::members::Member;
-use crate::outputs::Out;
+use crate::outputs::BoxedOut;
 use crate::service::Service;
 use ft_msg::Replica;
 use ft_op::ChannelOp;
@@ -19,13 +19,13 @@ pub(crate) fn edit<R: Replica>(
     member: &mut Member<R>,
     service: &Service,
     op: &ChannelOp,
-) -> Result<Out, Refusal>
+) -> Result<BoxedOut, Refusal>
     requires formed { IsWellFormed op.now }
     requires meets { MeetsSome member.old service.now }
     ensures { AnswersClient (λ w c. edit_client w c op.now) member.old member.new service.now service.now result }
 {
     member.replica.edit(op)?;
-    Ok(Out::Nothing)
+    Ok(BoxedOut::nothing())
 }
 
 /// So many of the client's oldest unsent messages are submitted.
@@ -33,7 +33,7 @@ pub(crate) fn ticket<R: Replica>(
     member: &mut Member<R>,
     service: &mut Service,
     count: HowMany,
-) -> Result<Out, Refusal>
+) -> Result<BoxedOut, Refusal>
     requires { MeetsSome member.old service.old }
     ensures { AnswersClient (λ w c. ticket_client w c count) member.old member.new service.old service.new result }
 {
@@ -45,17 +45,20 @@ pub(crate) fn ticket<R: Replica>(
         return Err(Refusal::NothingToTicket { have });
     };
     submit_oldest(&mut member.replica, service, conn, wanted)?;
-    Ok(Out::Nothing)
+    Ok(BoxedOut::nothing())
 }
 
 /// The client lets go of what no message can refer to, of all of it where `R::COMPACTS`.
-pub(crate) fn compact<R: Replica>(member: &mut Member<R>, service: &Service) -> Result<Out, Refusal>
+pub(crate) fn compact<R: Replica>(
+    member: &mut Member<R>,
+    service: &Service,
+) -> Result<BoxedOut, Refusal>
     requires { MeetsSome member.old service.now }
     ensures answers { AnswersClient (λ w c. quietly w) member.old member.new service.now service.now result }
     ensures full { IsTrue R.COMPACTS → OnOk result (IsFullyCompacted member.new.replica.client) }
 {
     member.replica.compact()?;
-    Ok(Out::Nothing)
+    Ok(BoxedOut::nothing())
 }
 
 // So many of the replica's oldest unsent messages are submitted for its connection.

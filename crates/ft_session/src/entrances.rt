@@ -13,7 +13,7 @@ ghost use Rattle.ft_session.specs.Worlds.{AnswersHappening, SessionStands, Stand
 use crate::asked::summary_of;
 use crate::guests::has_guest;
 use crate::members::{Member, has_member, member_place};
-use crate::outputs::Out;
+use crate::outputs::BoxedOut;
 use crate::session::Session;
 use ft_base::{Datum, OutOfMemory, Text};
 use ft_msg::Replica;
@@ -21,7 +21,7 @@ use ft_seqr::{NAME_LIMIT, Refusal};
 
 impl<R: Replica + Drop> Session<R> {
     /// A new client, empty, or over the document of the client of the second name.
-    pub(crate) fn begin(&mut self, name: &Text, from: &Option<Text>) -> Result<Out, Refusal>
+    pub(crate) fn begin(&mut self, name: &Text, from: &Option<Text>) -> Result<BoxedOut, Refusal>
         requires { StandsForSome self.old }
         ensures answers { AnswersHappening (λ w. happen w (event.Start name.now from.now)) self.old self.new result }
         ensures effect { IfOk result (λ out. SessionEffect R.COMPACTS (event.Start name.now from.now) self.old self.new out) }
@@ -33,18 +33,18 @@ impl<R: Replica + Drop> Session<R> {
     }
 
     // A new client, which is empty.
-    fn start(&mut self, name: &Text) -> Result<Out, Refusal>
+    fn start(&mut self, name: &Text) -> Result<BoxedOut, Refusal>
         requires { StandsForSome self.old }
         ensures { AnswersHappening (λ w. happen w (event.Start name.now None)) self.old self.new result }
     {
         self.free_name(name)?;
         let replica = R::start(self.service.alloc)?;
         self.admit(name, replica)?;
-        Ok(Out::Nothing)
+        Ok(BoxedOut::nothing())
     }
 
     // A new client over the document of the client of that name.
-    fn start_from(&mut self, name: &Text, from: &Text) -> Result<Out, Refusal>
+    fn start_from(&mut self, name: &Text, from: &Text) -> Result<BoxedOut, Refusal>
         requires { StandsForSome self.old }
         ensures answers { AnswersHappening (λ w. happen w (event.Start name.now (Some from.now))) self.old self.new result }
         ensures trimmed { OnOk result (StartsTrimmed name.now from.now self.old self.new) }
@@ -52,7 +52,7 @@ impl<R: Replica + Drop> Session<R> {
         self.free_name(name)?;
         let replica = self.copy_of(from)?;
         self.admit(name, replica)?;
-        Ok(Out::Nothing)
+        Ok(BoxedOut::nothing())
     }
 
     /// Whether the name can be given.

@@ -12,7 +12,7 @@ ghost use Rattle.ft_session.specs.Acts.{submitted_guest, submitted_or_refused};
 ghost use Rattle.ft_session.specs.Services.{AnswersService};
 ghost use Rattle.ft_session.specs.Worlds.{AnswersHappening, StandsForSome, service_of};
 
-use crate::outputs::{Out, Values};
+use crate::outputs::{BoxedOut, Out, Values};
 use crate::service::Service;
 use crate::session::Session;
 use ft_base::{Datum, OutOfMemory, Text};
@@ -38,7 +38,7 @@ impl Model for Guest {
 
 impl<R: Replica + Drop> Session<R> {
     /// A new name without a client, with a connection, which joins.
-    pub(crate) fn enter(&mut self, name: &Text) -> Result<Out, Refusal>
+    pub(crate) fn enter(&mut self, name: &Text) -> Result<BoxedOut, Refusal>
         requires { StandsForSome self.old }
         ensures { AnswersHappening (λ w. happen w (event.Guest name.now)) self.old self.new result }
     {
@@ -47,23 +47,27 @@ impl<R: Replica + Drop> Session<R> {
         let label = connection_name(self.service.alloc, name, 1)?;
         self.service.join(&label)?;
         self.add_guest(name, conn)?;
-        Ok(Out::Nothing)
+        Ok(BoxedOut::nothing())
     }
 
     /// The draft that a submitted text was read as comes from the guest.
-    pub(crate) fn submit(&mut self, name: &Text, read: Result<Draft, Cause>) -> Result<Out, Refusal>
+    pub(crate) fn submit(
+        &mut self,
+        name: &Text,
+        read: Box<Result<Draft, Cause>>,
+    ) -> Result<BoxedOut, Refusal>
         requires { StandsForSome self.old }
-        ensures { AnswersHappening (λ w. of_guest w name.now (λ g. submitted_guest w g read)) self.old self.new result }
+        ensures { AnswersHappening (λ w. of_guest w name.now (λ g. submitted_guest w g read.value)) self.old self.new result }
     {
         let Some(place) = place_of_guest(self.guests.as_slice(), name) else {
             return Err(Refusal::UnknownClient);
         };
         submit_read(&mut self.service, self.guests[place].conn, read)?;
-        Ok(Out::Nothing)
+        Ok(BoxedOut::nothing())
     }
 
     /// The guest's connection leaves.
-    pub(crate) fn part(&mut self, name: &Text) -> Result<Out, Refusal>
+    pub(crate) fn part(&mut self, name: &Text) -> Result<BoxedOut, Refusal>
         requires { StandsForSome self.old }
         ensures { AnswersHappening (λ w. happen w (event.Part name.now)) self.old self.new result }
     {
@@ -71,7 +75,7 @@ impl<R: Replica + Drop> Session<R> {
             return Err(Refusal::UnknownClient);
         };
         self.service.leave(self.guests[place].conn)?;
-        Ok(Out::Nothing)
+        Ok(BoxedOut::nothing())
     }
 
     // A guest comes in with this connection.
@@ -84,12 +88,12 @@ impl<R: Replica + Drop> Session<R> {
     }
 
     /// The messages of the log.
-    pub(crate) fn history(&self) -> Result<Out, Refusal>
+    pub(crate) fn history(&self) -> Result<BoxedOut, Refusal>
         requires { StandsForSome self.now }
         ensures { AnswersHappening (λ w. happen w event.History) self.now self.now result }
     {
         let values = log_texts(&self.service)?;
-        Ok(Out::Texts(values))
+        Ok(BoxedOut::of(self.service.alloc, Out::Texts(values))?)
     }
 }
 
@@ -128,10 +132,14 @@ fn message_texts(alloc: Global, entries: &[Entry]) -> Result<Values, OutOfMemory
 }
 
 // The draft that a submitted text was read as comes from the connection.
-fn submit_read(service: &mut Service, conn: u32, read: Result<Draft, Cause>) -> Result<(), Refusal>
-    ensures { (w : NaiveWorld) → service.old ≡ service_of w → AnswersService service.old service.new (submitted_or_refused w conn read) result }
+fn submit_read(
+    service: &mut Service,
+    conn: u32,
+    read: Box<Result<Draft, Cause>>,
+) -> Result<(), Refusal>
+    ensures { (w : NaiveWorld) → service.old ≡ service_of w → AnswersService service.old service.new (submitted_or_refused w conn read.value) result }
 {
-    match read {
+    match Box::into_inner(read) {
         Ok(draft) => service.submit(conn, draft),
         Err(cause) => Err(Refusal::of_cause(cause)),
     }

@@ -5,7 +5,7 @@ ghost use Rattle.ft_session.specs.Worlds.{AnswersClient, MeetsSome};
 
 use crate::counts::next_count;
 use crate::members::Member;
-use crate::outputs::Out;
+use crate::outputs::BoxedOut;
 use crate::service::Service;
 use ft_msg::Replica;
 use ft_seqr::{Refusal, conn_of, connection_name};
@@ -14,7 +14,7 @@ use ft_seqr::{Refusal, conn_of, connection_name};
 pub(crate) fn connect<R: Replica>(
     member: &mut Member<R>,
     service: &mut Service,
-) -> Result<Out, Refusal>
+) -> Result<BoxedOut, Refusal>
     requires { MeetsSome member.old service.old }
     ensures { AnswersClient connect_client member.old member.new service.old service.new result }
 {
@@ -24,14 +24,14 @@ pub(crate) fn connect<R: Replica>(
     member.replica.connect(conn)?;
     service.join(&name)?;
     member.connects = connects;
-    Ok(Out::Nothing)
+    Ok(BoxedOut::nothing())
 }
 
 /// The client's connection leaves, and its unsent messages are gone.
 pub(crate) fn drop_link<R: Replica>(
     member: &mut Member<R>,
     service: &mut Service,
-) -> Result<Out, Refusal>
+) -> Result<BoxedOut, Refusal>
     requires { MeetsSome member.old service.old }
     ensures { AnswersClient drop_client member.old member.new service.old service.new result }
 {
@@ -40,14 +40,17 @@ pub(crate) fn drop_link<R: Replica>(
     };
     service.leave(conn)?;
     member.replica.drop_link()?;
-    Ok(Out::Nothing)
+    Ok(BoxedOut::nothing())
 }
 
 /// The client queues a noop.
-pub(crate) fn noop<R: Replica>(member: &mut Member<R>, service: &Service) -> Result<Out, Refusal>
+pub(crate) fn noop<R: Replica>(
+    member: &mut Member<R>,
+    service: &Service,
+) -> Result<BoxedOut, Refusal>
     requires { MeetsSome member.old service.now }
     ensures { AnswersClient noop_client member.old member.new service.now service.now result }
 {
     member.replica.noop()?;
-    Ok(Out::Nothing)
+    Ok(BoxedOut::nothing())
 }

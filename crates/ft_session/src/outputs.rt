@@ -1,8 +1,13 @@
 //! What an event of a session is answered.
 
-use ft_base::{List, Text};
+ghost use Rattle.std.specs.Prelude.{◌≡◌, IfOk};
+ghost use Rattle.ft_session.specs.declared.outputs.Out.TheVariants as out;
+
+use ft_base::{List, OutOfMemory, Text};
 use ft_json::ValText;
 use ft_msg::View;
+use std::alloc::Global;
+use std::marker::Model;
 
 /// JSON values, in order.
 pub type Values = List<ValText>;
@@ -16,6 +21,54 @@ pub enum Out {
     View { name: Text, view: View },
     /// JSON values, one a line.
     Texts(Values),
+}
+
+/// What an event writes, as the functions of this crate hand it on: one word, which takes no memory where
+/// nothing is written. Contracts see what is written.
+#[derive(Drop)]
+pub(crate) struct BoxedOut {
+    // None where nothing is written.
+    out: Option<Box<Out>>,
+}
+
+impl Model for BoxedOut {
+    ghost use Rattle.ft_session.specs.declared.outputs.Out.{Out};
+
+    ghost Value = { Out };
+
+    ghost use Rattle.ft_session.specs.Outputs.{unboxed};
+
+    ghost view = { λ b. unboxed b.out };
+}
+
+impl BoxedOut {
+    /// Nothing. It takes no memory.
+    pub(crate) fn nothing() -> BoxedOut
+        ensures { result ≡ out.Nothing }
+    {
+        BoxedOut { out: None }
+    }
+
+    /// This, on the heap.
+    ///
+    /// Returns `OutOfMemory` where there is no room for it.
+    pub(crate) fn of(alloc: Global, written: Out) -> Result<BoxedOut, OutOfMemory>
+        ensures { IfOk result (λ boxed. boxed ≡ written) }
+    {
+        Ok(BoxedOut {
+            out: Some(Box::new(alloc, written)?),
+        })
+    }
+
+    /// What is written, no longer on the heap.
+    pub(crate) fn into_out(self) -> Out
+        ensures { result ≡ self }
+    {
+        match self.out {
+            Some(out) => Box::into_inner(out),
+            None => Out::Nothing,
+        }
+    }
 }
 
 /// How many sub-operations were skipped, and how many messages were for another address.

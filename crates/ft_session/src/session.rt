@@ -13,7 +13,7 @@ use crate::edits::{compact, edit, ticket};
 use crate::guests::Guest;
 use crate::links::{connect, drop_link, noop};
 use crate::members::{Member, member_place};
-use crate::outputs::Out;
+use crate::outputs::BoxedOut;
 use crate::service::Service;
 use ft_base::Text;
 use ft_msg::Replica;
@@ -50,7 +50,7 @@ impl<R: Replica + Drop> Session<R> {
     }
 
     /// What an event does happens.
-    pub(crate) fn happen(&mut self, act: Act<'_>) -> Result<Out, Refusal>
+    pub(crate) fn happen(&mut self, act: Act<'_>) -> Result<BoxedOut, Refusal>
         requires formed { IsWellFormedAct act }
         requires stands { StandsForSome self.old }
         ensures answers { AnswersHappening (λ w. act_step w act.entry) self.old self.new result }
@@ -63,7 +63,7 @@ impl<R: Replica + Drop> Session<R> {
     }
 
     // What an event does to the session as a whole happens.
-    fn happen_here(&mut self, act: SessionAct<'_>) -> Result<Out, Refusal>
+    fn happen_here(&mut self, act: SessionAct<'_>) -> Result<BoxedOut, Refusal>
         requires { StandsForSome self.old }
         ensures answers { AnswersHappening (λ w. session_step w act.entry) self.old self.new result }
         ensures effect { IfOk result (λ out. SessionActEffect R.COMPACTS act.entry self.old self.new out) }
@@ -78,7 +78,7 @@ impl<R: Replica + Drop> Session<R> {
     }
 
     // What an event does happens to the client of that name.
-    fn happen_to(&mut self, name: &Text, act: &ClientAct<'_>) -> Result<Out, Refusal>
+    fn happen_to(&mut self, name: &Text, act: &ClientAct<'_>) -> Result<BoxedOut, Refusal>
         requires formed { IsWellFormedClientAct act.now }
         requires stands { StandsForSome self.old }
         ensures answers { AnswersHappening (λ w. of_client w name.now (client_step act.now w)) self.old self.new result }
@@ -96,7 +96,7 @@ fn happen_to_member<R: Replica>(
     member: &mut Member<R>,
     service: &mut Service,
     act: &ClientAct<'_>,
-) -> Result<Out, Refusal>
+) -> Result<BoxedOut, Refusal>
     requires formed { IsWellFormedClientAct act.now }
     requires meets { MeetsSome member.old service.old }
     ensures answers { AnswersClient (client_step act.now) member.old member.new service.old service.new result }

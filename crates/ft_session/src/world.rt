@@ -13,7 +13,7 @@ ghost use Rattle.ft_session.specs.Worlds.{AnswersEvent, MembersStand, WorldStand
 use crate::acts::{Act, act_of};
 use crate::loads::act_load;
 use crate::members::Member;
-use crate::outputs::{Counts, Out};
+use crate::outputs::{BoxedOut, Counts, Out};
 use crate::session::Session;
 use ft_base::OutOfMemory;
 use ft_msg::{Numbers, Replica};
@@ -49,7 +49,7 @@ impl<R: Replica> Model for World<R> {
 /// What an event that was taken wrote, and the load and the counts after it.
 #[derive(Drop)]
 pub(crate) struct Taken {
-    out: Out,
+    out: BoxedOut,
     load: u64,
     counts: Counts,
 }
@@ -92,7 +92,7 @@ impl<R: Replica + Drop> World<R> {
             Ok(taken) => {
                 self.load = taken.load;
                 self.counts = taken.counts;
-                Ok(taken.out)
+                Ok(taken.out.into_out())
             }
             Err(why) => {
                 self.stopped = why.is_want();

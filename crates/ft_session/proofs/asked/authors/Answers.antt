@@ -12,6 +12,6 @@ returns-in_err-origins g c = reading-view c.member.view_is (reading-handed (refu
     (view-refused _ _ c.args.service.now c.in_err-origins.field-0.0 c.in_err-origins.ensures))
 
 pub returns : goal.returns
-returns g c = reading-view c.member.view_is
+returns g c = rw c.in_ok-of.ensures (reading-view c.member.view_is
     (authors-told _ c.args.service.now c.in_ok-origins.origins c.in_ok-origins.ensures c.of.result
-    (c.of.ensures ∙ c.in_ok-texts.ensures ∙ ap (λ (s : ServiceState). map compact_text (written_authors s.names c.in_ok-origins.origins)) c.service.view_is))
+    (c.of.ensures ∙ c.in_ok-texts.ensures ∙ ap (λ (s : ServiceState). map compact_text (written_authors s.names c.in_ok-origins.origins)) c.service.view_is)))

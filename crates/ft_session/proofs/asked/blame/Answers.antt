@@ -16,10 +16,10 @@ pub returns : goal.returns
 returns g c =
     let n = c.len.ensures.len in
     let h = c.if-len-end.false in
-    reading-view c.member.view_is
+    rw c.in_ok-of.ensures (reading-view c.member.view_is
     (blame-told _ c.args.service.now c.in_ok-origins.origins c.in_ok-origins.ensures c.args.start c.args.end (omega (arith, n, h)) c.in_ok-values.values
     (c.in_ok-values.ensures ∙ ap (λ (s : ServiceState). map compact_text (map (written_origin_run s.names) c.as_slice.result.now)) c.service.view_is
-    ∙ ap (λ (l : List AttrRun). map compact_text (map (written_origin_run c.args.service.now.names) l)) (c.as_slice.ensures.value ∙ c.in_ok-runs.ensures)))
+    ∙ ap (λ (l : List AttrRun). map compact_text (map (written_origin_run c.args.service.now.names) l)) (c.as_slice.ensures.value ∙ c.in_ok-runs.ensures))))
 
 pub returns-then-len-end : goal.returns-then-len-end
 returns-then-len-end g c =

@@ -12,6 +12,6 @@ returns-in_err-found g c = reading-view c.member.view_is (reading-handed (refusa
     (view-refused _ _ c.args.service.now c.in_err-found.field-0.0 c.in_err-found.ensures))
 
 pub returns : goal.returns
-returns g c = reading-view c.member.view_is
+returns g c = rw c.in_ok-of.ensures (reading-view c.member.view_is
     (overlap-told _ c.args.service.now c.args.label.now c.args.start c.args.end c.in_ok-found.found.items c.in_ok-values.values c.in_ok-found.ensures
-    (c.in_ok-values.ensures ∙ ap (λ (l : List IntervalRec). map compact_text (map written_overlap l)) c.as_slice.ensures.value))
+    (c.in_ok-values.ensures ∙ ap (λ (l : List IntervalRec). map compact_text (map written_overlap l)) c.as_slice.ensures.value)))

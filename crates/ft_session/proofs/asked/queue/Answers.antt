@@ -8,4 +8,4 @@ pub queue_texts-requires : goal.queue_texts-requires
 queue_texts-requires g c = queue-formed _ c.args.service.now (subst (λ (m : MemberState). MeetsSome m c.args.service.now) (sym c.member.view_is) c.requires)
 
 pub returns : goal.returns
-returns g c = reading-view c.member.view_is (queue-told _ c.args.service.now c.in_ok-values.values c.in_ok-values.ensures)
+returns g c = rw c.in_ok-of.ensures (reading-view c.member.view_is (queue-told _ c.args.service.now c.in_ok-values.values c.in_ok-values.ensures))

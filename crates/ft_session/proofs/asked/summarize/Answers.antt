@@ -12,5 +12,5 @@ pub write_summary-requires-clause-conns : goal.write_summary-requires-clause-con
 write_summary-requires-clause-conns g c = (summary-cut c.args.member.now c.args.service.now c.requires c.in_ok-summary.summary c.in_ok-summary.ensures).conns
 
 pub returns : goal.returns
-returns g c = summary-told c.args.member.now c.args.service.now c.in_ok-summary.summary c.push.new.self c.in_ok-summary.ensures
-    (c.in_ok-push.ensures.ok ∙ ap (λ (ts : List (List ℕ)). ts ++ (c.in_ok-write_summary.field-0 ∷ [])) c.new-values.ensures ∙ ap (λ (t : List ℕ). t ∷ []) c.in_ok-write_summary.ensures.text)
+returns g c = rw c.in_ok-of.ensures (summary-told c.args.member.now c.args.service.now c.in_ok-summary.summary c.push.new.self c.in_ok-summary.ensures
+    (c.in_ok-push.ensures.ok ∙ ap (λ (ts : List (List ℕ)). ts ++ (c.in_ok-write_summary.field-0 ∷ [])) c.new-values.ensures ∙ ap (λ (t : List ℕ). t ∷ []) c.in_ok-write_summary.ensures.text))

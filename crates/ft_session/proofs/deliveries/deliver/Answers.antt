@@ -27,7 +27,7 @@ returns-in_err-process_all g c = client-wants c.in_err-process_all.field-0.0 c.f
     (c.in_err-process_all.was ∙ c.in_err-process_all.ensures.memory)
 
 pub returns : goal.returns
-returns g c = by-view c.member.view_is
+returns g c = rw c.nothing.ensures (by-view c.member.view_is
     (told-taken _ c.args.service.now c.numbers-numbers.result c.numbers-numbers.ensures.numbers c.conn_of.result c.conn_of.ensures c.ahead_of-ahead.result.now c.ahead_of-ahead.ensures
     (has-conn c.conn_of.result c.is_none.result c.is_none.ensures c.if-is_none.false) c.args.count c.in-Some.wanted (sym c.wanted_count.ensures ∙ c.in-Some.is) _
-    (λ x y p. c.in_ok-process_all.ensures.ok x y p))
+    (λ x y p. c.in_ok-process_all.ensures.ok x y p)))

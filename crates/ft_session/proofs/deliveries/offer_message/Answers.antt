@@ -30,8 +30,8 @@ returns-in_err-process_one g c = client-wants c.in_err-process_one.field-0.0 c.f
     (c.in_err-process_one.was ∙ c.in_err-process_one.ensures.memory)
 
 pub returns : goal.returns
-returns g c = same-new c.member.view_is (g.R.Replica.state c.process_one.new.replica)
+returns g c = rw c.nothing.ensures (same-new c.member.view_is (g.R.Replica.state c.process_one.new.replica)
     (offer-taken c.args.member.now c.args.service.now c.requires.linked.conn c.requires.linked.of c.args.message.now c.in_ok-expected.expected (c.in_ok-expected.ensures ∙ ap (λ n. n + 1) (its-number c.args.member.now c.args.service.now c.numbers-number.result (c.numbers-number.ensures.numbers ∙ ap (λ (m : MemberState). numbers_of m.replica) c.member.view_is) (conn_of c.numbers-number.result.link) refl)) c.if-message-expected.false c.in-Some.entry.now
     (ap (offered_entry c.args.message.now) (sym (its-rest c.args.member.now c.args.service.now c.numbers-number.result (c.numbers-number.ensures.numbers ∙ ap (λ (m : MemberState). numbers_of m.replica) c.member.view_is) (conn_of c.numbers-number.result.link) refl c.ahead_of.result.now c.ahead_of.ensures)) ∙ sym c.offered_entry.ensures ∙ ap option_copied c.in-Some.is) (g.R.Replica.state c.process_one.new.replica)
     (subst (λ (m : MemberState). (x y : NaiveClient) → Processes m.replica (c.in-Some.entry.now ∷ []) x y → HasProcessed m.replica (g.R.Replica.state c.process_one.new.replica) (c.in-Some.entry.now ∷ []) y) c.member.view_is
-    (λ x y p. c.in_ok-process_one.ensures.ok x y p)))
+    (λ x y p. c.in_ok-process_one.ensures.ok x y p))))

@@ -8,4 +8,4 @@ returns-in_err-compact-clause-answers g c = by-view c.member.view_is
     (client-handed (refusal_of_view c.in_err-compact.field-0.0) c.from_residual.result c.from_residual.ensures (compact-refused _ c.args.service.now _ c.in_err-compact.field-0.0 c.in_err-compact.ensures.answers))
 
 pub returns-clause-answers : goal.returns-clause-answers
-returns-clause-answers g c = by-view c.member.view_is (compact-taken _ c.args.service.now _ c.in_ok-compact.ensures.answers)
+returns-clause-answers g c = rw c.nothing.ensures (by-view c.member.view_is (compact-taken _ c.args.service.now _ c.in_ok-compact.ensures.answers))

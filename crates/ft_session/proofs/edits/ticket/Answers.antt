@@ -25,7 +25,7 @@ returns-in_err-submit_oldest g c = client-wants c.in_err-submit_oldest.field-0.0
     (c.in_err-submit_oldest.was ∙ c.in_err-submit_oldest.ensures.memory)
 
 pub returns : goal.returns
-returns g c = by-view c.member.view_is
+returns g c = rw c.nothing.ensures (by-view c.member.view_is
     (ticket-taken _ c.args.service.now c.args.count c.in-Some.conn (ap (λ (n : Numbers). conn_of n.link) (sym c.numbers.ensures.numbers) ∙ sym c.conn_of.ensures ∙ c.in-Some.is)
     c.queued-have.result c.in-Some-wanted_count.wanted c.queued-have.ensures (sym c.wanted_count.ensures ∙ c.in-Some-wanted_count.is) c.submit_oldest.new.service _
-    (λ w v h k. c.in_ok-submit_oldest.ensures.service w v h k) c.in_ok-submit_oldest.ensures.replica)
+    (λ w v h k. c.in_ok-submit_oldest.ensures.service w v h k) c.in_ok-submit_oldest.ensures.replica))

@@ -25,6 +25,6 @@ returns-in_err-join g c = client-handed c.in_err-join.field-0.0 c.from_residual-
     (join-wanting _ _ c.args.service.now c.join.new.self c.in_ok-name.name c.in_err-join.field-0.0 (λ w h. c.in_err-join.ensures w h))
 
 pub returns : goal.returns
-returns g c = by-view c.member.view_is
+returns g c = rw c.nothing.ensures (by-view c.member.view_is
     (connect-taken _ c.args.service.now _ c.join.new.self c.in_ok-conn.conn c.in_ok-connects.connects c.in_ok-name.name c.in_ok-conn.ensures.next c.in_ok-connects.ensures
-    c.in_ok-name.ensures c.in_ok-connect.ensures (λ w h. c.in_ok-join.ensures w h))
+    c.in_ok-name.ensures c.in_ok-connect.ensures (λ w h. c.in_ok-join.ensures w h)))

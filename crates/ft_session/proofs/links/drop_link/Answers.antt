@@ -24,6 +24,6 @@ returns-in_err-drop_link g c = by-view c.member.view_is
     c.leave.new.self _ c.in_err-drop_link.field-0.0 c.in_err-drop_link.ensures.answers))
 
 pub returns : goal.returns
-returns g c = by-view c.member.view_is
+returns g c = rw c.nothing.ensures (by-view c.member.view_is
     (drop-taken _ c.args.service.now c.in-Some.conn (ap (λ (n : Numbers). conn_of n.link) (sym c.numbers.ensures.numbers) ∙ sym c.conn_of.ensures ∙ c.in-Some.is)
-    c.leave.new.self _ (λ w h. c.in_ok-leave.ensures w h) c.in_ok-drop_link.ensures.answers)
+    c.leave.new.self _ (λ w h. c.in_ok-leave.ensures w h) c.in_ok-drop_link.ensures.answers))

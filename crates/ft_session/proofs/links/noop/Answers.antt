@@ -12,4 +12,4 @@ returns-in_err-noop g c = by-view c.member.view_is
     (own-refused-as link_fault_kind refusal_of_link noop _ c.args.service.now _ c.in_err-noop.field-0.0 c.from_residual.result (link-alike _) c.in_err-noop.ensures c.from_residual.ensures)
 
 pub returns : goal.returns
-returns g c = by-view c.member.view_is (own-taken link_fault_kind refusal_of_link noop _ c.args.service.now _ noop-number c.in_ok-noop.ensures)
+returns g c = rw c.nothing.ensures (by-view c.member.view_is (own-taken link_fault_kind refusal_of_link noop _ c.args.service.now _ noop-number c.in_ok-noop.ensures))

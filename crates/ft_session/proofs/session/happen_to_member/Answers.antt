@@ -1,6 +1,7 @@
 -- Each of the things that happen to a client is its step.
 use Rattle.std.proofs.Common.{subst}
-use Rattle.ft_session.specs.Acts.{IsWellFormedClientAct}
+use Rattle.ft_session.specs.Acts.{IsWellFormedClientAct, offered_client}
+use Rattle.ft_session.specs.Worlds.{AnswersClient}
 use Rattle.ft_session.proofs.ActSteps.{as-asked, as-client}
 use Rattle.ft_session.proofs.session.happen_to_member.Goals as goal
 
@@ -35,7 +36,9 @@ pub returns-in-Summary-clause-answers : goal.returns-in-Summary-clause-answers
 returns-in-Summary-clause-answers g c = as-asked c.in-Summary.is c.summarize.ensures
 
 pub returns-in-Offer-clause-answers : goal.returns-in-Offer-clause-answers
-returns-in-Offer-clause-answers g c = as-client c.in-Offer.is c.offer.ensures
+returns-in-Offer-clause-answers g c = as-client c.in-Offer.is (subst
+    (λ read. AnswersClient (λ w member. offered_client w member read) c.args.member.now c.offer.new.member c.args.service.now c.args.service.now c.offer.result)
+    c.deref.ensures c.offer.ensures)
 
 pub returns-in-Overlap-clause-answers : goal.returns-in-Overlap-clause-answers
 returns-in-Overlap-clause-answers g c = as-asked c.in-Overlap.is c.overlap.ensures

@@ -16,7 +16,7 @@ returns-in_err-join g c = session-view c.self.view_is (session-handed c.in_err-j
     (enter-refused _ c.args.name.now c.in_ok-label.label c.join.new.self c.in_err-join.field-0.0 c.in_err-join.ensures))
 
 pub returns : goal.returns
-returns g c = session-view c.self.view_is
+returns g c = rw c.nothing.ensures (session-view c.self.view_is
     (enter-taken _ c.args.name.now c.in_ok-label.label c.in_ok-conn.conn c.join.new.self c.add_guest.new.self
     (subst (λ (s : SessionState). (w : NaiveWorld) → SessionStands s w → name_fault w c.args.name.now ≡ None) (sym c.self.view_is) c.in_ok-free_name.ensures)
-    c.in_ok-conn.ensures.next c.in_ok-label.ensures c.in_ok-join.ensures c.in_ok-add_guest.ensures)
+    c.in_ok-conn.ensures.next c.in_ok-label.ensures c.in_ok-join.ensures c.in_ok-add_guest.ensures))

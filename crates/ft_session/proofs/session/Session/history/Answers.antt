@@ -9,4 +9,4 @@ pub log_texts-requires : goal.log_texts-requires
 log_texts-requires g c = log-formed _ (subst StandsForSome (sym c.self.view_is) c.requires)
 
 pub returns : goal.returns
-returns g c = session-same c.self.view_is (history-told _ c.in_ok-values.values c.in_ok-values.ensures)
+returns g c = rw c.in_ok-of.ensures (session-same c.self.view_is (history-told _ c.in_ok-values.values c.in_ok-values.ensures))

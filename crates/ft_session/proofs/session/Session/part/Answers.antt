@@ -16,6 +16,6 @@ returns-in_err-leave g c = session-view c.self.view_is (session-handed c.in_err-
     (subst (λ (d : NamedGuest). d ≡ get_or c.self.inside.guests.items c.in-Some.place d) (sym c.behind-self.view_is) c.index.ensures) c.in_err-leave.field-0.0 c.leave.new.self c.in_err-leave.ensures))
 
 pub returns : goal.returns
-returns g c = session-view c.self.view_is
+returns g c = rw c.nothing.ensures (session-view c.self.view_is
     (part-taken _ c.args.name.now c.in-Some.place _ (sym (c.in-Some.ensures ∙ ap (position (is_guest c.args.name.now)) c.as_slice.ensures.value))
-    (subst (λ (d : NamedGuest). d ≡ get_or c.self.inside.guests.items c.in-Some.place d) (sym c.behind-self.view_is) c.index.ensures) c.leave.new.self c.in_ok-leave.ensures)
+    (subst (λ (d : NamedGuest). d ≡ get_or c.self.inside.guests.items c.in-Some.place d) (sym c.behind-self.view_is) c.index.ensures) c.leave.new.self c.in_ok-leave.ensures))

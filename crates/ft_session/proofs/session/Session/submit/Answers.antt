@@ -8,16 +8,16 @@ use Rattle.ft_session.proofs.session.Session.submit.Goals as goal
 
 pub returns-in_default : goal.returns-in_default
 returns-in_default g c = session-same c.self.view_is
-    (submit-unknown _ c.args.name.now c.args.read (sym (c.in_default.ensures ∙ ap (position (is_guest c.args.name.now)) c.as_slice.ensures.value)))
+    (submit-unknown _ c.args.name.now c.args.read.value (sym (c.in_default.ensures ∙ ap (position (is_guest c.args.name.now)) c.as_slice.ensures.value)))
 
 pub returns-in_err-submit_read : goal.returns-in_err-submit_read
 returns-in_err-submit_read g c = session-view c.self.view_is (session-handed c.in_err-submit_read.field-0.0 c.from_residual.result c.from_residual.ensures
     (submit-refused _ c.args.name.now c.in-Some.place _ (sym (c.in-Some.ensures ∙ ap (position (is_guest c.args.name.now)) c.as_slice.ensures.value))
-    (subst (λ (d : NamedGuest). d ≡ get_or c.self.inside.guests.items c.in-Some.place d) (sym c.behind-self.view_is) c.index.ensures) c.args.read
+    (subst (λ (d : NamedGuest). d ≡ get_or c.self.inside.guests.items c.in-Some.place d) (sym c.behind-self.view_is) c.index.ensures) c.args.read.value
     c.submit_read.new.service c.in_err-submit_read.field-0.0 c.in_err-submit_read.ensures))
 
 pub returns : goal.returns
-returns g c = session-view c.self.view_is
+returns g c = rw c.nothing.ensures (session-view c.self.view_is
     (submit-taken _ c.args.name.now c.in-Some.place _ (sym (c.in-Some.ensures ∙ ap (position (is_guest c.args.name.now)) c.as_slice.ensures.value))
-    (subst (λ (d : NamedGuest). d ≡ get_or c.self.inside.guests.items c.in-Some.place d) (sym c.behind-self.view_is) c.index.ensures) c.args.read
-    c.submit_read.new.service c.in_ok-submit_read.ensures)
+    (subst (λ (d : NamedGuest). d ≡ get_or c.self.inside.guests.items c.in-Some.place d) (sym c.behind-self.view_is) c.index.ensures) c.args.read.value
+    c.submit_read.new.service c.in_ok-submit_read.ensures))

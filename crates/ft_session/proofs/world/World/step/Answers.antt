@@ -12,12 +12,12 @@ pub take-requires-clause-stands : goal.take-requires-clause-stands
 take-requires-clause-stands g c = at-load c.self.inside.session c.self.inside.load c.self.inside.counts c.self.inside.stopped c.if-self.false c.self.invariant
 
 pub returns-in-Ok-clause-answers : goal.returns-in-Ok-clause-answers
-returns-in-Ok-clause-answers g c = by-world c.self.view_is
-    (world-taken c.self.inside.session c.self.inside.load c.self.inside.counts c.self.inside.stopped c.if-self.false c.args.event.now c.take.new.session c.in-Ok.taken c.in-Ok.ensures.answers)
+returns-in-Ok-clause-answers g c = rw c.into_out.ensures (by-world c.self.view_is
+    (world-taken c.self.inside.session c.self.inside.load c.self.inside.counts c.self.inside.stopped c.if-self.false c.args.event.now c.take.new.session c.in-Ok.taken c.in-Ok.ensures.answers))
 
 pub returns-in-Ok-clause-effect : goal.returns-in-Ok-clause-effect
-returns-in-Ok-clause-effect g c =
-    subst (λ (w : WorldState). SessionEffect g.R.Replica.COMPACTS c.args.event.now w.session c.take.new.session c.in-Ok.taken.out) c.self.view_is c.in-Ok.ensures.effect
+returns-in-Ok-clause-effect g c = rw c.into_out.ensures
+    (subst (λ (w : WorldState). SessionEffect g.R.Replica.COMPACTS c.args.event.now w.session c.take.new.session c.in-Ok.taken.out) c.self.view_is c.in-Ok.ensures.effect)
 
 pub returns-in-Err-clause-answers : goal.returns-in-Err-clause-answers
 returns-in-Err-clause-answers g c = by-world c.self.view_is
