@@ -1,3 +1,4 @@
 pub mod IntervalTaken
 pub mod RenamedNames
 pub mod ShownStages
+mod OwnSteps
