@@ -1,38 +1,33 @@
-//! Values and their texts.
+//! Texts of values that can't stand in a file of texts, since they hold an LF or a NUL, and a number that no program
+//! writes so.
 
-use ft_base::Datum;
-use ft_json::{JsonFault, ValText, canonical, compact, read_line, whole_text};
+use ft_base::OutOfMemory;
+use ft_json::{JsonFault, read_line, whole_text};
 use serde_json::Value;
+use std::alloc::Global;
 use std::test::Fail;
 
-#[test]
-fn a_text_stands_for_its_value(rt: HostRuntime) -> Result<(), Fail> {
-    let value = read_line(rt.alloc(), b"{\"a\":[1]}")?;
-    let kept = canonical(rt.alloc(), &value)?;
-    assert!(rt; kept.to_value()? == value);
-    Ok(())
+// Whether the bytes are null.
+fn is_null(alloc: Global, bytes: &[u8]) -> Result<bool, JsonFault> {
+    let value = read_line(alloc, bytes)?;
+    Ok(value == Value::Null)
 }
 
-#[test]
-fn a_text_is_copied(rt: HostRuntime) -> Result<(), Fail> {
-    let kept = whole_text(rt.alloc(), -7)?;
-    let copy = ValText::new(rt.alloc(), kept.as_str())?.copy()?;
-    assert_eq!(rt; (copy.as_str(), copy.same(&kept)), ("-7", true));
-    Ok(())
+// Whether the bytes are no JSON.
+fn is_refused(alloc: Global, bytes: &[u8]) -> bool {
+    matches!(read_line(alloc, bytes), Err(JsonFault::NotJson))
 }
 
-#[test]
-fn a_value_is_written(rt: HostRuntime) -> Result<(), Fail> {
-    let yes = compact(rt.alloc(), &Value::Bool(true))?;
-    assert_eq!(rt; yes.as_str(), "true");
-    Ok(())
+// Whether the number is written so.
+fn is_written(alloc: Global, number: i64, text: &str) -> Result<bool, OutOfMemory> {
+    let written = whole_text(alloc, number)?;
+    Ok(written.as_str() == text)
 }
 
 #[test]
 fn a_value_may_stand_between_lines(rt: HostRuntime) -> Result<(), Fail> {
-    let value = read_line(rt.alloc(), b" \t\r\n null \n")?;
-    assert!(rt; value == Value::Null);
-    let nul = read_line(rt.alloc(), b"\x001").err();
-    assert_eq!(rt; nul, Some(JsonFault::NotJson));
+    assert!(rt; is_null(rt.alloc(), b" \t\r\n null \n")?);
+    assert!(rt; is_refused(rt.alloc(), b"\x00null"));
+    assert!(rt; is_written(rt.alloc(), -7, "-7")?);
     Ok(())
 }

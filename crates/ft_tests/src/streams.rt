@@ -1,28 +1,18 @@
-//! Lines of sources in any pieces that fail at any call, writes to sinks that do, and the limits.
+//! What no case of the command line shows of lines and bytes: reads that fail wherever a line stands, what a reader
+//! answers once more at its end, limits of a few bytes, a line as long as an input may be, CR and NUL in a line,
+//! and copies of lists of bytes.
 
-use ft_base::{Datum, OutOfMemory};
-use ft_io::{
-    Bytes, Line, LineFault, Lines, MemSink, MemSource, Sink, Source, StdSink, StdSource, write_all,
-};
+use crate::copies::is_copied;
+use ft_base::OutOfMemory;
+use ft_io::{Bytes, Line, LineFault, Lines, MemSource};
 use std::alloc::Global;
 use std::test::Fail;
 
-static TEXT: [u8; 20] = *b"abcdefghijklmnopqrst";
+// What a reader hands out: how many whole lines, how many bytes they have, how many lines that are too long, and what it
+// answers then, and once more.
+type Heard = (u64, usize, u64, [u8; 2]);
 
-static PIECES: [usize; 4] = [1, 2, 16, 65_536];
-
-// A source over these bytes that fails at this call.
-fn source(
-    alloc: Global,
-    bytes: Vec<u8>,
-    piece: usize,
-    fails: u64,
-) -> Result<MemSource, OutOfMemory> {
-    let fails = vec![in alloc; fails]?;
-    Ok(MemSource::new(alloc, bytes, piece.max(1), fails))
-}
-
-// One byte for each answer that is no whole line.
+// One byte for each answer.
 fn mark(answer: &Result<Line, LineFault>) -> u8 {
     match answer {
         Ok(Line::Full(_)) => b'|',
@@ -34,220 +24,121 @@ fn mark(answer: &Result<Line, LineFault>) -> u8 {
     }
 }
 
-// Adds what a reader returns: the bytes of a whole line, and the mark.
-fn push_answer(answer: &Result<Line, LineFault>, text: &mut Vec<u8>) -> Result<(), OutOfMemory> {
-    if let Ok(Line::Full(line)) = answer {
-        text.extend_from_slice(line.as_slice())?;
-    }
-    text.push(mark(answer))?;
-    Ok(())
-}
-
-// What a reader answers up to the second answer that is no line.
-fn told(alloc: Global, src: &mut MemSource, limit: usize) -> Result<Vec<u8>, OutOfMemory> {
-    let mut text = Vec::new(alloc);
-    let mut reader = Lines::new(alloc, limit)?;
-    let mut ends = 0u8;
-    for _ in 0..100 {
-        let answer = reader.next(src);
-        push_answer(&answer, &mut text)?;
-        if !matches!(answer, Ok(Line::Full(_) | Line::TooLong)) {
-            if ends == 1 {
-                break;
+// What the reader hands out up to its end.
+fn heard(reader: &mut Lines, src: &mut MemSource) -> Heard {
+    let mut lines = 0u64;
+    let mut bytes = 0usize;
+    let mut too_long = 0u64;
+    for _ in 0..20_000_000 {
+        match reader.next(src) {
+            Ok(Line::Full(line)) => {
+                lines = lines.saturating_add(1);
+                bytes = bytes.saturating_add(line.len());
             }
-            ends = 1;
+            Ok(Line::TooLong) => too_long = too_long.saturating_add(1),
+            end => return (
+                lines,
+                bytes,
+                too_long,
+                [mark(&end), mark(&reader.next(src))],
+            ),
         }
     }
-    Ok(text)
+    (lines, bytes, too_long, *b"??")
 }
 
-// The text with an LF in the place of one byte, or whole.
-fn with_lf(alloc: Global, place: usize) -> Result<Vec<u8>, OutOfMemory> {
-    let mut bytes = Vec::from_slice(alloc, &TEXT)?;
-    if place < bytes.len() {
-        bytes[place] = b'\n';
+// A text, how often it stands in the input, how many bytes come at a time, which call fails, if one does, the greatest
+// length of a line, and what a reader hands out.
+type Row = (&'static str, usize, usize, u64, usize, Heard);
+
+static ROWS: [Row; 35] = [
+    ("ab\ncd", 1, 1, 1, 9, (0, 0, 0, *b"RR")),
+    ("ab\ncd", 1, 1, 3, 9, (0, 0, 0, *b"RR")),
+    ("ab\ncd", 1, 1, 4, 9, (1, 2, 0, *b"RR")),
+    ("ab\ncd", 1, 1, 5, 9, (1, 2, 0, *b"RR")),
+    ("ab\ncd", 1, 1, 6, 9, (1, 2, 0, *b"RR")),
+    ("ab\ncd", 1, 1, 7, 9, (2, 4, 0, *b"..")),
+    ("ab\ncd", 1, 2, 1, 9, (0, 0, 0, *b"RR")),
+    ("ab\ncd", 1, 2, 2, 9, (0, 0, 0, *b"RR")),
+    ("ab\ncd", 1, 2, 3, 9, (1, 2, 0, *b"RR")),
+    ("ab\ncd", 1, 2, 4, 9, (1, 2, 0, *b"RR")),
+    ("ab\ncd", 1, 2, 5, 9, (2, 4, 0, *b"..")),
+    ("ab\ncd", 1, 16, 1, 9, (0, 0, 0, *b"RR")),
+    ("ab\ncd", 1, 16, 2, 9, (1, 2, 0, *b"RR")),
+    ("ab\ncd", 1, 16, 3, 9, (2, 4, 0, *b"..")),
+    ("ab\ncd\n", 1, 1, 6, 9, (1, 2, 0, *b"RR")),
+    ("ab\ncd\n", 1, 1, 7, 9, (2, 4, 0, *b"RR")),
+    ("ab\ncd\n", 1, 1, 8, 9, (2, 4, 0, *b"..")),
+    ("ab\ncd\n", 1, 3, 1, 9, (0, 0, 0, *b"RR")),
+    ("ab\ncd\n", 1, 3, 2, 9, (1, 2, 0, *b"RR")),
+    ("ab\ncd\n", 1, 3, 3, 9, (2, 4, 0, *b"RR")),
+    ("ab\ncd\n", 1, 3, 4, 9, (2, 4, 0, *b"..")),
+    ("", 1, 1, 0, 0, (0, 0, 0, *b"..")),
+    ("\n", 1, 1, 0, 0, (1, 0, 0, *b"..")),
+    ("a\n", 1, 1, 0, 0, (0, 0, 1, *b"..")),
+    ("abc\n", 1, 2, 0, 3, (1, 3, 0, *b"..")),
+    ("abcd\n", 1, 2, 0, 3, (0, 0, 1, *b"..")),
+    ("abc", 1, 2, 0, 3, (1, 3, 0, *b"..")),
+    ("abcd", 1, 2, 0, 3, (0, 0, 1, *b"..")),
+    ("abcdefgh\nx\n\ny", 1, 1, 0, 3, (3, 2, 1, *b"..")),
+    ("abcdefgh\nx\n\ny", 1, 2, 0, 3, (3, 2, 1, *b"..")),
+    ("abcdefgh\nx\n\ny", 1, 16, 0, 3, (3, 2, 1, *b"..")),
+    ("abcdefgh\nx\n\ny", 1, 65_536, 0, 3, (3, 2, 1, *b"..")),
+    ("a\r\n\0\n", 1, 1, 0, 9, (2, 3, 0, *b"..")),
+    ("a\r\n\0\n", 1, 65_536, 0, 9, (2, 3, 0, *b"..")),
+    (
+        "0123456789abcdef",
+        1_048_576,
+        65_536,
+        0,
+        20_000_000,
+        (1, 16_777_216, 0, *b".."),
+    ),
+];
+
+// The text so many times.
+fn repeated(alloc: Global, text: &str, times: usize) -> Result<Vec<u8>, OutOfMemory> {
+    let mut bytes = Vec::new(alloc);
+    for _ in 0..times {
+        bytes.extend_from_slice(text.as_bytes())?;
     }
     Ok(bytes)
 }
 
-// What a reader answers to that text, where the source fails behind `given` bytes, if it does.
-fn expected(alloc: Global, place: usize, given: Option<usize>) -> Result<Vec<u8>, OutOfMemory> {
-    let mut text = Vec::new(alloc);
-    let is_ended = place < given.unwrap_or(TEXT.len());
-    if is_ended {
-        text.extend_from_slice(&TEXT[..place.min(TEXT.len())])?;
-        text.push(b'|')?;
-    }
-    if given.is_some() {
-        text.extend_from_slice(b"RR")?;
-        return Ok(text);
-    }
-    let start = if is_ended {
-        place.saturating_add(1).min(TEXT.len())
-    } else {
-        0
-    };
-    text.extend_from_slice(&TEXT[start..])?;
-    text.extend_from_slice(if start == TEXT.len() {
-        b"..".as_slice()
-    } else {
-        b"|..".as_slice()
-    })?;
-    Ok(text)
+// A source over these bytes that fails at this call.
+fn source(
+    alloc: Global,
+    bytes: Vec<u8>,
+    piece: usize,
+    call: u64,
+) -> Result<MemSource, OutOfMemory> {
+    let fails = vec![in alloc; call]?;
+    Ok(MemSource::new(alloc, bytes, piece.max(1), fails))
 }
 
-// Whether the text with an LF at that place is answered as it should be where it comes in such pieces and
-// the source fails at this call.
-fn is_as_expected(
-    alloc: Global,
-    piece: usize,
-    place: usize,
-    call: u64,
-) -> Result<bool, OutOfMemory> {
-    let mut src = source(alloc, with_lf(alloc, place)?, piece, call)?;
-    let before = (call as usize).saturating_sub(1).saturating_mul(piece);
-    let is_reached = before < TEXT.len().saturating_add(piece);
-    let given = if is_reached {
-        Some(before.min(TEXT.len()))
-    } else {
-        None
-    };
-    let text = told(alloc, &mut src, 99)?;
-    Ok(text.as_slice() == expected(alloc, place, given)?.as_slice())
+// What a reader hands out of the source.
+fn heard_of(alloc: Global, src: &mut MemSource, limit: usize) -> Result<Heard, OutOfMemory> {
+    let mut reader = Lines::new(alloc, limit)?;
+    Ok(heard(&mut reader, src))
+}
+
+// Whether a reader hands out of the input of a row what it should.
+fn is_heard(alloc: Global, row: &Row) -> Result<bool, OutOfMemory> {
+    let (text, times, piece, call, limit, want) = *row;
+    let mut src = source(alloc, repeated(alloc, text, times)?, piece, call)?;
+    Ok(heard_of(alloc, &mut src, limit)? == want)
 }
 
 #[test]
 fn a_source_may_come_in_any_pieces_and_fail_at_any_call(rt: HostRuntime) -> Result<(), Fail> {
-    for piece in &PIECES {
-        for place in 0..21 {
-            for call in 1..24 {
-                let is_right = is_as_expected(rt.alloc(), *piece, place, call)?;
-                assert!(rt; is_right, "at {piece}, {place}, {call}");
-            }
-        }
-    }
-    Ok(())
-}
-
-// Bytes, a limit, and what a reader returns.
-static LIMITED: [(&str, usize, &str); 9] = [
-    ("", 0, ".."),
-    ("\n", 0, "|.."),
-    ("a\n", 0, "^.."),
-    ("abc\n", 3, "abc|.."),
-    ("abcd\n", 3, "^.."),
-    ("abc", 3, "abc|.."),
-    ("abcd", 3, "^.."),
-    ("abcdefgh\nx\n\ny", 3, "^x||y|.."),
-    ("a\r\n\0\n", 9, "a\r|\0|.."),
-];
-
-// What a reader answers to these bytes in such pieces.
-fn answers(alloc: Global, bytes: &str, limit: usize, piece: usize) -> Result<Vec<u8>, OutOfMemory> {
-    let bytes = Vec::from_slice(alloc, bytes.as_bytes())?;
-    let mut src = source(alloc, bytes, piece, 0)?;
-    told(alloc, &mut src, limit)
-}
-
-#[test]
-fn a_line_past_the_limit_is_passed(rt: HostRuntime) -> Result<(), Fail> {
-    for (bytes, limit, want) in &LIMITED {
-        for piece in &PIECES {
-            let text = answers(rt.alloc(), bytes, *limit, *piece)?;
-            assert_eq!(rt;
-                text.as_slice(),
-                want.as_bytes(),
-                "{bytes:?} at {limit}, {piece}"
-            );
-        }
-    }
-    Ok(())
-}
-
-// How many lines a reader hands out, how many bytes they have, and what it returns twice then.
-fn counted(
-    alloc: Global,
-    src: &mut MemSource,
-    limit: usize,
-) -> Result<(u64, usize, u8, u8), OutOfMemory> {
-    let mut reader = Lines::new(alloc, limit)?;
-    let mut lines = 0u64;
-    let mut bytes = 0usize;
-    for _ in 0..20_000_000 {
-        match reader.next(src) {
-            Ok(Line::Full(line)) => bytes = bytes.saturating_add(line.len()),
-            Ok(Line::TooLong) => {}
-            end => return Ok((lines, bytes, mark(&end), mark(&reader.next(src)))),
-        }
-        lines = lines.saturating_add(1);
-    }
-    Ok((lines, bytes, b'?', b'?'))
-}
-
-// A byte, how often it stands, a limit, and what is counted.
-static COUNTED: [(u8, usize, usize, (u64, usize, u8, u8)); 7] = [
-    (b'\n', 16_777_216, 9, (16_777_216, 0, b'.', b'.')),
-    (b'\n', 16_777_217, 9, (16_777_217, 0, b'I', b'I')),
-    (b'x', 16_777_216, 20_000_000, (1, 16_777_216, b'.', b'.')),
-    (b'x', 16_777_216, 16_777_215, (1, 0, b'.', b'.')),
-    (b'x', 16_777_217, 20_000_000, (0, 0, b'I', b'I')),
-    (b'x', 1_048_576, 1_048_576, (1, 1_048_576, b'.', b'.')),
-    (b'x', 1_048_577, 1_048_576, (1, 0, b'.', b'.')),
-];
-
-#[test]
-fn the_limits_of_an_input_and_of_a_long_line(rt: HostRuntime) -> Result<(), Fail> {
-    for (byte, count, limit, want) in &COUNTED {
-        let bytes = vec![in rt.alloc(); *byte; *count]?;
-        let mut src = source(rt.alloc(), bytes, 1_000_000, 0)?;
-        let got = counted(rt.alloc(), &mut src, *limit)?;
-        assert_eq!(rt; got, *want, "{byte} {count} times, at {limit}");
-    }
-    Ok(())
-}
-
-// Limits that are set one after another, and what the next line then is.
-static LIMITS: [(usize, u8); 4] = [(4, b'|'), (3, b'^'), (0, b'^'), (9, b'.')];
-
-#[test]
-fn a_limit_may_be_changed(rt: HostRuntime) -> Result<(), Fail> {
-    let bytes = Vec::from_slice(rt.alloc(), b"abcd\nabcd\nabcd")?;
-    let mut src = source(rt.alloc(), bytes, 65_536, 0)?;
-    let mut reader = Lines::new(rt.alloc(), 4)?;
-    for (limit, want) in &LIMITS {
-        reader.set_limit(*limit);
-        assert_eq!(rt; mark(&reader.next(&mut src)), *want, "at {limit}");
-    }
-    Ok(())
-}
-
-// Whether a sink of such pieces and such a room, whose call of this number fails, takes what it should.
-fn takes_what_it_should(
-    alloc: Global,
-    piece: usize,
-    call: u64,
-    room: usize,
-) -> Result<bool, OutOfMemory> {
-    let fails = vec![in alloc; call]?;
-    let mut out = MemSink::new(alloc, piece.max(1), fails, room)?;
-    let answer = write_all(&mut out, &TEXT);
-    let before = match (call as usize).checked_sub(1) {
-        Some(calls) => calls.saturating_mul(piece),
-        None => TEXT.len(),
-    };
-    let taken = before.min(room).min(TEXT.len());
-    Ok(out.taken() == &TEXT[..taken] && answer.is_ok() == (taken == TEXT.len()))
-}
-
-#[test]
-fn a_sink_may_take_any_pieces_and_fail_at_any_call(rt: HostRuntime) -> Result<(), Fail> {
-    for piece in &PIECES {
-        for call in 0..24 {
-            for room in [0, 7, 20, 21] {
-                let is_right = takes_what_it_should(rt.alloc(), *piece, call, room)?;
-                assert!(rt; is_right, "{piece}, {call}, {room}");
-            }
-        }
+    for row in &ROWS {
+        assert!(rt;
+            is_heard(rt.alloc(), row)?,
+            "{:?} by {}, call {}",
+            row.0,
+            row.2,
+            row.3
+        );
     }
     Ok(())
 }
@@ -260,24 +151,14 @@ fn two_bytes(alloc: Global) -> Result<Bytes, OutOfMemory> {
     Ok(bytes)
 }
 
-#[test]
-fn bytes_are_a_list(rt: HostRuntime) -> Result<(), Fail> {
-    let mut bytes = two_bytes(rt.alloc())?;
-    let copy = bytes.copy()?;
-    bytes.push(9)?;
-    assert_eq!(rt; bytes.as_slice(), [7, 8, 9].as_slice());
-    assert_eq!(rt;
-        (bytes.at(2).copied(), bytes.at(3).copied()),
-        (Some(9), None)
-    );
-    assert_eq!(rt; (bytes.len(), bytes.is_empty()), (3, false));
-    assert_eq!(rt; (bytes.same(&copy), copy.same(&copy)), (false, true));
-    Ok(())
+// Whether the list has two bytes, and a copy of it too.
+fn are_copied(alloc: Global) -> Result<bool, OutOfMemory> {
+    let bytes = two_bytes(alloc)?;
+    Ok(is_copied(&bytes)? && bytes.as_slice() == [7, 8].as_slice())
 }
 
 #[test]
-fn the_standard_ones_are_made(rt: HostRuntime) {
-    let mut source = StdSource::new(rt.stdin());
-    let mut sink = StdSink::new(rt.stdout());
-    assert_eq!(rt; (source.read(&mut []), sink.write(b"")), (Ok(0), Ok(0)));
+fn bytes_are_a_list(rt: HostRuntime) -> Result<(), Fail> {
+    assert!(rt; are_copied(rt.alloc())?);
+    Ok(())
 }
