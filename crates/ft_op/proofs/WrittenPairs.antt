@@ -13,6 +13,14 @@ abbrev pub put_pairs : {V : Type 0} → (V → Data) → List (Characters × V) 
 put_pairs written [] ms = ms
 put_pairs written (p ∷ pairs) ms = put_pairs written pairs (put (encode_utf8_all p.0) (written p.1) ms)
 
+-- one more pair is put
+pub put_next : {V : Type 0} (written : V → Data) (xs rest here : List (Characters × V)) (p : Characters × V) (before after : Members)
+    → here ≡ p ∷ rest
+    → after ≡ put (encode_utf8_all p.0) (written p.1) before → put_pairs written here before ≡ put_pairs written xs no_members
+    → put_pairs written rest after ≡ put_pairs written xs no_members
+put_next written xs rest here p before after at is h =
+    ap (put_pairs written rest) is ∙ ap (λ (ps : List _). put_pairs written ps before) (sym at) ∙ h
+
 before : {V : Type 0} (key : Characters) (done : List (Characters × V)) (p : Characters × V) (rest : List (Characters × V))
     → IsBeforeKeys key (done ++ p ∷ rest) → text_cmp key p.0 ≡ Less
 before key [] p rest h = h.0

@@ -51,6 +51,11 @@ abbrev pub put_given : List ℕ → Option Data → Members → Members
 put_given key None ms = ms
 put_given key (Some d) ms = put key d ms
 
+-- the members with these counts, put one after another
+abbrev pub put_counts : List (List ℕ × ℕ) → Members → Members
+put_counts [] ms = ms
+put_counts (c ∷ cs) ms = put_counts cs (put c.0 (written_count c.1) ms)
+
 -- ---- properties and adjustments
 
 -- the value that a key is set to; null takes the key away

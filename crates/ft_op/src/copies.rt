@@ -1,6 +1,6 @@
 //! Copies of operations, and whether two operations are the same.
 
-ghost use Rattle.std.specs.Prelude.{◌≡◌, ◌↔◌, IsTrue};
+ghost use Rattle.std.specs.Prelude.{◌≡◌, ◌↔◌, IsTrue, IfOk};
 
 use crate::operations::{BaseOp, BaseOps, CellOp, ChannelOp, Ends, GridOp, Seg, Target, TextOp};
 use ft_base::{Datum, OutOfMemory, Text};
@@ -174,6 +174,50 @@ fn is_set(op: &CellOp, row: u64, col: u64, value: &ValText) -> bool
     }
 }
 
+// A copy of the addition of an interval.
+fn copy_interval_add(
+    label: &Text,
+    id: &Text,
+    ends: Ends,
+    props: &PropSet,
+) -> Result<TextOp, OutOfMemory>
+    ensures { IfOk result (λ op. op ≡ TextOp.IntervalAdd label.now id.now ends props.now) }
+{
+    Ok(TextOp::IntervalAdd {
+        label: label.copy()?,
+        id: id.copy()?,
+        ends,
+        props: props.copy()?,
+    })
+}
+
+// A copy of the change of an interval.
+fn copy_interval_change(
+    label: &Text,
+    id: &Text,
+    ends: Option<Ends>,
+    props: &PropSet,
+) -> Result<TextOp, OutOfMemory>
+    ensures { IfOk result (λ op. op ≡ TextOp.IntervalChange label.now id.now ends props.now) }
+{
+    Ok(TextOp::IntervalChange {
+        label: label.copy()?,
+        id: id.copy()?,
+        ends,
+        props: props.copy()?,
+    })
+}
+
+// A copy of the deletion of an interval.
+fn copy_interval_delete(label: &Text, id: &Text) -> Result<TextOp, OutOfMemory>
+    ensures { IfOk result (λ op. op ≡ TextOp.IntervalDelete label.now id.now) }
+{
+    Ok(TextOp::IntervalDelete {
+        label: label.copy()?,
+        id: id.copy()?,
+    })
+}
+
 impl Datum for Seg {
     fn copy(&self) -> Result<Seg, OutOfMemory> {
         match self {
@@ -251,27 +295,14 @@ impl Datum for TextOp {
                 id,
                 ends,
                 props,
-            } => Ok(TextOp::IntervalAdd {
-                label: label.copy()?,
-                id: id.copy()?,
-                ends: *ends,
-                props: props.copy()?,
-            }),
+            } => copy_interval_add(label, id, *ends, props),
             TextOp::IntervalChange {
                 label,
                 id,
                 ends,
                 props,
-            } => Ok(TextOp::IntervalChange {
-                label: label.copy()?,
-                id: id.copy()?,
-                ends: *ends,
-                props: props.copy()?,
-            }),
-            TextOp::IntervalDelete { label, id } => Ok(TextOp::IntervalDelete {
-                label: label.copy()?,
-                id: id.copy()?,
-            }),
+            } => copy_interval_change(label, id, *ends, props),
+            TextOp::IntervalDelete { label, id } => copy_interval_delete(label, id),
         }
     }
 

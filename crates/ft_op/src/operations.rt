@@ -160,11 +160,11 @@ impl fmt::Display for OpFault {
             OpFault::WrongKind(field) => write!(f, "WrongKind {field}"),
             OpFault::UnknownType(n) => write!(f, "UnknownType {n}"),
             OpFault::Reversed { pos1, pos2 } => write!(f, "Reversed {pos1} {pos2}"),
-            OpFault::CountLimit => write!(f, "CountLimit"),
-            OpFault::NestedGroup => write!(f, "NestedGroup"),
-            OpFault::Fraction => write!(f, "Fraction"),
-            OpFault::TooDeep => write!(f, "TooDeep"),
-            OpFault::OutOfMemory => write!(f, "OutOfMemory"),
+            OpFault::CountLimit => f.write_str("CountLimit"),
+            OpFault::NestedGroup => f.write_str("NestedGroup"),
+            OpFault::Fraction => f.write_str("Fraction"),
+            OpFault::TooDeep => f.write_str("TooDeep"),
+            OpFault::OutOfMemory => f.write_str("OutOfMemory"),
         }
     }
 }

@@ -1,8 +1,8 @@
 //! Writing operations as JSON.
 
-ghost use Rattle.std.specs.Prelude.{◌≡◌, Ok, IfOk, OnOk, option_map};
+ghost use Rattle.std.specs.Prelude.{◌≡◌, Ok, Some, IfOk, OnOk, codes, map, option_map};
 ghost use Rattle.std.specs.List.{AllByRecursion};
-ghost use Rattle.serde_json.specs.Data.{object, put, string};
+ghost use Rattle.serde_json.specs.Data.{no_members, object, put, string};
 ghost use Rattle.serde_json.specs.View.{view, items_view, members_view};
 ghost use Rattle.serde_json.specs.Written.{compact_text};
 ghost use Rattle.ft_json.specs.Bounds.{kept_levels};
@@ -11,7 +11,7 @@ ghost use Rattle.ft_json.specs.Reading.{read_line};
 ghost use Rattle.ft_op.specs.Laws.{IsReadAs};
 ghost use Rattle.ft_op.specs.Representable.{IsKeyed, IsRepresentable, IsRepresentableBase, IsRepresentableSegment, IsRepresentableText, IsText};
 ghost use Rattle.ft_op.specs.WellFormed.{IsPropertySet, IsSetValue, IsWellFormed, IsWellFormedBase, IsWellFormedCell, IsWellFormedGrid, IsWellFormedText};
-ghost use Rattle.ft_op.specs.Written.{given_adjustments, given_end, given_set, given_start, put_given, written, written_adjustment, written_base, written_cell, written_grid_op, written_group, written_items, written_interval, written_pairs, written_segment, written_set, written_target, written_text_op, written_value};
+ghost use Rattle.ft_op.specs.Written.{given_adjustments, given_end, given_set, given_start, put_counts, put_given, written, written_adjustment, written_base, written_cell, written_characters, written_grid_op, written_group, written_items, written_interval, written_pairs, written_segment, written_set, written_target, written_text_op, written_value};
 
 use crate::limits::{ANNOTATION, GROUP, INSERTION, REMOVAL, SPLICE_IN, SPLICE_OUT};
 use crate::operations::{BaseOp, CellOp, ChannelOp, Ends, GridOp, Seg, Target, TextOp};
@@ -86,6 +86,18 @@ fn put_str(
     Ok(put(members, alloc, key, Value::try_from_str(alloc, text)?)?)
 }
 
+// The members of an object that are these counts.
+fn counts(alloc: Global, given: &[(&str, u64)]) -> Result<Map<String, Value>, OutOfMemory>
+    ensures { IfOk result (λ members. members_view members.entries
+        ≡ put_counts (map (λ c. (c.0.now, c.1)) given.now) no_members) }
+{
+    let mut members = Map::new(alloc);
+    for (key, n) in given {
+        put(&mut members, alloc, key, Value::from(*n))?;
+    }
+    Ok(members)
+}
+
 // The object of an adjustment.
 fn written_adjustment(alloc: Global, adjust: &Adjust) -> Result<Value, OutOfMemory>
     ensures { IfOk result (λ v. view v ≡ written_adjustment adjust.now) }
@@ -129,9 +141,20 @@ fn written_characters(alloc: Global, text: &Text, props: &PropSet) -> Result<Val
     ensures keyed { IfOk result (λ _. IsKeyed props.now) }
 {
     match given_set(alloc, props)? {
-        Some(props) => Ok(json!(in alloc; {"props": props, "text": text.as_str()})?),
+        Some(props) => characters_with(alloc, text, props),
         None => Ok(Value::try_from_str(alloc, text.as_str())?),
     }
+}
+
+// The object of characters with these properties.
+fn characters_with(alloc: Global, text: &Text, props: Value) -> Result<Value, OutOfMemory>
+    ensures value { IfOk result (λ v. view v ≡ written_characters text.now (Some (view props))) }
+    ensures text { IfOk result (λ _. IsText text.now) }
+{
+    let mut members = Map::new(alloc);
+    put(&mut members, alloc, "props", props)?;
+    put_str(&mut members, alloc, "text", text.as_str())?;
+    Ok(Value::Object(members))
 }
 
 // A marker with its properties.
@@ -141,8 +164,8 @@ fn written_marker(alloc: Global, ref_type: u64, props: &PropSet) -> Result<Value
     ensures keyed { IfOk result (λ _. IsKeyed props.now) }
 {
     let mut members = Map::new(alloc);
-    let marker = json!(in alloc; {"refType": ref_type})?;
-    put(&mut members, alloc, "marker", marker)?;
+    let marker = counts(alloc, &[("refType", ref_type)])?;
+    put(&mut members, alloc, "marker", Value::Object(marker))?;
     put_given(&mut members, alloc, "props", given_set(alloc, props)?)?;
     Ok(Value::Object(members))
 }
@@ -172,14 +195,40 @@ fn written_annotation(
     ensures props { IfOk result (λ _. IsKeyed changes.now.props) }
     ensures adjust { IfOk result (λ _. IsKeyed changes.now.adjust) }
 {
-    let mut members = Map::new(alloc);
+    let mut members = counts(
+        alloc,
+        &[("pos1", pos1), ("pos2", pos2), ("type", ANNOTATION)],
+    )?;
+    put(
+        &mut members,
+        alloc,
+        "props",
+        written_set(alloc, &changes.props)?,
+    )?;
     let adjust = given_adjustments(alloc, &changes.adjust)?;
     put_given(&mut members, alloc, "adjust", adjust)?;
-    put(&mut members, alloc, "pos1", Value::from(pos1))?;
-    put(&mut members, alloc, "pos2", Value::from(pos2))?;
-    let props = written_set(alloc, &changes.props)?;
-    put(&mut members, alloc, "props", props)?;
-    put(&mut members, alloc, "type", Value::from(ANNOTATION))?;
+    Ok(Value::Object(members))
+}
+
+// An insertion.
+fn written_insertion(
+    alloc: Global,
+    pos: u64,
+    seg: &Seg,
+    props: &PropSet,
+) -> Result<Value, OutOfMemory>
+    requires { IsPropertySet props.now }
+    ensures value { IfOk result (λ v. view v ≡ written_base (BaseOp.Insert pos seg.now props.now)) }
+    ensures segment { IfOk result (λ _. IsRepresentableSegment seg.now) }
+    ensures keyed { IfOk result (λ _. IsKeyed props.now) }
+{
+    let mut members = counts(alloc, &[("pos1", pos), ("type", INSERTION)])?;
+    put(
+        &mut members,
+        alloc,
+        "seg",
+        written_segment(alloc, seg, props)?,
+    )?;
     Ok(Value::Object(members))
 }
 
@@ -190,12 +239,13 @@ fn written_base(alloc: Global, op: &BaseOp) -> Result<Value, OutOfMemory>
     ensures representable { IfOk result (λ _. IsRepresentableBase op.now) }
 {
     match op {
-        BaseOp::Insert { pos, seg, props } => {
-            let seg = written_segment(alloc, seg, props)?;
-            Ok(json!(in alloc; {"pos1": *pos, "seg": seg, "type": INSERTION})?)
-        }
+        BaseOp::Insert { pos, seg, props } => written_insertion(alloc, *pos, seg, props),
         BaseOp::Remove { pos1, pos2 } => {
-            Ok(json!(in alloc; {"pos1": *pos1, "pos2": *pos2, "type": REMOVAL})?)
+            let members = counts(
+                alloc,
+                &[("pos1", *pos1), ("pos2", *pos2), ("type", REMOVAL)],
+            )?;
+            Ok(Value::Object(members))
         }
         BaseOp::Annotate {
             pos1,
@@ -278,8 +328,7 @@ fn written_deletion(alloc: Global, label: &Text, id: &Text) -> Result<Value, Out
     ensures label { IfOk result (λ _. IsText label.now) }
     ensures id { IfOk result (λ _. IsText id.now) }
 {
-    let (label, id) = (label.as_str(), id.as_str());
-    Ok(json!(in alloc; {"id": id, "interval": "delete", "label": label})?)
+    written_interval(alloc, "delete", label, id, None, &PropSet::new(alloc))
 }
 
 // An operation of the text.
@@ -317,6 +366,20 @@ fn target_name(target: Target) -> &'static str
     }
 }
 
+// A splice of this list, with these counts.
+fn written_splice(
+    alloc: Global,
+    target: Target,
+    given: &[(&str, u64)],
+) -> Result<Value, OutOfMemory>
+    ensures { IfOk result (λ v. view v ≡ object (put (codes "target") (written_target target)
+        (put_counts (map (λ c. (c.0.now, c.1)) given.now) no_members))) }
+{
+    let mut members = counts(alloc, given)?;
+    put_str(&mut members, alloc, "target", target_name(target))?;
+    Ok(Value::Object(members))
+}
+
 // A write to a cell.
 fn written_cell_write(
     alloc: Global,
@@ -327,8 +390,10 @@ fn written_cell_write(
     requires { IsTextWithin kept_levels value.now }
     ensures { IfOk result (λ v. view v ≡ written_cell (CellOp.Set row col value.now)) }
 {
-    let value = value.to_value()?;
-    Ok(json!(in alloc; {"col": col, "row": row, "type": "set", "value": value})?)
+    let mut members = counts(alloc, &[("col", col), ("row", row)])?;
+    put_str(&mut members, alloc, "type", "set")?;
+    put(&mut members, alloc, "value", value.to_value()?)?;
+    Ok(Value::Object(members))
 }
 
 // An operation that may stand in a group of the grid.
@@ -337,18 +402,16 @@ fn written_cell(alloc: Global, op: &CellOp) -> Result<Value, OutOfMemory>
     ensures { IfOk result (λ v. view v ≡ written_cell op.now) }
 {
     match op {
-        CellOp::SpliceIn { target, pos, count } => {
-            let target = target_name(*target);
-            Ok(
-                json!(in alloc; {"count": *count, "pos1": *pos, "target": target, "type": SPLICE_IN})?,
-            )
-        }
-        CellOp::SpliceOut { target, pos1, pos2 } => {
-            let target = target_name(*target);
-            Ok(
-                json!(in alloc; {"pos1": *pos1, "pos2": *pos2, "target": target, "type": SPLICE_OUT})?,
-            )
-        }
+        CellOp::SpliceIn { target, pos, count } => written_splice(
+            alloc,
+            *target,
+            &[("count", *count), ("pos1", *pos), ("type", SPLICE_IN)],
+        ),
+        CellOp::SpliceOut { target, pos1, pos2 } => written_splice(
+            alloc,
+            *target,
+            &[("pos1", *pos1), ("pos2", *pos2), ("type", SPLICE_OUT)],
+        ),
         CellOp::Set { row, col, value } => written_cell_write(alloc, *row, *col, value),
     }
 }
