@@ -10,6 +10,7 @@ pub mod ReadValid
 pub mod ValidSummaries
 pub mod CutText
 pub mod ReadOptions
+pub mod KeptItems
 pub mod NarrowStamps
 pub mod NarrowForms
 pub mod NarrowSummaries

@@ -13,12 +13,13 @@ use Rattle.ft_op.specs.Reading.{◌>>=◌, read_each, with_fault}
 use Rattle.ft_op.proofs.ReadSteps.{same_value}
 use Rattle.ft_props.specs.Properties.{PropertyList}
 use Rattle.ft_sumdoc.specs.declared.summary.Mark.{Mark}
+use Rattle.ft_sumdoc.specs.declared.summary.RunRec.{RunRec}
 use Rattle.ft_sumdoc.specs.declared.summary.SegRec.{SegRec}
 use Rattle.ft_sumdoc.specs.declared.summary.SumFault.{SumFault}
 use Rattle.ft_sumdoc.specs.Counts.{Head, bounds_of}
 use Rattle.ft_sumdoc.specs.Faults.{fault_of_field, fault_of_json, field_of_summary}
-use Rattle.ft_sumdoc.specs.Narrow.{narrow, narrow_runs, narrow_text}
-use Rattle.ft_sumdoc.specs.NarrowLists.{narrow_lists, narrow_lists_with, segments_stamps}
+use Rattle.ft_sumdoc.specs.Narrow.{TextParts, narrow, narrow_runs, narrow_text}
+use Rattle.ft_sumdoc.specs.NarrowLists.{narrow_lists, runs_beside, segments_stamps}
 use Rattle.ft_sumdoc.specs.Runs.{GivenRun, kept_run, runs_form}
 use Rattle.ft_sumdoc.specs.Segments.{GivenSegment, text_form}
 use Rattle.ft_sumdoc.specs.Stamps.{Bounds, GivenStamps, given_author, given_insertion, places_behind}
@@ -27,6 +28,7 @@ use Rattle.ft_sumdoc.specs.Values.{kept_each, kept_props, kept_segment}
 use Rattle.ft_sumdoc.proofs.NarrowForms.{narrow_grun, narrow_parts, narrow_seg, runs-narrow, text-narrow}
 use Rattle.ft_sumdoc.proofs.NarrowStamps.{good-same, insertion_of-narrow, narrow_given, places-narrow}
 use Rattle.ft_sumdoc.proofs.ReadChunks.{flat, map-both}
+use Rattle.ft_sumdoc.proofs.ReadObjects.{pair}
 use Rattle.ft_sumdoc.proofs.ReadStamps.{AreGood}
 use Rattle.ft_sumdoc.proofs.ReadValid.{all_gives, good_places, good_split, gives}
 
@@ -151,6 +153,11 @@ by_places b chunks text rows cols (Ok n) small e p lists narrowed x y =
     ap (λ l. Ok l)
     (y ∙ rw (t, runs-same b rows small parts.1, runs-same b cols small front.1) (sym x))
 
+-- the lists of these segments, rows and columns, unless stamps are bad
+abbrev narrow_lists_with : Bounds → TextParts → List SegRec → List GivenRun → List GivenRun → Result Lists SumFault
+narrow_lists_with b parts text rows cols =
+    places_behind b 0 (segments_stamps parts.segs ++ run_stamps rows ++ run_stamps cols) >>= λ places. Ok (lists_made text rows cols parts.lengths)
+
 lists_with-narrow : (b : Bounds) (chunks : List (List GivenSegment)) (text : List SegRec) (rows cols : List GivenRun) → b.conns < 2 ^ 32 → kept_each kept_segment (flat chunks) ≡ Ok text
     → narrow_lists_with b (narrow_parts chunks) (map narrow_rec text) (map narrow_grun rows) (map narrow_grun cols) ≡ lists_with b chunks text rows cols
 lists_with-narrow b chunks text rows cols small e =
@@ -180,12 +187,59 @@ behind_chunks b (Err fault) rows cols small = refl
 behind_chunks b (Ok chunks) rows cols small =
     rw (all_kept-narrow (flat chunks)) (behind_text b chunks (kept_each kept_segment (flat chunks)) rows cols small refl)
 
-pub lists-narrow : (h : Head) (d : Data) → length h.conns < 2 ^ 32 → narrow_lists h d ≡ lists h d
-unfolding narrow_lists lists
-lists-narrow h d small =
+-- ---- rows and columns in one step
+
+-- the lists of this text and these rows and columns
+abbrev lists_from : List SegRec → List ℕ → List RunRec → List RunRec → Lists
+lists_from text lengths rows cols = record { text = text; rows = rows; cols = cols; chunk_lengths = lengths }
+
+after_places : (places : Result ℕ SumFault) (rows cols : List RunRec) (f : List RunRec → List RunRec → Lists)
+    → ((places >>= λ n. Ok (pair rows cols)) >>= λ runs. Ok (f runs.0 runs.1)) ≡ (places >>= λ n. Ok (f rows cols))
+after_places (Ok n) rows cols f = refl
+after_places (Err fault) rows cols f = refl
+
+after_runs : (rows cols : Result (List GivenRun) SumFault) (places : List GivenRun → List GivenRun → Result ℕ SumFault)
+    (f : List RunRec → List RunRec → Lists)
+    → ((rows >>= λ r. cols >>= λ c. places r c >>= λ n. Ok (pair (map kept_run r) (map kept_run c))) >>= λ runs. Ok (f runs.0 runs.1))
+    ≡ (rows >>= λ r. cols >>= λ c. places r c >>= λ n. Ok (f (map kept_run r) (map kept_run c)))
+after_runs (Err fault) cols places f = refl
+after_runs (Ok r) (Err fault) places f = refl
+after_runs (Ok r) (Ok c) places f = after_places (places r c) (map kept_run r) (map kept_run c) f
+
+after_text : (b : Bounds) (parts : TextParts) (text : Result (List SegRec) SumFault) (d : Data)
+    → (text >>= λ t. runs_beside b parts.segs d >>= λ runs. Ok (lists_from t parts.lengths runs.0 runs.1))
+    ≡ (text >>= λ t. field_of_summary (needed_field narrow_runs d Rows) >>= λ r. field_of_summary (needed_field narrow_runs d Cols) >>= λ c.
+    narrow_lists_with b parts t r c)
+unfolding runs_beside
+after_text b parts (Err fault) d = refl
+after_text b parts (Ok t) d =
+    after_runs (field_of_summary (needed_field narrow_runs d Rows)) (field_of_summary (needed_field narrow_runs d Cols))
+    (λ (r c : List GivenRun). places_behind b 0 (segments_stamps parts.segs ++ run_stamps r ++ run_stamps c)) (lists_from t parts.lengths)
+
+after_parts : (b : Bounds) (parts : Result TextParts SumFault) (d : Data)
+    → (parts >>= λ p. kept_each kept_segment p.segs >>= λ t. runs_beside b p.segs d >>= λ runs. Ok (lists_from t p.lengths runs.0 runs.1))
+    ≡ (parts >>= λ p. kept_each kept_segment p.segs >>= λ t. field_of_summary (needed_field narrow_runs d Rows) >>= λ r. field_of_summary
+    (needed_field narrow_runs d Cols) >>= λ c. narrow_lists_with b p t r c)
+after_parts b (Err fault) d = refl
+after_parts b (Ok p) d = after_text b p (kept_each kept_segment p.segs) d
+
+-- the lists, step by step
+abbrev narrow_steps : Head → Data → Result Lists SumFault
+narrow_steps h d =
+    field_of_summary (needed_field (narrow_text h.version) d Text) >>= λ p. kept_each kept_segment p.segs >>= λ t.
+    field_of_summary (needed_field narrow_runs d Rows) >>= λ r. field_of_summary (needed_field narrow_runs d Cols) >>= λ c. narrow_lists_with
+    (bounds_of h) p t r c
+
+steps-narrow : (h : Head) (d : Data) → length h.conns < 2 ^ 32 → narrow_steps h d ≡ lists h d
+unfolding lists
+steps-narrow h d small =
     rw (
       needed_of (narrow_text h.version) (text_form h.version) narrow_parts (text-narrow h.version) Text (field d Text),
       needed_of narrow_runs runs_form (map narrow_grun) runs-narrow Rows (field d Rows),
       needed_of narrow_runs runs_form (map narrow_grun) runs-narrow Cols (field d Cols),
     )
     (behind_chunks (bounds_of h) (field_of_summary (needed_field (text_form h.version) d Text)) (field_of_summary (needed_field runs_form d Rows)) (field_of_summary (needed_field runs_form d Cols)) small)
+
+pub lists-narrow : (h : Head) (d : Data) → length h.conns < 2 ^ 32 → narrow_lists h d ≡ lists h d
+unfolding narrow_lists
+lists-narrow h d small = after_parts (bounds_of h) (field_of_summary (needed_field (narrow_text h.version) d Text)) d ∙ steps-narrow h d small

@@ -1,5 +1,5 @@
 -- What is read of an object part by part.
-use Rattle.std.proofs.Common.{◌≡◌, ◌∙◌, ℕ, suc, cond, Bool, true, false, List, [], ◌∷◌, ◌++◌, Result, Ok, Err, refl}
+use Rattle.std.proofs.Common.{◌≡◌, ◌∙◌, ℕ, suc, cond, Bool, true, false, List, [], ◌∷◌, ◌++◌, Result, Ok, Err, refl, ap}
 use Rattle.std.specs.Prelude.{IfOk, IfErr}
 use Rattle.serde_json.specs.Data.{Data}
 use Rattle.ft_json.specs.declared.fields.Field.TheVariants.{Cells, Intervals}
@@ -16,14 +16,10 @@ use Rattle.ft_sumdoc.specs.Faults.{field_of_summary}
 use Rattle.ft_sumdoc.specs.Intervals.{intervals_form}
 use Rattle.ft_sumdoc.specs.Runs.{unremoved_units}
 use Rattle.ft_sumdoc.specs.Segments.{unremoved_text}
-use Rattle.ft_sumdoc.specs.Shown.{cells_of, intervals_of}
+use Rattle.ft_sumdoc.specs.Shown.{cells_of, intervals_of, shown_beside}
 use Rattle.ft_sumdoc.specs.Stamps.{Bounds, GivenStamps, are_good_stamps, places_behind}
 use Rattle.ft_sumdoc.specs.Summary.{Lists, element_count, lists, summary_of_object}
 use Rattle.ft_sumdoc.specs.Values.{kept_cell, kept_each, kept_interval}
-
-bind-assoc : {A B C F : Type 0} (r : Result A F) (f : A → Result B F) (g : B → Result C F) → (r >>= λ x. f x >>= g) ≡ ((r >>= f) >>= g)
-bind-assoc (Ok x) f g = refl
-bind-assoc (Err fault) f g = refl
 
 -- ---- places
 
@@ -58,29 +54,50 @@ if_err-same P expected (Err fault) e = λ _. e
 abbrev pub made : Head → Lists → List IntervalRec → List CellRec → SumDoc
 made h ls is cs = record { seq = h.seq; min = h.min; skipped = h.skipped; other = h.other; conns = h.conns; text = ls.text; rows = ls.rows; cols = ls.cols; intervals = is; cells = cs }
 
-abbrev with_cells : Head → Lists → Data → List IntervalRec → Result SumDoc SumFault
-with_cells h ls d is =
-    field_of_summary (needed_field (cells_form (unremoved_units ls.rows) (unremoved_units ls.cols)) d Cells) >>= λ given. kept_each kept_cell given >>= λ cs. Ok (made h ls is cs)
+-- both as one value
+abbrev pub pair : {A B : Type 0} → A → B → A × B
+pair a b = (a, b)
 
-object-intervals : (d : Data) (h : Head) (ls : Lists) (n : ℕ) → head d ≡ Ok h → lists h d ≡ Ok ls → element_count ls d ≡ Ok n → summary_of_object d ≡ (intervals_of (unremoved_text ls.text) d >>= with_cells h ls d)
-unfolding summary_of_object intervals_of
-object-intervals d h ls n e f g =
-    rw (e, f, g) (bind-assoc (field_of_summary (needed_field (intervals_form (unremoved_text ls.text)) d Intervals)) (kept_each kept_interval) (with_cells h ls d))
+-- what is shown, read in one step, makes what is made of it step by step
+bound_cells : {I C S F : Type 0} (is : I) (cells : Result C F) (f : I → C → S)
+    → (cells >>= λ cs. Ok (f is cs)) ≡ ((cells >>= λ cs. Ok (pair is cs)) >>= λ s. Ok (f s.0 s.1))
+bound_cells is (Ok cs) f = refl
+bound_cells is (Err fault) f = refl
 
-object-cells : (d : Data) (h : Head) (ls : Lists) (is : List IntervalRec) → with_cells h ls d is ≡ (cells_of (unremoved_units ls.rows) (unremoved_units ls.cols) d >>= λ cs. Ok (made h ls is cs))
-unfolding cells_of
-object-cells d h ls is =
-    bind-assoc (field_of_summary (needed_field (cells_form (unremoved_units ls.rows) (unremoved_units ls.cols)) d Cells)) (kept_each kept_cell) (λ cs. Ok (made h ls is cs))
+bound_intervals : {I G C S F : Type 0} (intervals : Result I F) (given : Result G F) (kept : G → Result C F) (f : I → C → S)
+    → (intervals >>= λ is. given >>= λ g. kept g >>= λ cs. Ok (f is cs))
+    ≡ ((intervals >>= λ is. (given >>= kept) >>= λ cs. Ok (pair is cs)) >>= λ s. Ok (f s.0 s.1))
+bound_intervals (Err fault) given kept f = refl
+bound_intervals (Ok is) (Err fault) kept f = refl
+bound_intervals (Ok is) (Ok g) kept f = bound_cells is (kept g) f
 
--- the parts before the intervals
-pub record IsReadBefore (d : Data) (h : Head) (ls : Lists) : Type 0 where
-  pub head : head d ≡ Ok h
-  pub lists : lists h d ≡ Ok ls
-  pub count : (n : ℕ) × (element_count ls d ≡ Ok n)
+bound_all : {N J I G C S F : Type 0} (count : Result N F) (found : Result J F) (read : J → Result I F) (given : Result G F)
+    (kept : G → Result C F) (f : I → C → S)
+    → (count >>= λ n. found >>= λ j. read j >>= λ is. given >>= λ g. kept g >>= λ cs. Ok (f is cs))
+    ≡ ((count >>= λ n. (found >>= read) >>= λ is. (given >>= kept) >>= λ cs. Ok (pair is cs)) >>= λ s. Ok (f s.0 s.1))
+bound_all (Err fault) found read given kept f = refl
+bound_all (Ok n) (Err fault) read given kept f = refl
+bound_all (Ok n) (Ok j) read given kept f = bound_intervals (read j) given kept f
 
-pub intervals_refused : (d : Data) (h : Head) (ls : Lists) (fault : SumFault) → IsReadBefore d h ls → intervals_of (unremoved_text ls.text) d ≡ Err fault → summary_of_object d ≡ Err fault
-intervals_refused d h ls fault b e = object-intervals d h ls b.count.0 b.head b.lists b.count.1 ∙ rw e refl
+pub object-read : (d : Data) (h : Head) (ls : Lists) (shown : Result (List IntervalRec × List CellRec) SumFault) → head d ≡ Ok h
+    → lists h d ≡ Ok ls → shown_beside ls d ≡ shown
+    → summary_of_object d ≡ (shown >>= λ s. Ok (made h ls s.0 s.1))
+unfolding summary_of_object shown_beside intervals_of cells_of
+object-read d h ls shown e f g =
+    rw (e, f) (bound_all (element_count ls d) (field_of_summary (needed_field (intervals_form (unremoved_text ls.text)) d Intervals))
+    (kept_each kept_interval)
+    (field_of_summary (needed_field (cells_form (unremoved_units ls.rows) (unremoved_units ls.cols)) d Cells)) (kept_each kept_cell) (made h ls)
+    ∙ ap (λ (r : Result (List IntervalRec × List CellRec) SumFault). r >>= λ s. Ok (made h ls s.0 s.1)) g)
 
-pub cells_read : (d : Data) (h : Head) (ls : Lists) (is : List IntervalRec) (cells : Result (List CellRec) SumFault) → IsReadBefore d h ls → intervals_of (unremoved_text ls.text) d ≡ Ok is
-    → cells_of (unremoved_units ls.rows) (unremoved_units ls.cols) d ≡ cells → summary_of_object d ≡ (cells >>= λ cs. Ok (made h ls is cs))
-cells_read d h ls is cells b e f = object-intervals d h ls b.count.0 b.head b.lists b.count.1 ∙ rw e (object-cells d h ls is ∙ rw f refl)
+-- ---- what is shown
+
+pub shown-intervals : (ls : Lists) (d : Data) (n : ℕ) (intervals : Result (List IntervalRec) SumFault) → element_count ls d ≡ Ok n
+    → intervals_of (unremoved_text ls.text) d ≡ intervals
+    → shown_beside ls d ≡ (intervals >>= λ is. cells_of (unremoved_units ls.rows) (unremoved_units ls.cols) d >>= λ cs. Ok (is, cs))
+unfolding shown_beside
+shown-intervals ls d n intervals e f = rw (e, f) refl
+
+pub shown-cells : (ls : Lists) (d : Data) (n : ℕ) (is : List IntervalRec) (cells : Result (List CellRec) SumFault) → element_count ls d ≡ Ok n
+    → intervals_of (unremoved_text ls.text) d ≡ Ok is
+    → cells_of (unremoved_units ls.rows) (unremoved_units ls.cols) d ≡ cells → shown_beside ls d ≡ (cells >>= λ cs. Ok (is, cs))
+shown-cells ls d n is cells e f g = shown-intervals ls d n (Ok is) e f ∙ ap (λ (r : Result (List CellRec) SumFault). r >>= λ cs. Ok (is, cs)) g

@@ -26,16 +26,23 @@ pub at_item : {V : Type 0} (xs : List V) (i : ℕ) (v : V) → i < length xs →
 at_item xs i v l e = drop-cons xs i v l ∙ ap (λ (u : _). u ∷ drop (suc i) xs) (sym e) ∙ ap (λ (j : ℕ). v ∷ drop j xs) (sym (add-one i))
 
 module _ {V D B I : Type 0} (form : D → Option B) (of : I → B) (see : V → D) where
+  -- what has the form goes to what was read
+  pub next_kept : (done : List B) (v : V) (rest : List V) (found : B) → Some found ≡ form (see v)
+      → behind (done ++ (found ∷ [])) (each_of form (map see rest)) ≡ behind done (each_of form (map see (v ∷ rest)))
+  next_kept done v rest found h =
+      subst (λ (o : Option B). behind (done ++ (found ∷ [])) (each_of form (map see rest))
+      ≡ behind done (o >>= λ y. each_of form (map see rest) >>= λ ys. Some (y ∷ ys))) h
+      (placed (each_of form (map see rest)))
+    where
+      placed : (o : Option (List B)) → behind (done ++ (found ∷ [])) o ≡ behind done (o >>= λ ys. Some (found ∷ ys))
+      placed None = refl
+      placed (Some ys) = ap Some (append_assoc done (found ∷ []) ys)
+
   -- an item that has the form goes to what was read
   pub item_kept : (done : List I) (v : V) (rest : List V) (found : I) → Some (of found) ≡ form (see v)
       → behind (map of (done ++ (found ∷ []))) (each_of form (map see rest)) ≡ behind (map of done) (each_of form (map see (v ∷ rest)))
   item_kept done v rest found h =
-      subst (λ (o : Option B). behind (map of (done ++ (found ∷ []))) (each_of form (map see rest)) ≡ behind (map of done) (o >>= λ y. each_of form (map see rest) >>= λ ys. Some (y ∷ ys))) h
-      (placed (each_of form (map see rest)))
-    where
-      placed : (o : Option (List B)) → behind (map of (done ++ (found ∷ []))) o ≡ behind (map of done) (o >>= λ ys. Some (of found ∷ ys))
-      placed None = refl
-      placed (Some ys) = ap Some (ap (λ (zs : List B). zs ++ ys) (map-append of done (found ∷ [])) ∙ append_assoc (map of done) (of found ∷ []) ys)
+      ap (λ (ys : List B). behind ys (each_of form (map see rest))) (map-append of done (found ∷ [])) ∙ next_kept (map of done) v rest (of found) h
 
   -- one that hasn't leaves none
   pub item_refused : (done : List B) (v : V) (rest : List V) → form (see v) ≡ None → behind done (each_of form (map see (v ∷ rest))) ≡ None

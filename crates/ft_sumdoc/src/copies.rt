@@ -1,9 +1,26 @@
 //! Copies of what summaries and views hold, and whether two are equal.
 
-ghost use Rattle.std.specs.Prelude.{Ok};
+ghost use Rattle.std.specs.Prelude.{◌≡◌, Ok, IfOk};
 
-use crate::summary::{CellRec, Ends2, IntervalRec, Mark, RunRec, Seg, SegRec, SumDoc};
+use crate::summary::{
+    CellRec, CellRecs, Ends2, IntervalRec, IntervalRecs, Mark, RunRec, RunRecs, Seg, SegRec,
+    SegRecs, SumDoc,
+};
 use ft_base::{Datum, OutOfMemory};
+
+// Copies of the segments, the rows and the columns.
+fn copy_elements(sum: &SumDoc) -> Result<(SegRecs, RunRecs, RunRecs), OutOfMemory>
+    ensures { IfOk result (λ copies. copies ≡ (sum.now.text, sum.now.rows, sum.now.cols)) }
+{
+    Ok((sum.text.copy()?, sum.rows.copy()?, sum.cols.copy()?))
+}
+
+// Copies of the intervals and the cells.
+fn copy_shown(sum: &SumDoc) -> Result<(IntervalRecs, CellRecs), OutOfMemory>
+    ensures { IfOk result (λ copies. copies ≡ (sum.now.intervals, sum.now.cells)) }
+{
+    Ok((sum.intervals.copy()?, sum.cells.copy()?))
+}
 
 impl Datum for Seg {
     fn copy(&self) -> Result<Seg, OutOfMemory> {
@@ -37,11 +54,14 @@ impl Datum for Ends2 {
 
 impl Datum for IntervalRec {
     fn copy(&self) -> Result<IntervalRec, OutOfMemory> {
+        let label = self.label.copy()?;
+        let id = self.id.copy()?;
+        let props = self.props.copy()?;
         Ok(IntervalRec {
-            label: self.label.copy()?,
-            id: self.id.copy()?,
+            label,
+            id,
             ends: self.ends,
-            props: self.props.copy()?,
+            props,
         })
     }
 
@@ -79,12 +99,15 @@ impl Datum for Mark {
 
 impl Datum for SegRec {
     fn copy(&self) -> Result<SegRec, OutOfMemory> {
+        let body = self.body.copy()?;
+        let props = self.props.copy()?;
+        let dels = self.dels.copy()?;
         Ok(SegRec {
-            body: self.body.copy()?,
-            props: self.props.copy()?,
+            body,
+            props,
             by: self.by,
             ins: self.ins,
-            dels: self.dels.copy()?,
+            dels,
         })
     }
 
@@ -113,17 +136,20 @@ impl Datum for RunRec {
 
 impl Datum for SumDoc {
     fn copy(&self) -> Result<SumDoc, OutOfMemory> {
+        let conns = self.conns.copy()?;
+        let (text, rows, cols) = copy_elements(self)?;
+        let (intervals, cells) = copy_shown(self)?;
         Ok(SumDoc {
             seq: self.seq,
             min: self.min,
             skipped: self.skipped,
             other: self.other,
-            conns: self.conns.copy()?,
-            text: self.text.copy()?,
-            rows: self.rows.copy()?,
-            cols: self.cols.copy()?,
-            intervals: self.intervals.copy()?,
-            cells: self.cells.copy()?,
+            conns,
+            text,
+            rows,
+            cols,
+            intervals,
+            cells,
         })
     }
 

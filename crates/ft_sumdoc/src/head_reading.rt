@@ -28,16 +28,26 @@ fn known_version(version: u64) -> Result<u64, SumFault>
     }
 }
 
+// The string that the value is: None where it is no string.
+fn name_item(alloc: Global, value: &Value) -> Result<Option<Text>, OutOfMemory>
+    ensures { IfOk result (λ name. name ≡ characters (view value.now)) }
+{
+    match value.as_str() {
+        Some(name) => Ok(Some(Text::new(alloc, name)?)),
+        None => Ok(None),
+    }
+}
+
 // The strings that the values are: None where one is no string.
 fn name_items(alloc: Global, values: &[Value]) -> Result<Option<Texts>, OutOfMemory>
     ensures { IfOk result (λ names. names ≡ each_of characters (map view values.now)) }
 {
     let mut names = Texts::new(alloc);
     for value in values {
-        let Some(name) = value.as_str() else {
+        let Some(name) = name_item(alloc, value)? else {
             return Ok(None);
         };
-        names.push(Text::new(alloc, name)?)?;
+        names.push(name)?;
     }
     Ok(Some(names))
 }
@@ -84,10 +94,13 @@ fn read_names(alloc: Global, value: &Value) -> Result<Texts, SumFault>
 {
     let f = Field::Conns;
     let found = field(value, f).ok_or(FieldFault::Missing(f))?;
-    match whole_names(alloc, found)? {
-        Some(names) if names.len() <= u32::MAX as usize => Ok(names),
-        Some(_) => Err(SumFault::OutOfMemory),
-        None => Err(SumFault::Malformed(SumCause::WrongKind(f))),
+    let Some(names) = whole_names(alloc, found)? else {
+        return Err(SumFault::Malformed(SumCause::WrongKind(f)));
+    };
+    if names.len() <= u32::MAX as usize {
+        Ok(names)
+    } else {
+        Err(SumFault::OutOfMemory)
     }
 }
 

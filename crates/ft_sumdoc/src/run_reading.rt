@@ -72,9 +72,13 @@ fn whole_runs(alloc: Global, value: &Value) -> Result<Option<Vec<RunItem>>, OutO
     let Some(values) = items(value) else {
         return Ok(None);
     };
-    match run_items(alloc, values)? {
-        Some(runs) if are_few(&runs) => Ok(Some(runs)),
-        _ => Ok(None),
+    let Some(runs) = run_items(alloc, values)? else {
+        return Ok(None);
+    };
+    if are_few(&runs) {
+        Ok(Some(runs))
+    } else {
+        Ok(None)
     }
 }
 

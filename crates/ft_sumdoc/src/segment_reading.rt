@@ -143,9 +143,13 @@ fn chunk_items(
     let Some(values) = items(value) else {
         return Ok(None);
     };
-    match segment_items(alloc, version, values)? {
-        Some(segs) if !segs.is_empty() => Ok(Some(segs)),
-        _ => Ok(None),
+    let Some(segs) = segment_items(alloc, version, values)? else {
+        return Ok(None);
+    };
+    if segs.is_empty() {
+        Ok(None)
+    } else {
+        Ok(Some(segs))
     }
 }
 

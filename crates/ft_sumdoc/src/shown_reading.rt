@@ -142,9 +142,13 @@ fn whole_intervals(
     let Some(values) = items(value) else {
         return Ok(None);
     };
-    match interval_items(alloc, elements, values)? {
-        Some(intervals) if intervals_rise(&intervals) => Ok(Some(intervals)),
-        _ => Ok(None),
+    let Some(intervals) = interval_items(alloc, elements, values)? else {
+        return Ok(None);
+    };
+    if intervals_rise(&intervals) {
+        Ok(Some(intervals))
+    } else {
+        Ok(None)
     }
 }
 
@@ -285,9 +289,13 @@ fn whole_cells(
     let Some(values) = items(value) else {
         return Ok(None);
     };
-    match cell_items(alloc, rows, cols, values)? {
-        Some(cells) if cells_rise(&cells) => Ok(Some(cells)),
-        _ => Ok(None),
+    let Some(cells) = cell_items(alloc, rows, cols, values)? else {
+        return Ok(None);
+    };
+    if cells_rise(&cells) {
+        Ok(Some(cells))
+    } else {
+        Ok(None)
     }
 }
 

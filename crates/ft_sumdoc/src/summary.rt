@@ -149,10 +149,10 @@ impl fmt::Display for SumCause {
 
     fn fmt<W: fmt::Write>(&self, f: &mut fmt::Formatter<W>) -> fmt::Result {
         match *self {
-            SumCause::NotUtf8 => write!(f, "NotUtf8"),
-            SumCause::NotJson => write!(f, "NotJson"),
-            SumCause::Fraction => write!(f, "Fraction"),
-            SumCause::TooDeep => write!(f, "TooDeep"),
+            SumCause::NotUtf8 => f.write_str("NotUtf8"),
+            SumCause::NotJson => f.write_str("NotJson"),
+            SumCause::Fraction => f.write_str("Fraction"),
+            SumCause::TooDeep => f.write_str("TooDeep"),
             SumCause::Missing(field) => write!(f, "Missing {field}"),
             SumCause::WrongKind(field) => write!(f, "WrongKind {field}"),
         }
@@ -173,7 +173,7 @@ impl fmt::Display for SumFault {
             SumFault::Version(n) => write!(f, "Version {n}"),
             SumFault::BadStamp(place) => write!(f, "BadStamp {place}"),
             SumFault::BadCount { said, found } => write!(f, "BadCount said {said} found {found}"),
-            SumFault::OutOfMemory => write!(f, "OutOfMemory"),
+            SumFault::OutOfMemory => f.write_str("OutOfMemory"),
         }
     }
 }

@@ -11,12 +11,13 @@ ghost use Rattle.ft_sumdoc.specs.Faults.{field_of_summary};
 ghost use Rattle.ft_sumdoc.specs.Forms.{has_no_null};
 ghost use Rattle.ft_sumdoc.specs.Items.{bounds_in, head_of, lists_of, run_of, segment_of, text_of};
 ghost use Rattle.ft_sumdoc.specs.Narrow.{narrow_text};
-ghost use Rattle.ft_sumdoc.specs.NarrowLists.{narrow_lists, segments_stamps};
+ghost use Rattle.ft_sumdoc.specs.NarrowLists.{narrow_lists, runs_beside, segments_stamps};
 ghost use Rattle.ft_sumdoc.specs.Runs.{unit_count, unremoved_units};
 ghost use Rattle.ft_sumdoc.specs.Segments.{text_length, unremoved_text};
+ghost use Rattle.ft_sumdoc.specs.Shown.{shown_beside};
 ghost use Rattle.ft_sumdoc.specs.Stamps.{places_behind};
 ghost use Rattle.ft_sumdoc.specs.Summary.{element_count, lists, run_stamps, summary, summary_of_object, within_chunk};
-ghost use Rattle.ft_sumdoc.specs.Valid.{HasOnlyValues, HasValues, IsValidSummary};
+ghost use Rattle.ft_sumdoc.specs.Valid.{HasOnlyValues, HasValues, IsValidSummary, IsValue};
 ghost use Rattle.ft_sumdoc.specs.Values.{kept_segment, kept_each};
 
 use crate::chunks::body_len;
@@ -27,7 +28,9 @@ use crate::run_reading::{keep_runs, runs_field};
 use crate::segment_reading::{keep_segments, text_item};
 use crate::shown_reading::{read_cells, read_intervals};
 use crate::stamp_tests::{run_places, segment_places};
-use crate::summary::{RunRec, SegRec, SegRecs, SumCause, SumDoc, SumFault};
+use crate::summary::{
+    CellRecs, IntervalRecs, RunRec, RunRecs, SegRec, SegRecs, SumCause, SumDoc, SumFault,
+};
 use ft_base::OutOfMemory;
 use ft_json::{Field, FieldFault, count_field, field, read_line};
 use ft_op::is_object;
@@ -83,6 +86,26 @@ fn all_places(
     run_places(alloc, limits, units, cols)
 }
 
+// The rows and the columns that an object gives, unless stamps of these segments, of the rows or of
+// the columns are bad.
+#[tactic(auto, unfolding(crate::specs::NarrowLists::runs_beside))]
+fn read_runs(
+    alloc: Global,
+    limits: Limits,
+    segs: &[SegItem],
+    value: &Value,
+) -> Result<(RunRecs, RunRecs), SumFault>
+    requires { limits.seq < 2 ^ 53 }
+    ensures reads { Gives SumFault.OutOfMemory (runs_beside (bounds_in limits) (map segment_of segs.now) (view value.now)) result }
+    ensures rows { IfOk result (λ found. unit_count found.0 ≤ 2 ^ 52) }
+    ensures cols { IfOk result (λ found. unit_count found.1 ≤ 2 ^ 52) }
+{
+    let rows = runs_field(alloc, value, Field::Rows)?;
+    let cols = runs_field(alloc, value, Field::Cols)?;
+    let _places = all_places(alloc, limits, segs, &rows, &cols)?;
+    Ok((keep_runs(alloc, &rows)?, keep_runs(alloc, &cols)?))
+}
+
 // The lists of elements that an object gives behind this head, as they are read.
 #[tactic(auto, unfolding(crate::specs::NarrowLists::narrow_lists))]
 fn read_narrow_lists(alloc: Global, head: &HeadItem, value: &Value) -> Result<ListItem, SumFault>
@@ -95,13 +118,11 @@ fn read_narrow_lists(alloc: Global, head: &HeadItem, value: &Value) -> Result<Li
 {
     let items = text_field(alloc, head.version, value)?;
     let text = read_segments(alloc, &items.segs)?;
-    let row_items = runs_field(alloc, value, Field::Rows)?;
-    let col_items = runs_field(alloc, value, Field::Cols)?;
-    let _places = all_places(alloc, limits_of(head), &items.segs, &row_items, &col_items)?;
+    let (rows, cols) = read_runs(alloc, limits_of(head), &items.segs, value)?;
     Ok(ListItem {
         text,
-        rows: keep_runs(alloc, &row_items)?,
-        cols: keep_runs(alloc, &col_items)?,
+        rows,
+        cols,
         lengths: items.lengths,
     })
 }
@@ -205,6 +226,28 @@ fn shown_units(runs: &[RunRec]) -> u64
     units
 }
 
+// The intervals and the cells that an object gives beside these lists, whose elements are counted
+// before.
+#[tactic(auto, unfolding(crate::specs::Shown::shown_beside))]
+fn read_shown(
+    alloc: Global,
+    lists: &ListItem,
+    value: &Value,
+) -> Result<(IntervalRecs, CellRecs), SumFault>
+    requires rows { unit_count lists.now.rows ≤ 2 ^ 52 }
+    requires cols { unit_count lists.now.cols ≤ 2 ^ 52 }
+    ensures { Reads SumFault.OutOfMemory (shown_beside (lists_of lists.now) (view value.now))
+        (λ shown. AllByRecursion (λ i. HasValues i.props) shown.0 × AllByRecursion (λ c. IsValue c.value) shown.1) result }
+{
+    let _elements = test_count(lists, value)?;
+    let elements = shown_len(lists.text.as_slice());
+    let intervals = read_intervals(alloc, elements, value)?;
+    let rows = shown_units(lists.rows.as_slice());
+    let cols = shown_units(lists.cols.as_slice());
+    let cells = read_cells(alloc, rows, cols, value)?;
+    Ok((intervals, cells))
+}
+
 // The summary that the object is.
 #[tactic(auto, unfolding(crate::specs::Summary::summary_of_object))]
 fn read_object(alloc: Global, value: &Value) -> Result<SumDoc, SumFault>
@@ -213,12 +256,7 @@ fn read_object(alloc: Global, value: &Value) -> Result<SumDoc, SumFault>
 {
     let head = read_head(alloc, value)?;
     let lists = read_lists(alloc, &head, value)?;
-    let _elements = test_count(&lists, value)?;
-    let elements = shown_len(lists.text.as_slice());
-    let intervals = read_intervals(alloc, elements, value)?;
-    let rows = shown_units(lists.rows.as_slice());
-    let cols = shown_units(lists.cols.as_slice());
-    let cells = read_cells(alloc, rows, cols, value)?;
+    let (intervals, cells) = read_shown(alloc, &lists, value)?;
     Ok(SumDoc {
         seq: head.seq,
         min: head.min,

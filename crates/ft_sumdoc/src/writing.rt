@@ -108,6 +108,31 @@ fn given_marks(alloc: Global, marks: &Marks) -> Result<Option<Value>, OutOfMemor
     Ok(Some(Value::Array(values)))
 }
 
+// Puts the array of the stamp under the key, if there is one.
+fn put_mark(
+    members: &mut Map<String, Value>,
+    alloc: Global,
+    key: &str,
+    mark: Option<Mark>,
+) -> Result<(), OutOfMemory>
+    ensures { OnOk result (members_view members.new.entries
+        ≡ put_given key.now (given_mark mark) (members_view members.old.entries)) }
+{
+    put_given(members, alloc, key, given_mark(alloc, mark)?)
+}
+
+// Puts the array of removals under its key, if there are any.
+fn put_removals(
+    members: &mut Map<String, Value>,
+    alloc: Global,
+    marks: &Marks,
+) -> Result<(), OutOfMemory>
+    ensures { OnOk result (members_view members.new.entries
+        ≡ put_given (codes "r") (given_marks marks.now) (members_view members.old.entries)) }
+{
+    put_given(members, alloc, "r", given_marks(alloc, marks)?)
+}
+
 // The value of a property or a cell.
 fn written_value(value: &ValText) -> Result<Value, OutOfMemory>
     requires { IsValue value.now }
@@ -169,15 +194,13 @@ fn written_segment(alloc: Global, seg: &SegRec) -> Result<Value, OutOfMemory>
     ensures representable { IfOk result (λ _. IsRepresentableSegmentRecord seg.now) }
 {
     let mut members = Map::new(alloc);
-    let author = given_mark(alloc, author_beside(seg.ins, seg.by))?;
-    put_given(&mut members, alloc, "a", author)?;
-    let insertion = given_mark(alloc, unless_universal(seg.ins))?;
-    put_given(&mut members, alloc, "i", insertion)?;
+    let author = author_beside(seg.ins, seg.by);
+    put_mark(&mut members, alloc, "a", author)?;
+    put_mark(&mut members, alloc, "i", unless_universal(seg.ins))?;
     put_given(&mut members, alloc, "m", given_ref_type(&seg.body))?;
     let props = given_props(alloc, &seg.props)?;
     put_given(&mut members, alloc, "p", props)?;
-    let removals = given_marks(alloc, &seg.dels)?;
-    put_given(&mut members, alloc, "r", removals)?;
+    put_removals(&mut members, alloc, &seg.dels)?;
     let text = given_characters(alloc, &seg.body)?;
     put_given(&mut members, alloc, "t", text)?;
     Ok(Value::Object(members))
@@ -218,11 +241,9 @@ fn written_run(alloc: Global, run: &RunRec) -> Result<Value, OutOfMemory>
     ensures { IfOk result (λ v. view v ≡ written_unit_run run.now) }
 {
     let mut members = Map::new(alloc);
-    let insertion = given_mark(alloc, unless_universal(run.ins))?;
-    put_given(&mut members, alloc, "i", insertion)?;
+    put_mark(&mut members, alloc, "i", unless_universal(run.ins))?;
     put(&mut members, alloc, "n", Value::from(run.count))?;
-    let removals = given_marks(alloc, &run.dels)?;
-    put_given(&mut members, alloc, "r", removals)?;
+    put_removals(&mut members, alloc, &run.dels)?;
     Ok(Value::Object(members))
 }
 
@@ -255,9 +276,13 @@ pub fn interval_value(alloc: Global, i: &IntervalRec) -> Result<Value, OutOfMemo
     ensures value { IfOk result (λ v. view v ≡ written_interval_record i.now) }
     ensures representable { IfOk result (λ _. IsRepresentableInterval i.now) }
 {
-    let (label, id) = (i.label.as_str(), i.id.as_str());
-    let props = props_value(alloc, &i.props)?;
-    Ok(json!(in alloc; [label, id, i.ends.start, i.ends.end, props])?)
+    let mut items = Vec::new(alloc);
+    items.push(Value::try_from_str(alloc, i.label.as_str())?)?;
+    items.push(Value::try_from_str(alloc, i.id.as_str())?)?;
+    items.push(Value::from(i.ends.start))?;
+    items.push(Value::from(i.ends.end))?;
+    items.push(props_value(alloc, &i.props)?)?;
+    Ok(Value::Array(items))
 }
 
 // The arrays of intervals.
@@ -278,8 +303,11 @@ fn written_cell(alloc: Global, cell: &CellRec) -> Result<Value, OutOfMemory>
     requires { IsValue cell.now.value }
     ensures { IfOk result (λ v. view v ≡ written_cell_record cell.now) }
 {
-    let value = written_value(&cell.value)?;
-    Ok(json!(in alloc; [cell.row, cell.col, value])?)
+    let mut items = Vec::new(alloc);
+    items.push(Value::from(cell.row))?;
+    items.push(Value::from(cell.col))?;
+    items.push(written_value(&cell.value)?)?;
+    Ok(Value::Array(items))
 }
 
 // The arrays of cells.
