@@ -1,10 +1,11 @@
 //! Copies of messages and drafts, and whether two are the same.
 
-ghost use Rattle.std.specs.Prelude.{◌≡◌, ◌↔◌, IsTrue};
+ghost use Rattle.std.specs.Prelude.{◌≡◌, ◌↔◌, Ok, IsTrue, IfOk};
 
 use crate::messages::{Body, Draft, Entry, Message, MsgKind};
-use crate::views::{Link, Numbers, Run, Spot, View};
+use crate::views::{Link, Numbers, Run, Runs, Spot, Spots, View};
 use ft_base::{Datum, OutOfMemory, Text};
+use ft_sumdoc::{CellRecs, IntervalRecs};
 
 // Whether it is the kind of this other word.
 fn is_other(kind: &MsgKind, word: &Text) -> bool
@@ -14,6 +15,20 @@ fn is_other(kind: &MsgKind, word: &Text) -> bool
         MsgKind::Other(other) => other.same(word),
         MsgKind::Op | MsgKind::Join | MsgKind::Leave | MsgKind::Noop => false,
     }
+}
+
+// Copies of the text, its markers and its runs.
+fn copy_text(view: &View) -> Result<(Text, Spots, Runs), OutOfMemory>
+    ensures { IfOk result (λ copies. copies ≡ (view.now.text, view.now.markers, view.now.runs)) }
+{
+    Ok((view.text.copy()?, view.markers.copy()?, view.runs.copy()?))
+}
+
+// Copies of the intervals and the cells.
+fn copy_shown(view: &View) -> Result<(IntervalRecs, CellRecs), OutOfMemory>
+    ensures { IfOk result (λ copies. copies ≡ (view.now.intervals, view.now.cells)) }
+{
+    Ok((view.intervals.copy()?, view.cells.copy()?))
 }
 
 impl Datum for MsgKind {
@@ -158,15 +173,17 @@ impl Datum for Spot {
 
 impl Datum for View {
     fn copy(&self) -> Result<View, OutOfMemory> {
+        let (text, markers, runs) = copy_text(self)?;
+        let (intervals, cells) = copy_shown(self)?;
         Ok(View {
             numbers: self.numbers,
-            text: self.text.copy()?,
-            markers: self.markers.copy()?,
-            runs: self.runs.copy()?,
-            intervals: self.intervals.copy()?,
+            text,
+            markers,
+            runs,
+            intervals,
             rows: self.rows,
             cols: self.cols,
-            cells: self.cells.copy()?,
+            cells,
         })
     }
 

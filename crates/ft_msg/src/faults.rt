@@ -171,18 +171,18 @@ impl fmt::Display for Cause {
 
     fn fmt<W: fmt::Write>(&self, f: &mut fmt::Formatter<W>) -> fmt::Result {
         match *self {
-            Cause::NotUtf8 => write!(f, "NotUtf8"),
-            Cause::NotJson => write!(f, "NotJson"),
-            Cause::Fraction => write!(f, "Fraction"),
-            Cause::TooDeep => write!(f, "TooDeep"),
+            Cause::NotUtf8 => f.write_str("NotUtf8"),
+            Cause::NotJson => f.write_str("NotJson"),
+            Cause::Fraction => f.write_str("Fraction"),
+            Cause::TooDeep => f.write_str("TooDeep"),
             Cause::Missing(field) => write!(f, "Missing {field}"),
             Cause::WrongKind(field) => write!(f, "WrongKind {field}"),
             Cause::UnknownType(n) => write!(f, "UnknownType {n}"),
             Cause::Reversed { pos1, pos2 } => write!(f, "Reversed {pos1} {pos2}"),
-            Cause::CountLimit => write!(f, "CountLimit"),
-            Cause::NestedGroup => write!(f, "NestedGroup"),
-            Cause::UnknownWord => write!(f, "UnknownWord"),
-            Cause::OutOfMemory => write!(f, "OutOfMemory"),
+            Cause::CountLimit => f.write_str("CountLimit"),
+            Cause::NestedGroup => f.write_str("NestedGroup"),
+            Cause::UnknownWord => f.write_str("UnknownWord"),
+            Cause::OutOfMemory => f.write_str("OutOfMemory"),
         }
     }
 }
@@ -197,10 +197,10 @@ impl fmt::Display for EditFault {
 
     fn fmt<W: fmt::Write>(&self, f: &mut fmt::Formatter<W>) -> fmt::Result {
         match *self {
-            EditFault::OutOfMemory => write!(f, "OutOfMemory"),
+            EditFault::OutOfMemory => f.write_str("OutOfMemory"),
             EditFault::Stopped { seq } => write!(f, "Stopped {seq}"),
-            EditFault::IdInUse => write!(f, "IdInUse"),
-            EditFault::NoSuchInterval => write!(f, "NoSuchInterval"),
+            EditFault::IdInUse => f.write_str("IdInUse"),
+            EditFault::NoSuchInterval => f.write_str("NoSuchInterval"),
             EditFault::OutOfRange { length } => write!(f, "OutOfRange length {length}"),
         }
     }
@@ -216,7 +216,7 @@ impl fmt::Display for ProcessFault {
 
     fn fmt<W: fmt::Write>(&self, f: &mut fmt::Formatter<W>) -> fmt::Result {
         match *self {
-            ProcessFault::OutOfMemory => write!(f, "OutOfMemory"),
+            ProcessFault::OutOfMemory => f.write_str("OutOfMemory"),
             ProcessFault::Stopped { seq } => write!(f, "Stopped {seq}"),
             ProcessFault::OutOfOrder { expected, got } => write!(
                 f,
@@ -226,7 +226,7 @@ impl fmt::Display for ProcessFault {
                 f,
                 "BadNumbers {field} kept {kept} got {got}"
             ),
-            ProcessFault::NotSent => write!(f, "NotSent"),
+            ProcessFault::NotSent => f.write_str("NotSent"),
         }
     }
 }
@@ -241,10 +241,10 @@ impl fmt::Display for LinkFault {
 
     fn fmt<W: fmt::Write>(&self, f: &mut fmt::Formatter<W>) -> fmt::Result {
         match *self {
-            LinkFault::OutOfMemory => write!(f, "OutOfMemory"),
+            LinkFault::OutOfMemory => f.write_str("OutOfMemory"),
             LinkFault::Stopped { seq } => write!(f, "Stopped {seq}"),
-            LinkFault::AlreadyConnected => write!(f, "AlreadyConnected"),
-            LinkFault::NotConnected => write!(f, "NotConnected"),
+            LinkFault::AlreadyConnected => f.write_str("AlreadyConnected"),
+            LinkFault::NotConnected => f.write_str("NotConnected"),
         }
     }
 }
@@ -259,7 +259,7 @@ impl fmt::Display for ViewFault {
 
     fn fmt<W: fmt::Write>(&self, f: &mut fmt::Formatter<W>) -> fmt::Result {
         match *self {
-            ViewFault::OutOfMemory => write!(f, "OutOfMemory"),
+            ViewFault::OutOfMemory => f.write_str("OutOfMemory"),
             ViewFault::Stopped { seq } => write!(f, "Stopped {seq}"),
         }
     }
@@ -286,7 +286,7 @@ impl fmt::Display for SummaryFault {
 
     fn fmt<W: fmt::Write>(&self, f: &mut fmt::Formatter<W>) -> fmt::Result {
         match *self {
-            SummaryFault::OutOfMemory => write!(f, "OutOfMemory"),
+            SummaryFault::OutOfMemory => f.write_str("OutOfMemory"),
             SummaryFault::Stopped { seq } => write!(f, "Stopped {seq}"),
             SummaryFault::Pending { count } => write!(f, "Pending {count}"),
         }

@@ -1,9 +1,10 @@
 //! Writing messages and drafts.
 
-ghost use Rattle.std.specs.Prelude.{◌≡◌, Ok, IfOk};
-ghost use Rattle.serde_json.specs.Data.{string};
-ghost use Rattle.serde_json.specs.View.{view};
+ghost use Rattle.std.specs.Prelude.{◌≡◌, Ok, IfOk, OnOk, codes};
+ghost use Rattle.serde_json.specs.Data.{no_members, object, put, string};
+ghost use Rattle.serde_json.specs.View.{members_view, view};
 ghost use Rattle.serde_json.specs.Written.{compact_text};
+ghost use Rattle.ft_op.specs.Written.{written_count, written_number};
 ghost use Rattle.ft_msg.specs.MessageGrammar.{draft as draft_of_text, message};
 ghost use Rattle.ft_msg.specs.Representable.{IsRepresentableBody, IsRepresentableKind, IsRepresentableMessage, IsRepresentableSender};
 ghost use Rattle.ft_msg.specs.WellFormed.{IsWellFormedBody, IsWellFormedDraft, IsWellFormedMessage};
@@ -72,6 +73,52 @@ fn written_body(alloc: Global, body: &Body) -> Result<Value, OutOfMemory>
     }
 }
 
+// Puts a count under the key.
+fn put_count(
+    members: &mut Map<String, Value>,
+    alloc: Global,
+    key: &str,
+    count: u64,
+) -> Result<(), OutOfMemory>
+    ensures { OnOk result (members_view members.new.entries
+        ≡ put key.now (written_count count) (members_view members.old.entries)) }
+{
+    Ok(put(members, alloc, key, Value::from(count))?)
+}
+
+// Puts a number under the key, which may be below 0.
+fn put_number(
+    members: &mut Map<String, Value>,
+    alloc: Global,
+    key: &str,
+    number: i64,
+) -> Result<(), OutOfMemory>
+    ensures { OnOk result (members_view members.new.entries
+        ≡ put key.now (written_number number) (members_view members.old.entries)) }
+{
+    Ok(put(members, alloc, key, Value::from(number))?)
+}
+
+// Puts the contents of a message or a draft under their key.
+fn put_body(members: &mut Map<String, Value>, alloc: Global, body: &Body) -> Result<(), OutOfMemory>
+    requires { IsWellFormedBody body.now }
+    ensures value { OnOk result (members_view members.new.entries
+        ≡ put (codes "contents") (written_body body.now) (members_view members.old.entries)) }
+    ensures representable { OnOk result (IsRepresentableBody body.now) }
+{
+    let contents = written_body(alloc, body)?;
+    Ok(put(members, alloc, "contents", contents)?)
+}
+
+// Puts the word of a kind under its key.
+fn put_type(members: &mut Map<String, Value>, alloc: Global, word: &str) -> Result<(), OutOfMemory>
+    ensures { OnOk result (members_view members.new.entries
+        ≡ put (codes "type") (string word.now) (members_view members.old.entries)) }
+{
+    let kind = Value::try_from_str(alloc, word)?;
+    Ok(put(members, alloc, "type", kind)?)
+}
+
 // The JSON value that a message is written as.
 fn message_value(alloc: Global, m: &Message) -> Result<Value, OutOfMemory>
     requires { IsWellFormedMessage m.now }
@@ -79,36 +126,29 @@ fn message_value(alloc: Global, m: &Message) -> Result<Value, OutOfMemory>
     ensures representable { IfOk result (λ _. IsRepresentableMessage m.now) }
 {
     let mut members = Map::new(alloc);
-    let sender = written_sender(alloc, &m.client_id)?;
-    put(&mut members, alloc, "clientId", sender)?;
-    put(
-        &mut members,
-        alloc,
-        "clientSequenceNumber",
-        Value::from(m.client_seq),
-    )?;
-    put(
-        &mut members,
-        alloc,
-        "contents",
-        written_body(alloc, &m.body)?,
-    )?;
-    put(
-        &mut members,
-        alloc,
-        "minimumSequenceNumber",
-        Value::from(m.min),
-    )?;
-    put(
-        &mut members,
-        alloc,
-        "referenceSequenceNumber",
-        Value::from(m.ref_seq),
-    )?;
-    put(&mut members, alloc, "sequenceNumber", Value::from(m.seq))?;
-    let kind = Value::try_from_str(alloc, kind_word(&m.kind))?;
-    put(&mut members, alloc, "type", kind)?;
+    put_message(&mut members, alloc, m)?;
     Ok(Value::Object(members))
+}
+
+// Puts the members of a message into an object that has none.
+fn put_message(
+    members: &mut Map<String, Value>,
+    alloc: Global,
+    m: &Message,
+) -> Result<(), OutOfMemory>
+    requires formed { IsWellFormedMessage m.now }
+    requires empty { members_view members.old.entries ≡ no_members }
+    ensures value { OnOk result (object (members_view members.new.entries) ≡ written_message m.now) }
+    ensures representable { OnOk result (IsRepresentableMessage m.now) }
+{
+    let sender = written_sender(alloc, &m.client_id)?;
+    put(members, alloc, "clientId", sender)?;
+    put_number(members, alloc, "clientSequenceNumber", m.client_seq)?;
+    put_body(members, alloc, &m.body)?;
+    put_count(members, alloc, "minimumSequenceNumber", m.min)?;
+    put_number(members, alloc, "referenceSequenceNumber", m.ref_seq)?;
+    put_count(members, alloc, "sequenceNumber", m.seq)?;
+    put_type(members, alloc, kind_word(&m.kind))
 }
 
 // The word of the type of a draft with this body.
@@ -127,13 +167,26 @@ fn draft_value(alloc: Global, draft: &Draft) -> Result<Value, OutOfMemory>
     ensures value { IfOk result (λ v. view v ≡ written_draft draft.now) }
     ensures representable { IfOk result (λ _. IsRepresentableBody draft.now.body) }
 {
-    let contents = written_body(alloc, &draft.body)?;
-    Ok(json!(in alloc; {
-        "clientSequenceNumber": draft.client_seq,
-        "contents": contents,
-        "referenceSequenceNumber": draft.ref_seq,
-        "type": draft_word(&draft.body)
-    })?)
+    let mut members = Map::new(alloc);
+    put_draft(&mut members, alloc, draft)?;
+    Ok(Value::Object(members))
+}
+
+// Puts the members of a draft into an object that has none.
+fn put_draft(
+    members: &mut Map<String, Value>,
+    alloc: Global,
+    draft: &Draft,
+) -> Result<(), OutOfMemory>
+    requires formed { IsWellFormedDraft draft.now }
+    requires empty { members_view members.old.entries ≡ no_members }
+    ensures value { OnOk result (object (members_view members.new.entries) ≡ written_draft draft.now) }
+    ensures representable { OnOk result (IsRepresentableBody draft.now.body) }
+{
+    put_count(members, alloc, "clientSequenceNumber", draft.client_seq)?;
+    put_body(members, alloc, &draft.body)?;
+    put_count(members, alloc, "referenceSequenceNumber", draft.ref_seq)?;
+    put_type(members, alloc, draft_word(&draft.body))
 }
 
 /// The one text of a message: compact, with the keys of each object in rising order of their bytes.
