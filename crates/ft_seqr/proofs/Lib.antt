@@ -6,3 +6,4 @@ pub mod EventsBack
 pub mod EventWords
 pub mod SameMessages
 pub mod SequencedDrafts
+pub mod WrittenMembers

@@ -5,6 +5,7 @@ pub mod RefusalKinds
 pub mod SameMessage
 pub mod Addresses
 pub mod EventGrammar
+pub mod ClientEvents
 pub mod EventReader
 pub mod WrittenEvent
 pub mod WellFormedEvent

@@ -1,5 +1,5 @@
 -- Which refusal a fault is, and the number and the text that are written of a refusal.
-use Rattle.std.specs.Prelude.{ℕ, List, ◌++◌, codes, decimal}
+use Rattle.std.specs.Prelude.{ℕ, List, [], ◌++◌, codes, decimal}
 use Rattle.ft_msg.specs.declared.faults.Cause.{Cause}
 use Rattle.ft_msg.specs.declared.faults.Cause.TheVariants as cause
 use Rattle.ft_msg.specs.declared.faults.EditFault.{EditFault}
@@ -126,6 +126,21 @@ refusal_number (BadNumbers field kept got) = 18
 refusal_number (Summary fault) = 19
 refusal_number OutOfMemory = 0
 refusal_number Stopped = 0
+
+-- the text of a refusal without parts; empty for any other
+abbrev pub phrase : Refusal → List ℕ
+phrase UnknownClient = codes "UnknownClient"
+phrase NameInUse = codes "NameInUse"
+phrase AlreadyConnected = codes "AlreadyConnected"
+phrase NotConnected = codes "NotConnected"
+phrase ClientLimit = codes "ClientLimit 16"
+phrase IdInUse = codes "IdInUse"
+phrase NoSuchInterval = codes "NoSuchInterval"
+phrase CountLimit = codes "CountLimit 1000000"
+phrase LineTooLong = codes "LineTooLong"
+phrase OutOfMemory = codes "OutOfMemory"
+phrase Stopped = codes "Stopped"
+phrase _ = []
 
 -- the text of a refusal
 abbrev pub refusal_text : Refusal → List ℕ

@@ -3,8 +3,8 @@
 
 ghost use Rattle.std.specs.Prelude.{◌≡◌, [], ◌∷◌, ◌++◌, IfOk, OnOk, map, option_copied};
 ghost use Rattle.std.specs.List.{AllByRecursion};
-ghost use Rattle.serde_json.specs.Data.{array, string};
-ghost use Rattle.serde_json.specs.View.{items_of, view};
+ghost use Rattle.serde_json.specs.Data.{array, no_members, object, string};
+ghost use Rattle.serde_json.specs.View.{items_of, members_view, view};
 ghost use Rattle.serde_json.specs.Written.{compact_text};
 ghost use Rattle.ft_json.specs.Canonical.{IsCanonical, value_of};
 ghost use Rattle.ft_attrib.specs.Totals.{count_of};
@@ -13,6 +13,7 @@ ghost use Rattle.ft_op.specs.Written.{written_count, written_number, written_tex
 ghost use Rattle.ft_sumdoc.specs.Written.{written_props};
 ghost use Rattle.ft_seqr.specs.AnswerTexts.{counted_author, counted_nameless, known_authors, origin_name, origin_number, written_author, written_authors, written_name, written_nameless, written_origin_run, written_overlap};
 
+use crate::writing::{put_number, put_text};
 use ft_attrib::{AttrRun, Attribution, Origin, Total};
 use ft_base::{OutOfMemory, Text};
 use ft_json::{ValText, compact};
@@ -98,12 +99,25 @@ fn origin_run_value(alloc: Global, names: &Names, run: &AttrRun) -> Result<Value
     ensures canonical { IfOk result (λ _. IsCanonical (written_origin_run names.now run.now)) }
 {
     let mut members = Map::new(alloc);
-    let name = origin_name(alloc, names, run.who)?;
-    put(&mut members, alloc, "by", name)?;
-    put(&mut members, alloc, "end", count_value(run.end))?;
-    put(&mut members, alloc, "seq", origin_number(run.who))?;
-    put(&mut members, alloc, "start", count_value(run.start))?;
+    put_origin_run(&mut members, alloc, names, run)?;
     Ok(Value::Object(members))
+}
+
+// Puts the members of a run of characters of one origin into an object that has none.
+fn put_origin_run(
+    members: &mut Map<String, Value>,
+    alloc: Global,
+    names: &Names,
+    run: &AttrRun,
+) -> Result<(), OutOfMemory>
+    requires { members_view members.old.entries ≡ no_members }
+    ensures value { OnOk result (object (members_view members.new.entries) ≡ written_origin_run names.now run.now) }
+    ensures canonical { OnOk result (IsCanonical (written_origin_run names.now run.now)) }
+{
+    put(members, alloc, "by", origin_name(alloc, names, run.who)?)?;
+    put_number(members, alloc, "end", run.end)?;
+    put(members, alloc, "seq", origin_number(run.who))?;
+    put_number(members, alloc, "start", run.start)
 }
 
 // The name of an origin's connection, null where it isn't known.
@@ -217,9 +231,24 @@ fn author_value(alloc: Global, name: &Text, count: u64) -> Result<Value, OutOfMe
     ensures value { IfOk result (λ v. view v ≡ written_author name.now count) }
     ensures canonical { IfOk result (λ _. IsCanonical (written_author name.now count)) }
 {
-    let name = text_value(alloc, name)?;
-    let count = count_value(count);
-    Ok(json!(in alloc; {"by": name, "count": count})?)
+    let mut members = Map::new(alloc);
+    put_author(&mut members, alloc, name, count)?;
+    Ok(Value::Object(members))
+}
+
+// Puts the members of how many characters the connection of that name inserted into an object that has none.
+fn put_author(
+    members: &mut Map<String, Value>,
+    alloc: Global,
+    name: &Text,
+    count: u64,
+) -> Result<(), OutOfMemory>
+    requires { members_view members.old.entries ≡ no_members }
+    ensures value { OnOk result (object (members_view members.new.entries) ≡ written_author name.now count) }
+    ensures canonical { OnOk result (IsCanonical (written_author name.now count)) }
+{
+    put_text(members, alloc, "by", name)?;
+    put_number(members, alloc, "count", count)
 }
 
 // Adds the text of how many characters have no name, pending or not, unless there are none.
@@ -245,6 +274,23 @@ fn nameless_value(alloc: Global, pending: bool, count: u64) -> Result<Value, Out
     ensures value { IfOk result (λ v. view v ≡ written_nameless pending count) }
     ensures canonical { IfOk result (λ _. IsCanonical (written_nameless pending count)) }
 {
-    let count = count_value(count);
-    Ok(json!(in alloc; {"by": null, "count": count, "pending": pending})?)
+    let mut members = Map::new(alloc);
+    put_nameless(&mut members, alloc, pending, count)?;
+    Ok(Value::Object(members))
+}
+
+// Puts the members of how many characters have no name, pending or not, into an object that has none.
+fn put_nameless(
+    members: &mut Map<String, Value>,
+    alloc: Global,
+    pending: bool,
+    count: u64,
+) -> Result<(), OutOfMemory>
+    requires { members_view members.old.entries ≡ no_members }
+    ensures value { OnOk result (object (members_view members.new.entries) ≡ written_nameless pending count) }
+    ensures canonical { OnOk result (IsCanonical (written_nameless pending count)) }
+{
+    put(members, alloc, "by", Value::Null)?;
+    put_number(members, alloc, "count", count)?;
+    Ok(put(members, alloc, "pending", Value::from(pending))?)
 }

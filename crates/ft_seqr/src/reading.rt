@@ -7,7 +7,8 @@ ghost use Rattle.ft_json.specs.Reading.{count, text_field};
 ghost use Rattle.ft_msg.specs.Causes.{cause_of_field};
 ghost use Rattle.ft_op.specs.Reading.{with_fault};
 ghost use Rattle.ft_seqr.specs.Addresses.{word_of};
-ghost use Rattle.ft_seqr.specs.declared.events.Event.TheVariants.{Connect, Drop, Noop, Show, Queue, Compact, Summary, Guest as Enter, Part, Authors, Ticket, Deliver};
+ghost use Rattle.ft_seqr.specs.ClientEvents.{event_that};
+ghost use Rattle.ft_seqr.specs.declared.events.Event.TheVariants.{Guest as Enter, Part, Ticket, Deliver};
 ghost use Rattle.ft_seqr.specs.EventGrammar.{blame_event, client_name_field, count_or_all, counted_event, edit_event, edit_op, event, event_for, event_of, event_of_client, given_count, given_from, guest_event, is_known_address, later_event, offer_event, op_for, overlap_event, places, start_event, submit_event};
 ghost use Rattle.ft_seqr.specs.EventReader.{ReadsEvent};
 
@@ -63,16 +64,16 @@ fn read_spelled_event(alloc: Global, value: &Value, word: &str) -> Result<Event,
 {
     match word {
         "start" => read_start(alloc, value),
-        "connect" => read_connect(alloc, value),
-        "drop" => read_drop(alloc, value),
+        "connect" => read_of_client(alloc, value, OfClient::Connect),
+        "drop" => read_of_client(alloc, value, OfClient::Drop),
         "edit" => read_edit(alloc, value),
         "ticket" => read_ticket(alloc, value),
         "deliver" => read_deliver(alloc, value),
-        "noop" => read_noop(alloc, value),
-        "show" => read_show(alloc, value),
-        "queue" => read_queue(alloc, value),
-        "compact" => read_compact(alloc, value),
-        "summary" => read_summary(alloc, value),
+        "noop" => read_of_client(alloc, value, OfClient::Noop),
+        "show" => read_of_client(alloc, value, OfClient::Show),
+        "queue" => read_of_client(alloc, value, OfClient::Queue),
+        "compact" => read_of_client(alloc, value, OfClient::Compact),
+        "summary" => read_of_client(alloc, value, OfClient::Summary),
         _ => read_later_event(alloc, value, word),
     }
 }
@@ -90,7 +91,7 @@ fn read_later_event(alloc: Global, value: &Value, word: &str) -> Result<Event, C
         "part" => read_part(alloc, value),
         "overlap" => read_overlap(alloc, value),
         "blame" => read_blame(alloc, value),
-        "authors" => read_authors(alloc, value),
+        "authors" => read_of_client(alloc, value, OfClient::Authors),
         _ => Err(Cause::UnknownWord),
     }
 }
@@ -105,76 +106,42 @@ pub fn read_client(alloc: Global, value: &Value) -> Result<Text, Cause>
     Ok(text_field(alloc, value, Field::Client)?)
 }
 
-// A connection for the client.
-#[tactic(auto, unfolding(crate::specs::EventGrammar::event_of_client))]
-fn read_connect(alloc: Global, value: &Value) -> Result<Event, Cause>
-    ensures { Gives Cause.OutOfMemory (event_of_client Connect (view value.now)) result }
-{
-    let client = read_client(alloc, value)?;
-    Ok(Event::Connect { client })
+// What an event does that has a client alone.
+#[derive(Clone, Copy)]
+enum OfClient {
+    Connect,
+    Drop,
+    Noop,
+    Show,
+    Queue,
+    Compact,
+    Summary,
+    Authors,
 }
 
-// The loss of the client's connection.
+// The event that does this to a client.
 #[tactic(auto, unfolding(crate::specs::EventGrammar::event_of_client))]
-fn read_drop(alloc: Global, value: &Value) -> Result<Event, Cause>
-    ensures { Gives Cause.OutOfMemory (event_of_client Drop (view value.now)) result }
+fn read_of_client(alloc: Global, value: &Value, act: OfClient) -> Result<Event, Cause>
+    ensures { Gives Cause.OutOfMemory (event_of_client (event_that act) (view value.now)) result }
 {
     let client = read_client(alloc, value)?;
-    Ok(Event::Drop { client })
+    Ok(event_that(act, client))
 }
 
-// A noop of the client.
-#[tactic(auto, unfolding(crate::specs::EventGrammar::event_of_client))]
-fn read_noop(alloc: Global, value: &Value) -> Result<Event, Cause>
-    ensures { Gives Cause.OutOfMemory (event_of_client Noop (view value.now)) result }
+// The event that does this to the client.
+fn event_that(act: OfClient, client: Text) -> Event
+    ensures { result ≡ event_that act client }
 {
-    let client = read_client(alloc, value)?;
-    Ok(Event::Noop { client })
-}
-
-// The view of the client.
-#[tactic(auto, unfolding(crate::specs::EventGrammar::event_of_client))]
-fn read_show(alloc: Global, value: &Value) -> Result<Event, Cause>
-    ensures { Gives Cause.OutOfMemory (event_of_client Show (view value.now)) result }
-{
-    let client = read_client(alloc, value)?;
-    Ok(Event::Show { client })
-}
-
-// The unsent messages of the client.
-#[tactic(auto, unfolding(crate::specs::EventGrammar::event_of_client))]
-fn read_queue(alloc: Global, value: &Value) -> Result<Event, Cause>
-    ensures { Gives Cause.OutOfMemory (event_of_client Queue (view value.now)) result }
-{
-    let client = read_client(alloc, value)?;
-    Ok(Event::Queue { client })
-}
-
-// The client lets go of what no message can refer to.
-#[tactic(auto, unfolding(crate::specs::EventGrammar::event_of_client))]
-fn read_compact(alloc: Global, value: &Value) -> Result<Event, Cause>
-    ensures { Gives Cause.OutOfMemory (event_of_client Compact (view value.now)) result }
-{
-    let client = read_client(alloc, value)?;
-    Ok(Event::Compact { client })
-}
-
-// The summary of the client.
-#[tactic(auto, unfolding(crate::specs::EventGrammar::event_of_client))]
-fn read_summary(alloc: Global, value: &Value) -> Result<Event, Cause>
-    ensures { Gives Cause.OutOfMemory (event_of_client Summary (view value.now)) result }
-{
-    let client = read_client(alloc, value)?;
-    Ok(Event::Summary { client })
-}
-
-// How many visible elements each connection inserted.
-#[tactic(auto, unfolding(crate::specs::EventGrammar::event_of_client))]
-fn read_authors(alloc: Global, value: &Value) -> Result<Event, Cause>
-    ensures { Gives Cause.OutOfMemory (event_of_client Authors (view value.now)) result }
-{
-    let client = read_client(alloc, value)?;
-    Ok(Event::Authors { client })
+    match act {
+        OfClient::Connect => Event::Connect { client },
+        OfClient::Drop => Event::Drop { client },
+        OfClient::Noop => Event::Noop { client },
+        OfClient::Show => Event::Show { client },
+        OfClient::Queue => Event::Queue { client },
+        OfClient::Compact => Event::Compact { client },
+        OfClient::Summary => Event::Summary { client },
+        OfClient::Authors => Event::Authors { client },
+    }
 }
 
 // A new guest.

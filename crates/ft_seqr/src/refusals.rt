@@ -2,7 +2,7 @@
 
 ghost use Rattle.std.specs.Prelude.{◌≡◌};
 ghost use Rattle.ft_seqr.specs.RefusalKinds.{is_want};
-ghost use Rattle.ft_seqr.specs.Refusals.{refusal_number, refusal_of_cause, refusal_of_process};
+ghost use Rattle.ft_seqr.specs.Refusals.{phrase, refusal_number, refusal_of_cause, refusal_of_process};
 
 use crate::nacks::Nack;
 use ft_json::Field;
@@ -67,10 +67,6 @@ impl fmt::Display for Refusal {
     fn fmt<W: fmt::Write>(&self, f: &mut fmt::Formatter<W>) -> fmt::Result {
         match *self {
             Refusal::Malformed(cause) => write!(f, "Malformed {cause}"),
-            Refusal::UnknownClient => write!(f, "UnknownClient"),
-            Refusal::NameInUse => write!(f, "NameInUse"),
-            Refusal::AlreadyConnected => write!(f, "AlreadyConnected"),
-            Refusal::NotConnected => write!(f, "NotConnected"),
             Refusal::OutOfRange { length } => write!(f, "OutOfRange length {length}"),
             Refusal::NothingToTicket { have } => write!(f, "NothingToTicket have {have}"),
             Refusal::NothingToDeliver { have } => write!(f, "NothingToDeliver have {have}"),
@@ -79,18 +75,22 @@ impl fmt::Display for Refusal {
             }
             Refusal::Foreign { number } => write!(f, "Foreign {number}"),
             Refusal::Pending { count } => write!(f, "Pending {count}"),
-            Refusal::ClientLimit => write!(f, "ClientLimit 16"),
-            Refusal::IdInUse => write!(f, "IdInUse"),
-            Refusal::NoSuchInterval => write!(f, "NoSuchInterval"),
-            Refusal::CountLimit => write!(f, "CountLimit 1000000"),
-            Refusal::LineTooLong => write!(f, "LineTooLong"),
             Refusal::Nacked(nack) => write!(f, "Nacked {nack}"),
             Refusal::BadNumbers { field, kept, got } => {
                 write!(f, "BadNumbers {field} kept {kept} got {got}")
             }
             Refusal::Summary(fault) => write!(f, "Summary {fault}"),
-            Refusal::OutOfMemory => write!(f, "OutOfMemory"),
-            Refusal::Stopped => write!(f, "Stopped"),
+            Refusal::UnknownClient
+            | Refusal::NameInUse
+            | Refusal::AlreadyConnected
+            | Refusal::NotConnected
+            | Refusal::ClientLimit
+            | Refusal::IdInUse
+            | Refusal::NoSuchInterval
+            | Refusal::CountLimit
+            | Refusal::LineTooLong
+            | Refusal::OutOfMemory
+            | Refusal::Stopped => f.write_str(self.phrase()),
         }
     }
 }
@@ -120,6 +120,35 @@ impl Refusal {
                 Refusal::BadNumbers { field, kept, got }
             }
             ProcessFault::NotSent => Refusal::Foreign { number },
+        }
+    }
+
+    // The text of a refusal without parts; empty for any other.
+    fn phrase(self) -> &'static str
+        ensures { result.now ≡ phrase self }
+    {
+        match self {
+            Refusal::UnknownClient => "UnknownClient",
+            Refusal::NameInUse => "NameInUse",
+            Refusal::AlreadyConnected => "AlreadyConnected",
+            Refusal::NotConnected => "NotConnected",
+            Refusal::ClientLimit => "ClientLimit 16",
+            Refusal::IdInUse => "IdInUse",
+            Refusal::NoSuchInterval => "NoSuchInterval",
+            Refusal::CountLimit => "CountLimit 1000000",
+            Refusal::LineTooLong => "LineTooLong",
+            Refusal::OutOfMemory => "OutOfMemory",
+            Refusal::Stopped => "Stopped",
+            Refusal::Malformed(_)
+            | Refusal::OutOfRange { .. }
+            | Refusal::NothingToTicket { .. }
+            | Refusal::NothingToDeliver { .. }
+            | Refusal::OutOfOrder { .. }
+            | Refusal::Foreign { .. }
+            | Refusal::Pending { .. }
+            | Refusal::Nacked(_)
+            | Refusal::BadNumbers { .. }
+            | Refusal::Summary(_) => "",
         }
     }
 

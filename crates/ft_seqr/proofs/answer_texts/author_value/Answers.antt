@@ -1,10 +1,9 @@
-use Rattle.std.proofs.Common.{List, [], ◌∷◌, ℕ, Option, Some, codes, refl}
-use Rattle.serde_json.specs.Data.{Data}
-use Rattle.ft_op.specs.Written.{written_count, written_text}
-use Rattle.ft_op.proofs.WrittenFields.{canonical_fields}
+use Rattle.std.proofs.Common.{◌∙◌}
+use Rattle.serde_json.proofs.Views.{view-Object}
 use Rattle.ft_seqr.proofs.answer_texts.author_value.Goals as goal
 
+pub returns-clause-value : goal.returns-clause-value
+returns-clause-value c = view-Object c.put_author.new.members ∙ c.in_ok-put_author.ensures.value
+
 pub returns-clause-canonical : goal.returns-clause-canonical
-returns-clause-canonical c =
-    let fs : List (List ℕ × Option Data) = (codes "by", Some (written_text c.args.name.now)) ∷ (codes "count", Some (written_count c.args.count)) ∷ [] in
-    canonical_fields fs refl (c.in_ok-name.ensures.canonical, (c.count_value-count.ensures.canonical, tt))
+returns-clause-canonical c = c.in_ok-put_author.ensures.canonical

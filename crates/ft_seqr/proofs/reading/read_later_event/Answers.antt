@@ -32,4 +32,4 @@ pub returns-in-blame : goal.returns-in-blame
 returns-in-blame c = at c.args.word.now (codes "blame") (view c.args.value.now) c.read_blame.result c.in-blame.is c.read_blame.ensures
 
 pub returns-in-authors : goal.returns-in-authors
-returns-in-authors c = at c.args.word.now (codes "authors") (view c.args.value.now) c.read_authors.result c.in-authors.is c.read_authors.ensures
+returns-in-authors c = at c.args.word.now (codes "authors") (view c.args.value.now) c.read_of_client.result c.in-authors.is c.read_of_client.ensures

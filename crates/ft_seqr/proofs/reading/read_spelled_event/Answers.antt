@@ -17,10 +17,11 @@ pub returns-in-start : goal.returns-in-start
 returns-in-start c = at c.args.word.now (codes "start") (view c.args.value.now) c.read_start.result c.in-start.is c.read_start.ensures
 
 pub returns-in-connect : goal.returns-in-connect
-returns-in-connect c = at c.args.word.now (codes "connect") (view c.args.value.now) c.read_connect.result c.in-connect.is c.read_connect.ensures
+returns-in-connect c = at c.args.word.now (codes "connect") (view c.args.value.now) c.read_of_client.result c.in-connect.is c.read_of_client.ensures
 
 pub returns-in-drop : goal.returns-in-drop
-returns-in-drop c = at c.args.word.now (codes "drop") (view c.args.value.now) c.read_drop.result c.in-drop.is c.read_drop.ensures
+returns-in-drop c =
+    at c.args.word.now (codes "drop") (view c.args.value.now) c.read_of_client-in-drop.result c.in-drop.is c.read_of_client-in-drop.ensures
 
 pub returns-in-edit : goal.returns-in-edit
 returns-in-edit c = at c.args.word.now (codes "edit") (view c.args.value.now) c.read_edit.result c.in-edit.is c.read_edit.ensures
@@ -32,16 +33,23 @@ pub returns-in-deliver : goal.returns-in-deliver
 returns-in-deliver c = at c.args.word.now (codes "deliver") (view c.args.value.now) c.read_deliver.result c.in-deliver.is c.read_deliver.ensures
 
 pub returns-in-noop : goal.returns-in-noop
-returns-in-noop c = at c.args.word.now (codes "noop") (view c.args.value.now) c.read_noop.result c.in-noop.is c.read_noop.ensures
+returns-in-noop c =
+    at c.args.word.now (codes "noop") (view c.args.value.now) c.read_of_client-in-noop.result c.in-noop.is c.read_of_client-in-noop.ensures
 
 pub returns-in-show : goal.returns-in-show
-returns-in-show c = at c.args.word.now (codes "show") (view c.args.value.now) c.read_show.result c.in-show.is c.read_show.ensures
+returns-in-show c =
+    at c.args.word.now (codes "show") (view c.args.value.now) c.read_of_client-in-show.result c.in-show.is c.read_of_client-in-show.ensures
 
 pub returns-in-queue : goal.returns-in-queue
-returns-in-queue c = at c.args.word.now (codes "queue") (view c.args.value.now) c.read_queue.result c.in-queue.is c.read_queue.ensures
+returns-in-queue c =
+    at c.args.word.now (codes "queue") (view c.args.value.now) c.read_of_client-in-queue.result c.in-queue.is c.read_of_client-in-queue.ensures
 
 pub returns-in-compact : goal.returns-in-compact
-returns-in-compact c = at c.args.word.now (codes "compact") (view c.args.value.now) c.read_compact.result c.in-compact.is c.read_compact.ensures
+returns-in-compact c =
+    at c.args.word.now (codes "compact") (view c.args.value.now) c.read_of_client-in-compact.result
+    c.in-compact.is c.read_of_client-in-compact.ensures
 
 pub returns-in-summary : goal.returns-in-summary
-returns-in-summary c = at c.args.word.now (codes "summary") (view c.args.value.now) c.read_summary.result c.in-summary.is c.read_summary.ensures
+returns-in-summary c =
+    at c.args.word.now (codes "summary") (view c.args.value.now) c.read_of_client-in-summary.result
+    c.in-summary.is c.read_of_client-in-summary.ensures
