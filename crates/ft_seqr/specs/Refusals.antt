@@ -145,26 +145,16 @@ phrase _ = []
 -- the text of a refusal
 abbrev pub refusal_text : Refusal → List ℕ
 refusal_text (Malformed fault) = codes "Malformed " ++ cause_text fault
-refusal_text UnknownClient = codes "UnknownClient"
-refusal_text NameInUse = codes "NameInUse"
-refusal_text AlreadyConnected = codes "AlreadyConnected"
-refusal_text NotConnected = codes "NotConnected"
 refusal_text (OutOfRange length) = codes "OutOfRange length " ++ decimal length
 refusal_text (NothingToTicket have) = codes "NothingToTicket have " ++ decimal have
 refusal_text (NothingToDeliver have) = codes "NothingToDeliver have " ++ decimal have
 refusal_text (OutOfOrder expected got) = two_numbers (codes "OutOfOrder expected") expected got
 refusal_text (Foreign number) = codes "Foreign " ++ decimal number
 refusal_text (Pending count) = codes "Pending " ++ decimal count
-refusal_text ClientLimit = codes "ClientLimit 16"
-refusal_text IdInUse = codes "IdInUse"
-refusal_text NoSuchInterval = codes "NoSuchInterval"
-refusal_text CountLimit = codes "CountLimit 1000000"
-refusal_text LineTooLong = codes "LineTooLong"
 refusal_text (Nacked fault) = codes "Nacked " ++ nack_text fault
 refusal_text (BadNumbers field kept got) = bad_numbers_text field kept got
 refusal_text (Summary fault) = codes "Summary " ++ summary_fault_text fault
-refusal_text OutOfMemory = codes "OutOfMemory"
-refusal_text Stopped = codes "Stopped"
+refusal_text refusal = phrase refusal
 
 -- what is written of a refused line: its number from 1, the number of the refusal and its text
 unfoldable pub refused_line : ℕ → Refusal → List ℕ
