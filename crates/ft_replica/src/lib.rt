@@ -8,6 +8,7 @@ pub mod document;
 pub mod linked;
 pub mod outbox;
 pub mod pending;
+mod queues;
 pub mod replica;
 pub mod stopping;
 

@@ -1,9 +1,11 @@
 //! What a client hasn't sent yet.
 
-ghost use Rattle.std.specs.Prelude.{◌≡◌, ◌+◌, [], ◌∷◌, ◌++◌, OnOk, OnErr, drop, length, slice_get, option_copied};
+ghost use Rattle.std.specs.Prelude.{◌≡◌, ◌+◌, ◌<◌, [], ◌∷◌, ◌++◌, OnOk, OnErr, drop, length, slice_get, option_copied};
+ghost use Rattle.std.specs.VecDeque.{deque_capacity, deque_len};
 ghost use Rattle.ft_replica.specs.Unsent.{with_sent};
 
 use crate::pending::Sent;
+use crate::queues::push_behind;
 use ft_base::{Datum, OutOfMemory};
 use ft_msg::{Body, Draft};
 use std::alloc::Global;
@@ -65,10 +67,8 @@ impl Outbox {
         ensures ok { OnOk result (self.new ≡ record { next = self.old.next + 1; drafts = self.old.drafts ++ draft ∷ [] }) }
         ensures err { OnErr result (self.new ≡ self.old) }
     {
-        let next = self.next.checked_add(1).ok_or(OutOfMemory)?;
-        self.drafts.push_back(draft)?;
-        self.next = next;
-        Ok(())
+        let counted = count_one(&mut self.next, &mut self.drafts);
+        push_behind(counted, &mut self.drafts, draft)
     }
 
     /// Adds the message of an edit behind the others, if it is sent.
@@ -110,4 +110,19 @@ impl Outbox {
     {
         self.drafts.pop_front()
     }
+}
+
+// Makes room for one more message, and counts it.
+//
+// Returns `OutOfMemory` where there is no room for it or the next number would pass 2^64 - 1, and then it isn't counted.
+fn count_one(next: &mut u64, drafts: &mut VecDeque<Draft>) -> Result<(), OutOfMemory>
+    ensures kept { drafts.new.items ≡ drafts.old.items }
+    ensures room { OnOk result (deque_len drafts.new < deque_capacity drafts.new) }
+    ensures next { OnOk result (next.new ≡ next.old + 1) }
+    ensures err { OnErr result (next.new ≡ next.old) }
+{
+    let more = next.checked_add(1).ok_or(OutOfMemory)?;
+    drafts.reserve(1)?;
+    *next = more;
+    Ok(())
 }

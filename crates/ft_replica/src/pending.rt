@@ -1,10 +1,12 @@
 //! Pending edits, without their stages, which the document keeps.
 
-ghost use Rattle.std.specs.Prelude.{◌≡◌, [], ◌∷◌, ◌++◌, IfOk, OnOk, OnErr, drop, length, map, slice_get, option_copied};
+ghost use Rattle.std.specs.Prelude.{◌≡◌, ◌<◌, [], ◌∷◌, ◌++◌, IfOk, OnOk, OnErr, drop, length, map, slice_get, option_copied};
+ghost use Rattle.std.specs.VecDeque.{deque_capacity, deque_len};
 ghost use Rattle.ft_replica.specs.Linked.{PendingPart, oldest_count, oldest_ref};
 ghost use Rattle.ft_replica.specs.Unsent.{with_sent};
 
 use crate::outbox::Outbox;
+use crate::queues::{drop_first, push_behind};
 use ft_base::OutOfMemory;
 use ft_op::ChannelOp;
 use std::alloc::Global;
@@ -154,7 +156,7 @@ impl PendingEdits {
     pub fn drop_oldest(&mut self)
         ensures { self.new ≡ drop 1 self.old }
     {
-        let _ = self.edits.pop_front();
+        drop_first(&mut self.edits);
     }
 
     /// How many stages the oldest one has, 0 where there is none.
@@ -176,10 +178,8 @@ impl PendingEdits {
         ensures outbox { OnOk result (outbox.new ≡ with_sent edit.sent edit.ref_seq outbox.old) }
         ensures err { OnErr result ((self.new ≡ self.old) × (outbox.new ≡ outbox.old)) }
     {
-        self.edits.reserve(1)?;
-        outbox.send(edit.sent(), edit.ref_seq())?;
-        self.edits.push_back_reserved(edit);
-        Ok(())
+        let sent = send(&mut self.edits, &edit, outbox);
+        push_behind(sent, &mut self.edits, edit)
     }
 
     /// The lesser of a number and the reference number of the oldest one, if there is one.
@@ -202,4 +202,22 @@ impl PendingEdits {
         }
         Ok(counts)
     }
+}
+
+// Makes room for an edit, and adds its message to the outbox, if it is sent.
+//
+// Returns `OutOfMemory` where there is no room for that, or the next number of the outbox would pass 2^64 - 1, and
+// then nothing is sent.
+fn send(
+    edits: &mut VecDeque<PendingEdit>,
+    edit: &PendingEdit,
+    outbox: &mut Outbox,
+) -> Result<(), OutOfMemory>
+    ensures kept { edits.new.items ≡ edits.old.items }
+    ensures room { OnOk result (deque_len edits.new < deque_capacity edits.new) }
+    ensures outbox { OnOk result (outbox.new ≡ with_sent edit.now.sent edit.now.ref_seq outbox.old) }
+    ensures err { OnErr result (outbox.new ≡ outbox.old) }
+{
+    edits.reserve(1)?;
+    outbox.send(edit.sent(), edit.ref_seq())
 }
