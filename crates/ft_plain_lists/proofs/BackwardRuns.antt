@@ -7,7 +7,7 @@ use Rattle.ft_msg.specs.Content.{extended_property_runs, property_runs_from}
 use Rattle.ft_msg.proofs.SameStamps.{same_props-Decides}
 use Rattle.ft_sumdoc.specs.WellFormed.{same_props}
 use Rattle.ft_props.specs.Element.{ListElement}
-use Rattle.ft_props.specs.Properties.{PropertyList}
+use Rattle.ft_props.specs.Properties.{PropertyList, shown_props}
 use Rattle.std.proofs.lemmas.Bool.Decides.{same_from_decides}
 use Rattle.ft_plain_lists.specs.PropertyRuns.{all_shown_props, runs_before}
 
@@ -62,4 +62,4 @@ runs_before-push i (x ∷ xs) props runs =
 -- the runs of elements are those of their properties
 pub runs-of_props : (i : ℕ) (xs : List ListElement) → property_runs_from i xs ≡ runs_before i (all_shown_props xs) []
 runs-of_props i [] = refl
-runs-of_props i (x ∷ xs) = grind (arith, runs-of_props (i + 1) xs)
+runs-of_props i (x ∷ xs) = ap (extended_property_runs i (shown_props x.props x.pending)) (runs-of_props (i + 1) xs)
