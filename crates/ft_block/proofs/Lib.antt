@@ -11,3 +11,5 @@ pub mod CallerLemmas
 pub mod Floors
 pub mod NearerEnd
 pub mod OrderLemmas
+pub mod RootLemmas
+pub mod AddLemmas

@@ -1,12 +1,12 @@
 -- What the blocks of a tree keep of each view. No public clause cites this module.
-use Rattle.std.specs.Prelude.{◌≡◌, ℕ, ◌+◌, ◌%◌, ◌^◌, ◌<◌, ◌≤◌, List, [], Option, Some, Bool, true, false, if◌then◌else◌}
+use Rattle.std.specs.Prelude.{◌≡◌, ◌≢◌, ℕ, ◌+◌, ◌-◌, ◌%◌, ◌^◌, ◌<◌, ◌≤◌, List, [], Option, Some, Bool, true, false, if◌then◌else◌}
 use Rattle.ft_base.specs.declared.elements.Element.{Element}
 use Rattle.ft_base.specs.Visibility.{seen_at}
 use Rattle.ft_arena.specs.declared.nodes.Node.{Node}
 use Rattle.ft_arena.specs.declared.nodes.Node.TheVariants.{Leaf, Block}
-use Rattle.ft_arena.specs.Forest.{Forest, block_value}
+use Rattle.ft_arena.specs.Forest.{Forest, block_value, parent_of}
 use Rattle.ft_shape.specs.declared.headed.Headed.{Headed}
-use Rattle.ft_shape.specs.Tree.{Measure, length_of, length_of_node, SumsBut, OwesAt, OwesAbove}
+use Rattle.ft_shape.specs.Tree.{Measure, height_of, length_of, length_of_node, total, SumsBut, OwesAt, OwesAbove, IsGrowing}
 use Rattle.ft_block.specs.declared.summaries.Summary.{Summary}
 use Rattle.ft_block.specs.declared.summaries.Exchange.{Exchange}
 use Rattle.ft_block.specs.declared.leaves.LenView.{LenView}
@@ -147,3 +147,21 @@ module _ {L : Type 0} where
   abbrev pub OwesAsAbove : (L → ℕ) → (L → Element) → ℕ → Forest L (Headed Summary) → ℕ → (List ℕ → List ℕ) → Forest L (Headed Summary) → Option ℕ → Type 0
   OwesAsAbove size element floor old at e new stale = (view : View) (more less : ℕ) → KeepsLengths floor view
       → OwesAbove (by_view size element view) old at e more less → OwesAt (by_view size element view) new stale more less
+
+  -- a leaf that is not in the tree yet, to be put beside this one as the edit says, where there is room for the nodes that this takes, and
+  -- the parent of this one then owes what the exchange makes: `more` elements `come`
+  pub record IsToAdd (size : L → ℕ) (element : L → Element) (floor : ℕ) (s : Forest L (Headed Summary)) (root at new : ℕ) (e : List ℕ → List ℕ)
+      (exchange : Exchange) : Type 0
+    where
+      pub growing : IsGrowing s root at new e
+      pub sums : SumsKeptBut size element floor s (parent_of s at)
+      pub floors : AreFromFloor floor s
+      pub spare : height_of s root - height_of s at + 1 ≤ s.spare
+      pub fits : total (length_of (by_size size) s) s.leaves < 2 ^ 64
+      pub tall : height_of s root + 1 < 2 ^ 64
+      pub apart : at ≢ root
+      pub come : Element
+      pub more : ℕ
+      pub makes : MakesExchange floor exchange come 0 come more
+      pub owes : (view : View) → KeepsLengths floor view
+          → OwesAbove (by_view size element view) s at e (amount (shows view come) more) (amount (shows view come) 0)

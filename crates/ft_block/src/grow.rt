@@ -5,7 +5,7 @@ ghost use Rattle.ft_arena.specs.Forest.{IsForest, entry, block_value, kids_of, p
 ghost use Rattle.ft_arena.specs.Ids.{times, insert_after};
 ghost use Rattle.ft_block.specs.declared.leaves.View.{View};
 ghost use Rattle.ft_shape.specs.Tree.{IsTree, IsGrowing, IsBare, height_of, length_of, total, insert_before};
-ghost use Rattle.ft_block.specs.Tree.{SumsKeptBut, OwesAsAbove, PairFits, AreFromFloor, KeepsLengths, by_view, by_size};
+ghost use Rattle.ft_block.specs.Tree.{SumsKeptBut, OwesAsAbove, PairFits, AreFromFloor, IsToAdd, KeepsLengths, MakesExchange, by_view, by_size};
 ghost use Rattle.ft_shape.specs.Steps.{SplitsAt, RootsOver, Resums, ResumsBoth, InsertsLeaf};
 
 use crate::leaves::Leaf;
@@ -130,7 +130,7 @@ pub(crate) fn grow<L: Leaf, G: Ledger>(
 }
 
 // Puts a node into the tree, directly before a leaf. Tells the same.
-pub(crate) fn grow_front<L: Leaf, G: Ledger>(
+fn grow_front<L: Leaf, G: Ledger>(
     arena: &mut Arena<L, Headed<Summary>>,
     alloc: Global,
     floor: u64,
@@ -166,6 +166,52 @@ pub(crate) fn grow_front<L: Leaf, G: Ledger>(
     grow(arena, alloc, floor, root, block, rear, steps)
 }
 
+// Puts a leaf into the tree, directly after another, and has the blocks above keep it. Tells the root.
+pub(crate) fn add_after<L: Leaf, G: Ledger>(
+    arena: &mut Arena<L, Headed<Summary>>,
+    alloc: Global,
+    floor: u64,
+    root: NodeId,
+    at: NodeId,
+    id: NodeId,
+    exchange: &Exchange,
+    steps: &mut Steps<G>,
+) -> Result<NodeId, OutOfMemory>
+    requires { IsToAdd L.size L.element floor arena.old root at id (λ xs. insert_after xs at id) exchange.now }
+    ensures tree { IfOk result (λ top. IsTree arena.new top) }
+    ensures sums { OnOk result (SumsKeptBut L.size L.element floor arena.new None) }
+    ensures floors { OnOk result (AreFromFloor floor arena.new) }
+    ensures leaves { OnOk result (arena.new.leaves ≡ arena.old.leaves) }
+    ensures leaf_values { OnOk result ((x : ℕ) → leaf_value arena.new x ≡ leaf_value arena.old x) }
+{
+    let (top, stale) = grow(arena, alloc, floor, root, at, id, steps)?;
+    exchange_up(arena, top, None, None, stale, floor, exchange)?;
+    Ok(top)
+}
+
+// The same directly before another.
+pub(crate) fn add_before<L: Leaf, G: Ledger>(
+    arena: &mut Arena<L, Headed<Summary>>,
+    alloc: Global,
+    floor: u64,
+    root: NodeId,
+    at: NodeId,
+    id: NodeId,
+    exchange: &Exchange,
+    steps: &mut Steps<G>,
+) -> Result<NodeId, OutOfMemory>
+    requires { IsToAdd L.size L.element floor arena.old root at id (λ xs. insert_before xs at id) exchange.now }
+    ensures tree { IfOk result (λ top. IsTree arena.new top) }
+    ensures sums { OnOk result (SumsKeptBut L.size L.element floor arena.new None) }
+    ensures floors { OnOk result (AreFromFloor floor arena.new) }
+    ensures leaves { OnOk result (arena.new.leaves ≡ arena.old.leaves) }
+    ensures leaf_values { OnOk result ((x : ℕ) → leaf_value arena.new x ≡ leaf_value arena.old x) }
+{
+    let (top, stale) = grow_front(arena, alloc, floor, root, at, id, steps)?;
+    exchange_up(arena, top, None, None, stale, floor, exchange)?;
+    Ok(top)
+}
+
 // How many nodes the tree may need for one more leaf: the leaf, a block on each level, a new root.
 pub(crate) fn nodes_needed<L: Leaf, G: Ledger>(
     arena: &Arena<L, Headed<Summary>>,
@@ -178,6 +224,25 @@ pub(crate) fn nodes_needed<L: Leaf, G: Ledger>(
     // There are fewer leaves than numbers of nodes, so the tree is far lower than that.
     let _first = arena.first();
     height_at(arena, root, steps) as usize + 2
+}
+
+// Makes room for one more leaf. Tells what it changes of what blocks keep.
+fn room_for<L: Leaf, G: Ledger>(
+    arena: &mut Arena<L, Headed<Summary>>,
+    floor: u64,
+    root: NodeId,
+    leaf: &L,
+    steps: &mut Steps<G>,
+) -> Result<Exchange, OutOfMemory>
+    requires { IsTree arena.old root }
+    ensures kept { arena.new ≡ record arena.old { spare = arena.new.spare } }
+    ensures room { OnOk result (height_of arena.old root + 2 ≤ arena.new.spare) }
+    ensures tall { OnOk result (height_of arena.old root + 2 < 2 ^ 64) }
+    ensures exchange { IfOk result (λ exchange. MakesExchange floor exchange (L.element leaf.now) 0 (L.element leaf.now) (L.size leaf.now)) }
+{
+    let needed = nodes_needed(arena, root, steps);
+    arena.reserve(needed)?;
+    Exchange::of_leaf(floor, leaf)
 }
 
 // Puts a new leaf directly after another. Tells the root and the new leaf.
@@ -202,14 +267,9 @@ where
     ensures floors { OnOk result (AreFromFloor floor arena.new) }
     ensures inserts { IfOk result (λ r. InsertsLeaf arena.old arena.new r.1 leaf (λ xs. insert_after xs at r.1)) }
 {
-    let len = leaf.len();
-    let e = leaf.element();
-    let exchange = Exchange::of(floor, e, 0, e, len)?;
-    let needed = nodes_needed(arena, root, steps);
-    arena.reserve(needed)?;
+    let exchange = room_for(arena, floor, root, &leaf, steps)?;
     let id = arena.link_after(Some(at), leaf);
-    let (top, stale) = grow(arena, alloc, floor, root, at, id, steps)?;
-    exchange_up(arena, top, None, None, stale, floor, &exchange)?;
+    let top = add_after(arena, alloc, floor, root, at, id, &exchange, steps)?;
     Ok((top, id))
 }
 
@@ -233,17 +293,12 @@ where
     ensures floors { OnOk result (AreFromFloor floor arena.new) }
     ensures inserts { IfOk result (λ r. InsertsLeaf arena.old arena.new r.1 leaf (λ xs. r.1 ∷ xs)) }
 {
-    let len = leaf.len();
-    let e = leaf.element();
-    let exchange = Exchange::of(floor, e, 0, e, len)?;
-    let needed = nodes_needed(arena, root, steps);
-    arena.reserve(needed)?;
     let Some(first) = arena.first() else {
         unreachable!();
     };
+    let exchange = room_for(arena, floor, root, &leaf, steps)?;
     let id = arena.link_after(None, leaf);
-    let (top, stale) = grow_front(arena, alloc, floor, root, first, id, steps)?;
-    exchange_up(arena, top, None, None, stale, floor, &exchange)?;
+    let top = add_before(arena, alloc, floor, root, first, id, &exchange, steps)?;
     Ok((top, id))
 }
 

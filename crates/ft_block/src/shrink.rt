@@ -10,7 +10,7 @@ ghost use Rattle.ft_block.specs.Tree.{SumsKeptBut, AreFromFloor, KeepsLengths, P
 ghost use Rattle.ft_block.specs.Inside.{IsRooted};
 ghost use Rattle.ft_shape.specs.Steps.{Shares, ResumsPair, IsPair, TakesLeaf, MovesLeaf};
 
-use crate::grow::{grow, grow_front, nodes_needed};
+use crate::grow::{add_after, add_before, nodes_needed};
 use crate::leaves::Leaf;
 use crate::position::leaf_at;
 use crate::refresh::{exchange_up, rebuild};
@@ -270,28 +270,21 @@ pub(crate) fn move_at<L: Leaf, G: Ledger>(
     ensures floors { OnOk result (AreFromFloor floor arena.new) }
     ensures moves { OnOk result (MovesLeaf arena.old arena.new id at) }
 {
-    let leaf = leaf_at(arena, id, steps);
-    let len = leaf.len();
-    let e = leaf.element();
-    let exchange = Exchange::of(floor, e, 0, e, len)?;
     let needed = nodes_needed(arena, root, steps);
     let root = detach(arena, alloc, floor, root, id, steps)?;
     arena.reserve(needed)?;
+    let exchange = Exchange::of_leaf(floor, leaf_at(arena, id, steps))?;
     match at {
         Some(at) => {
             arena.move_after(id, Some(at));
-            let (top, stale) = grow(arena, alloc, floor, root, at, id, steps)?;
-            exchange_up(arena, top, None, None, stale, floor, &exchange)?;
-            Ok(top)
+            add_after(arena, alloc, floor, root, at, id, &exchange, steps)
         }
         None => {
             arena.move_after(id, None);
             let Some(first) = arena.next(id) else {
                 unreachable!();
             };
-            let (top, stale) = grow_front(arena, alloc, floor, root, first, id, steps)?;
-            exchange_up(arena, top, None, None, stale, floor, &exchange)?;
-            Ok(top)
+            add_before(arena, alloc, floor, root, first, id, &exchange, steps)
         }
     }
 }

@@ -176,6 +176,14 @@ impl Exchange {
         })
     }
 
+    // That of a leaf that comes.
+    pub(crate) fn of_leaf<L: Leaf>(floor: u64, leaf: &L) -> Result<Exchange, OutOfMemory>
+        ensures { IfOk result (λ exchange. MakesExchange floor exchange (L.element leaf.now) 0 (L.element leaf.now) (L.size leaf.now)) }
+    {
+        let e = leaf.element();
+        Exchange::of(floor, e, 0, e, leaf.len())
+    }
+
     // Whether it changes nothing of what blocks keep.
     pub(crate) fn is_nothing(&self) -> bool
         ensures { result ≡ true → MakesNothing self.now }

@@ -1,15 +1,17 @@
-use Rattle.std.proofs.Common.{insert, ◌≡◌, ◌+◌, ℕ, Some, refl, ap, sym, subst, ◌∙◌, arith}
+use Rattle.std.proofs.Common.{insert, ◌≡◌, ◌+◌, ℕ, Some, None, refl, ap, sym, subst, ◌∙◌, arith}
 use Rattle.ft_arena.specs.Forest.{entry, parent_of, kids_of}
 use Rattle.ft_arena.specs.Ids.{insert_after}
 use Rattle.ft_shape.specs.Tree.{height_of, length_of, total, IsGrowing, SumsBut}
 use Rattle.ft_block.specs.Tree.{by_view, by_size}
 use Rattle.ft_shape.proofs.EditLemmas.{after_is_edit, dead_apart}
-use Rattle.ft_shape.proofs.KindLemmas.{kind_height, block_live}
+use Rattle.ft_shape.proofs.KindLemmas.{kind_height, kind_is_height, block_live}
 use Rattle.ft_shape.proofs.PutLemmas.{PutsAt-from}
 use Rattle.ft_shape.proofs.GrowLemmas.{put_tree, put_sums, put_owes, put_block, split_grows, split_sums, split_owes, root_tree, root_sums, top_is_root}
 use Rattle.ft_block.proofs.Floors.{put_floors}
-use Rattle.ft_shape.proofs.FitLemmas.{leaf_total, gr_fits, gr_place, gr_high, gr_block, gr_low, gr_root_fits}
+use Rattle.ft_shape.proofs.FitLemmas.{leaf_total, gr_fits, gr_place, gr_high, gr_block, gr_low, gr_child, gr_root_fits}
 use Rattle.ft_block.proofs.ViewLemmas.{all_fit}
+use Rattle.ft_block.proofs.ExchangeLemmas.{no_own_child}
+use Rattle.std.proofs.lemmas.Option.{slice_get_within}
 use Rattle.ft_block.proofs.grow.grow.Goals as goal
 
 pub up-init : goal.up-init
@@ -195,3 +197,137 @@ returns-then-count-lt8-clause-leaves g c = c.put_child.ensures.leaves ∙ c.up.i
 
 pub returns-clause-stale : goal.returns-clause-stale
 returns-clause-stale g c = λ b e. cc
+
+pub parent-requires : goal.parent-requires
+parent-requires g c = c.up.invariant.growing.at_live
+
+pub child_place-place-requires-clause-block : goal.child_place-place-requires-clause-block
+child_place-place-requires-clause-block g c =
+    gr_block c.up.arena c.args.root c.up.at c.up.id 1 (λ xs. insert_after xs c.up.at c.up.id) (after_is_edit c.up.at c.up.id)
+    c.up.invariant.growing c.in-Some.block
+    (sym c.parent.ensures ∙ c.in-Some.is)
+
+pub child_place-place-requires-clause-child : goal.child_place-place-requires-clause-child
+child_place-place-requires-clause-child g c = omega (
+  arith,
+  gr_child c.up.arena c.args.root c.up.at c.up.id 1 (λ xs. insert_after xs c.up.at c.up.id) (after_is_edit c.up.at c.up.id) c.up.invariant.growing
+      c.in-Some.block
+      (sym c.parent.ensures ∙ c.in-Some.is),
+)
+
+pub put_child-requires-clause-block : goal.put_child-requires-clause-block
+put_child-requires-clause-block g c =
+    gr_block c.up.arena c.args.root c.up.at c.up.id 1 (λ xs. insert_after xs c.up.at c.up.id) (after_is_edit c.up.at c.up.id)
+    c.up.invariant.growing c.in-Some.block
+    (sym c.parent.ensures ∙ c.in-Some.is)
+
+pub put_child-requires-clause-child : goal.put_child-requires-clause-child
+put_child-requires-clause-child g c = c.up.invariant.growing.new_live
+
+pub put_child-requires-clause-at : goal.put_child-requires-clause-at
+put_child-requires-clause-at g c =
+    omega (arith, slice_get_within (kids_of c.up.arena c.in-Some.block) c.child_place-place.result.0 c.up.at c.child_place-place.ensures.place)
+
+pub put_child-requires-clause-room : goal.put_child-requires-clause-room
+put_child-requires-clause-room g c = omega (arith, c.child_place-place.ensures.count, c.if-count-lt8.true)
+
+pub put_child-requires-clause-alone : goal.put_child-requires-clause-alone
+put_child-requires-clause-alone g c = c.up.invariant.growing.new_top
+
+pub put_child-requires-clause-differ : goal.put_child-requires-clause-differ
+put_child-requires-clause-differ g c = λ e. omega (
+  arith,
+  ap (height_of c.up.arena) e,
+  c.up.invariant.growing.level,
+  c.up.invariant.growing.shape.heights c.up.at c.in-Some.block (sym c.parent.ensures ∙ c.in-Some.is),
+)
+
+pub split_put-requires-clause-forest : goal.split_put-requires-clause-forest
+split_put-requires-clause-forest g c = c.up.invariant.growing.shape.forest
+
+pub split_put-requires-clause-spare : goal.split_put-requires-clause-spare
+split_put-requires-clause-spare g c = omega (arith, c.up.invariant.spare)
+
+pub split_put-requires-clause-block : goal.split_put-requires-clause-block
+split_put-requires-clause-block g c =
+    gr_block c.up.arena c.args.root c.up.at c.up.id 1 (λ xs. insert_after xs c.up.at c.up.id) (after_is_edit c.up.at c.up.id)
+    c.up.invariant.growing c.in-Some.block
+    (sym c.parent.ensures ∙ c.in-Some.is)
+
+pub split_put-requires-clause-place : goal.split_put-requires-clause-place
+split_put-requires-clause-place g c = omega (
+  arith,
+  slice_get_within (kids_of c.up.arena c.in-Some.block) c.child_place-place.result.0 c.up.at c.child_place-place.ensures.place,
+  c.up.invariant.growing.shape.forest.few c.in-Some.block,
+)
+
+pub split_put-requires-clause-full : goal.split_put-requires-clause-full
+split_put-requires-clause-full g c =
+    omega (arith, c.child_place-place.ensures.count, c.if-count-lt8.false, c.up.invariant.growing.shape.forest.few c.in-Some.block)
+
+pub split_put-requires-clause-id : goal.split_put-requires-clause-id
+split_put-requires-clause-id g c = c.up.invariant.growing.new_live
+
+pub split_put-requires-clause-alone : goal.split_put-requires-clause-alone
+split_put-requires-clause-alone g c = c.up.invariant.growing.new_top
+
+pub split_put-requires-clause-apart : goal.split_put-requires-clause-apart
+split_put-requires-clause-apart g c = no_own_child c.up.arena c.args.root (Some c.up.id) None c.up.invariant.growing.shape c.in-Some.block
+
+pub split_put-requires-clause-differ : goal.split_put-requires-clause-differ
+split_put-requires-clause-differ g c = λ e. omega (
+  arith,
+  ap (height_of c.up.arena) e,
+  c.up.invariant.growing.level,
+  c.up.invariant.growing.shape.heights c.up.at c.in-Some.block (sym c.parent.ensures ∙ c.in-Some.is),
+)
+
+pub up-smaller : goal.up-smaller
+up-smaller g c =
+    let up : parent_of c.up.arena c.up.at ≡ Some c.in-Some.block = sym c.parent.ensures ∙ c.in-Some.is in
+    let s = c.up.arena in
+    let i = c.up.invariant in
+    let r = c.in_ok-id.ensures.splits in
+    let block_apart = dead_apart (entry s) c.in-Some.block c.in_ok-id.id
+    (block_live (entry s c.in-Some.block) (gr_block c.up.arena c.args.root c.up.at c.up.id 1 (λ xs. insert_after xs c.up.at c.up.id)
+    (after_is_edit c.up.at c.up.id) c.up.invariant.growing c.in-Some.block up)) r.fresh in
+    omega (
+      arith,
+      kind_height (entry s c.in-Some.block) (entry c.split_put.new.arena c.in-Some.block) (r.kinds c.in-Some.block block_apart),
+      gr_high c.up.arena c.args.root c.up.at c.up.id 1 (λ xs. insert_after xs c.up.at c.up.id) (after_is_edit c.up.at c.up.id)
+          c.up.invariant.growing c.in-Some.block up,
+      gr_low c.up.arena c.args.root c.up.at c.up.id 1 (λ xs. insert_after xs c.up.at c.up.id) (after_is_edit c.up.at c.up.id)
+          c.up.invariant.growing c.in-Some.block up,
+      i.tall,
+    )
+
+pub height_at-height-requires : goal.height_at-height-requires
+height_at-height-requires g c = c.up.invariant.growing.shape.root_is_block
+
+pub root_over-requires-clause-forest : goal.root_over-requires-clause-forest
+root_over-requires-clause-forest g c = c.up.invariant.growing.shape.forest
+
+pub root_over-requires-clause-spare : goal.root_over-requires-clause-spare
+root_over-requires-clause-spare g c = omega (arith, c.up.invariant.spare)
+
+pub root_over-requires-clause-height : goal.root_over-requires-clause-height
+root_over-requires-clause-height g c = omega (
+  arith,
+  kind_is_height (entry c.up.arena c.args.root) c.height_at-height.result
+      c.height_at-height.ensures,
+)
+
+pub root_over-requires-clause-root : goal.root_over-requires-clause-root
+root_over-requires-clause-root g c = block_live (entry c.up.arena c.args.root) c.up.invariant.growing.shape.root_is_block
+
+pub root_over-requires-clause-id : goal.root_over-requires-clause-id
+root_over-requires-clause-id g c = c.up.invariant.growing.new_live
+
+pub root_over-requires-clause-root_alone : goal.root_over-requires-clause-root_alone
+root_over-requires-clause-root_alone g c = c.up.invariant.growing.shape.root_is_top
+
+pub root_over-requires-clause-id_alone : goal.root_over-requires-clause-id_alone
+root_over-requires-clause-id_alone g c = c.up.invariant.growing.new_top
+
+pub root_over-requires-clause-differ : goal.root_over-requires-clause-differ
+root_over-requires-clause-differ g c = c.up.invariant.growing.new_apart

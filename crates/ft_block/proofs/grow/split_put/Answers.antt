@@ -1,8 +1,12 @@
-use Rattle.std.proofs.Common.{refl}
+use Rattle.std.proofs.Common.{refl, length, ap, ◌∙◌, arith}
+use Rattle.std.proofs.lemmas.List.{length-take-le, length-drop}
+use Rattle.ft_arena.specs.Forest.{entry, kids_of}
 use Rattle.ft_block.specs.declared.leaves.View.TheVariants.{Removed}
 use Rattle.ft_block.specs.Tree.{by_view}
 use Rattle.ft_block.proofs.KeptLemmas.{same_floors, added_floors}
-use Rattle.ft_shape.proofs.SplitLemmas.{split_apart_front, split_fits_front, split_apart_rear4, split_fits_rear, split_done, split_resums}
+use Rattle.ft_shape.proofs.SplitLemmas.{split_apart_front, split_fits_front, split_apart_rear4, split_fits_rear, split_done, split_resums, live_from_values}
+use Rattle.ft_shape.proofs.KindLemmas.{block_live}
+use Rattle.ft_block.proofs.RootLemmas.{new_apart, made_block, made_bare, made_live, made_alone, made_top, made_kids, made_still, still_block}
 use Rattle.ft_block.proofs.grow.split_put.Goals as goal
 
 pub rebuild-requires-clause-apart : goal.rebuild-requires-clause-apart
@@ -61,3 +65,107 @@ rebuild-requires-2-clause-forest g c = c.in_ok-rebuild.ensures.shape.forest
 
 pub returns-clause-floors : goal.returns-clause-floors
 returns-clause-floors g c = c.in_ok-rebuild-2.ensures.floors
+
+pub height_at-height-requires : goal.height_at-height-requires
+height_at-height-requires g c = c.requires.block
+
+pub add_block-rear-requires : goal.add_block-rear-requires
+add_block-rear-requires g c = c.requires.spare
+
+pub move_half-requires-clause-forest : goal.move_half-requires-clause-forest
+move_half-requires-clause-forest g c = c.add_block-rear.ensures.sound
+
+pub move_half-requires-clause-block : goal.move_half-requires-clause-block
+move_half-requires-clause-block g c = made_still c.args.arena.now c.add_block-rear.new.self c.add_block-rear.result _
+    c.add_block-rear.ensures.fresh c.add_block-rear.ensures.changes
+    c.args.block c.requires.block
+
+pub move_half-requires-clause-rear : goal.move_half-requires-clause-rear
+move_half-requires-clause-rear g c = made_block c.args.arena.now c.add_block-rear.new.self c.add_block-rear.result _ c.add_block-rear.ensures.fresh
+    c.add_block-rear.ensures.changes
+
+pub move_half-requires-clause-full : goal.move_half-requires-clause-full
+move_half-requires-clause-full g c = ap length (made_kids c.args.arena.now c.add_block-rear.new.self c.add_block-rear.result _
+    c.add_block-rear.ensures.fresh c.add_block-rear.ensures.changes
+    c.args.block (block_live (entry c.args.arena.now c.args.block) c.requires.block)) ∙ c.requires.full
+
+pub move_half-requires-clause-empty : goal.move_half-requires-clause-empty
+move_half-requires-clause-empty g c = made_bare c.args.arena.now c.add_block-rear.new.self c.add_block-rear.result _ c.add_block-rear.ensures.fresh
+    c.add_block-rear.ensures.changes
+
+pub move_half-requires-clause-alone : goal.move_half-requires-clause-alone
+move_half-requires-clause-alone g c = made_top c.args.arena.now c.add_block-rear.new.self c.add_block-rear.result _ c.add_block-rear.ensures.fresh
+    c.add_block-rear.ensures.changes
+
+pub move_half-requires-clause-differ : goal.move_half-requires-clause-differ
+move_half-requires-clause-differ g c = new_apart c.args.arena.now c.add_block-rear.new.self c.add_block-rear.result _
+    c.add_block-rear.ensures.fresh c.add_block-rear.ensures.changes
+    c.args.block (block_live (entry c.args.arena.now c.args.block) c.requires.block)
+
+pub put_in_half-requires-clause-forest : goal.put_in_half-requires-clause-forest
+put_in_half-requires-clause-forest g c = c.move_half.ensures.forest
+
+pub put_in_half-requires-clause-block : goal.put_in_half-requires-clause-block
+put_in_half-requires-clause-block g c = still_block (c.move_half.ensures.block_values c.args.block)
+    (made_still c.args.arena.now c.add_block-rear.new.self c.add_block-rear.result _ c.add_block-rear.ensures.fresh c.add_block-rear.ensures.changes
+    c.args.block c.requires.block)
+
+pub put_in_half-requires-clause-rear : goal.put_in_half-requires-clause-rear
+put_in_half-requires-clause-rear g c = still_block (c.move_half.ensures.block_values c.add_block-rear.result)
+    (made_block c.args.arena.now c.add_block-rear.new.self c.add_block-rear.result _ c.add_block-rear.ensures.fresh c.add_block-rear.ensures.changes)
+
+pub put_in_half-requires-clause-front : goal.put_in_half-requires-clause-front
+put_in_half-requires-clause-front g c = ap length c.move_half.ensures.front
+    ∙ length-take-le 4 (kids_of c.add_block-rear.new.self c.args.block) (omega (
+      arith,
+      ap length (made_kids c.args.arena.now c.add_block-rear.new.self c.add_block-rear.result _ c.add_block-rear.ensures.fresh
+          c.add_block-rear.ensures.changes
+          c.args.block (block_live (entry c.args.arena.now c.args.block) c.requires.block)),
+      c.requires.full,
+    ))
+
+pub put_in_half-requires-clause-back : goal.put_in_half-requires-clause-back
+put_in_half-requires-clause-back g c = omega (
+  arith,
+  ap length c.move_half.ensures.back,
+  length-drop 4 (kids_of c.add_block-rear.new.self c.args.block),
+  ap length (made_kids c.args.arena.now c.add_block-rear.new.self c.add_block-rear.result _ c.add_block-rear.ensures.fresh
+      c.add_block-rear.ensures.changes
+      c.args.block (block_live (entry c.args.arena.now c.args.block) c.requires.block)),
+  c.requires.full,
+)
+
+pub put_in_half-requires-clause-differ : goal.put_in_half-requires-clause-differ
+put_in_half-requires-clause-differ g c = new_apart c.args.arena.now c.add_block-rear.new.self c.add_block-rear.result _
+    c.add_block-rear.ensures.fresh c.add_block-rear.ensures.changes
+    c.args.block (block_live (entry c.args.arena.now c.args.block) c.requires.block)
+
+pub put_in_half-requires-clause-place : goal.put_in_half-requires-clause-place
+put_in_half-requires-clause-place g c = c.requires.place
+
+pub put_in_half-requires-clause-id : goal.put_in_half-requires-clause-id
+put_in_half-requires-clause-id g c = live_from_values (entry c.add_block-rear.new.self c.args.id) (entry c.move_half.new.arena c.args.id)
+    (c.move_half.ensures.leaf_values c.args.id) (c.move_half.ensures.block_values c.args.id) (made_live c.args.arena.now c.add_block-rear.new.self
+    c.add_block-rear.result _ c.add_block-rear.ensures.fresh c.add_block-rear.ensures.changes
+    c.args.id c.requires.id)
+
+pub put_in_half-requires-clause-alone : goal.put_in_half-requires-clause-alone
+put_in_half-requires-clause-alone g c = c.move_half.ensures.other_parents c.args.id (made_alone c.args.arena.now c.add_block-rear.new.self
+    c.add_block-rear.result _ c.add_block-rear.ensures.fresh c.add_block-rear.ensures.changes
+    c.args.id c.requires.id c.requires.alone)
+
+pub put_in_half-requires-clause-not_block : goal.put_in_half-requires-clause-not_block
+put_in_half-requires-clause-not_block g c = c.requires.differ
+
+pub put_in_half-requires-clause-not_rear : goal.put_in_half-requires-clause-not_rear
+put_in_half-requires-clause-not_rear g c = new_apart c.args.arena.now c.add_block-rear.new.self c.add_block-rear.result _
+    c.add_block-rear.ensures.fresh c.add_block-rear.ensures.changes
+    c.args.id c.requires.id
+
+pub rebuild-requires-clause-block : goal.rebuild-requires-clause-block
+rebuild-requires-clause-block g c = still_block (c.put_in_half.ensures.block_values c.args.block ∙ c.move_half.ensures.block_values c.args.block)
+    (made_still c.args.arena.now c.add_block-rear.new.self c.add_block-rear.result _ c.add_block-rear.ensures.fresh c.add_block-rear.ensures.changes
+    c.args.block c.requires.block)
+
+pub rebuild-requires-clause-forest : goal.rebuild-requires-clause-forest
+rebuild-requires-clause-forest g c = c.put_in_half.ensures.forest

@@ -79,3 +79,33 @@ rebuild-requires-2-clause-floors g c = c.in_ok-rebuild.ensures.floors
 
 pub returns-clause-floors : goal.returns-clause-floors
 returns-clause-floors g c = c.rebuild-2.ensures.floors
+
+pub count_of-requires : goal.count_of-requires
+count_of-requires g c = c.requires.pair.front_block
+
+pub count_of-requires-2 : goal.count_of-requires-2
+count_of-requires-2 g c = c.requires.pair.rear_block
+
+pub regroup-requires-clause-forest : goal.regroup-requires-clause-forest
+regroup-requires-clause-forest g c = c.requires.forest
+
+pub regroup-requires-clause-front : goal.regroup-requires-clause-front
+regroup-requires-clause-front g c = c.requires.pair.front_block
+
+pub regroup-requires-clause-rear : goal.regroup-requires-clause-rear
+regroup-requires-clause-rear g c = c.requires.pair.rear_block
+
+pub regroup-requires-clause-differ : goal.regroup-requires-clause-differ
+regroup-requires-clause-differ g c = c.requires.pair.differ
+
+pub regroup-requires-clause-want : goal.regroup-requires-clause-want
+regroup-requires-clause-want g c = omega (arith, c.count_of.ensures.few, c.count_of-2.ensures.few)
+
+pub regroup-requires-clause-enough : goal.regroup-requires-clause-enough
+regroup-requires-clause-enough g c = omega (arith, c.count_of.ensures.value, c.count_of-2.ensures.value)
+
+pub rebuild-requires-clause-forest : goal.rebuild-requires-clause-forest
+rebuild-requires-clause-forest g c = c.regroup.ensures.forest
+
+pub rebuild-requires-2-clause-forest : goal.rebuild-requires-2-clause-forest
+rebuild-requires-2-clause-forest g c = c.in_ok-rebuild.ensures.shape.forest

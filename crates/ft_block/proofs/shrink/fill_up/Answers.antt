@@ -330,3 +330,30 @@ returns-clause-leaves g c = c.up.invariant.leaves
 
 pub returns-clause-leaf_values : goal.returns-clause-leaf_values
 returns-clause-leaf_values g c = c.up.invariant.leaf_values
+
+pub parent-requires : goal.parent-requires
+parent-requires g c = block_live (entry c.up.arena c.up.block) c.up.invariant.block
+
+pub count_of-requires : goal.count_of-requires
+count_of-requires g c = c.up.invariant.block
+
+pub balance-requires-clause-sums : goal.balance-requires-clause-sums
+balance-requires-clause-sums g c = c.up.invariant.sums
+
+pub merge-requires-clause-sums : goal.merge-requires-clause-sums
+merge-requires-clause-sums g c = c.up.invariant.sums
+
+pub merge-requires-clause-place : goal.merge-requires-clause-place
+merge-requires-clause-place g c = c.child_at-front.ensures
+
+pub merge-requires-clause-next : goal.merge-requires-clause-next
+merge-requires-clause-next g c = c.child_at-rear.ensures
+
+pub drop_root-requires-clause-forest : goal.drop_root-requires-clause-forest
+drop_root-requires-clause-forest g c = c.up.invariant.apart.shape.forest
+
+pub drop_root-requires-clause-one : goal.drop_root-requires-clause-one
+drop_root-requires-clause-one g c = omega (arith, c.child_place-place.ensures.count, c.if-count-eq1.true)
+
+pub returns-then-many-gt8-clause-floors : goal.returns-then-many-gt8-clause-floors
+returns-then-many-gt8-clause-floors g c = c.in_ok-balance.ensures.floors

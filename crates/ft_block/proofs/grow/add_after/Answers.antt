@@ -1,0 +1,72 @@
+use Rattle.std.proofs.Common.{◌∙◌, arith}
+use Rattle.ft_partial.specs.Entries.{amount}
+use Rattle.ft_block.specs.Tree.{shows, by_size}
+use Rattle.ft_shape.proofs.FitLemmas.{leaf_total}
+use Rattle.ft_shape.proofs.RefreshLemmas.{SameShape-tree}
+use Rattle.ft_block.proofs.ExchangeLemmas.{tree_part}
+use Rattle.ft_block.proofs.grow.add_after.Goals as goal
+
+pub grow-requires-clause-growing : goal.grow-requires-clause-growing
+grow-requires-clause-growing g c = c.requires.growing
+
+pub grow-requires-clause-sums : goal.grow-requires-clause-sums
+grow-requires-clause-sums g c = c.requires.sums
+
+pub grow-requires-clause-floors : goal.grow-requires-clause-floors
+grow-requires-clause-floors g c = c.requires.floors
+
+pub grow-requires-clause-spare : goal.grow-requires-clause-spare
+grow-requires-clause-spare g c = c.requires.spare
+
+pub grow-requires-clause-fits : goal.grow-requires-clause-fits
+grow-requires-clause-fits g c = c.requires.fits
+
+pub grow-requires-clause-tall : goal.grow-requires-clause-tall
+grow-requires-clause-tall g c = c.requires.tall
+
+pub exchange_up-requires-clause-tree : goal.exchange_up-requires-clause-tree
+exchange_up-requires-clause-tree g c = tree_part c.grow.new.arena c.in_ok-top.top c.in_ok-top.ensures.tree
+
+pub exchange_up-requires-clause-fits : goal.exchange_up-requires-clause-fits
+exchange_up-requires-clause-fits g c = omega (
+  arith,
+  leaf_total (by_size g.L.Leaf.size) c.args.arena.now c.grow.new.arena c.requires.growing.shape.forest c.in_ok-top.ensures.leaves
+      c.in_ok-top.ensures.leaf_values,
+  c.requires.fits,
+)
+
+pub exchange_up-requires-clause-block : goal.exchange_up-requires-clause-block
+exchange_up-requires-clause-block g c = c.in_ok-top.ensures.stale
+
+pub exchange_up-requires-clause-floors : goal.exchange_up-requires-clause-floors
+exchange_up-requires-clause-floors g c = c.in_ok-top.ensures.floors
+
+pub exchange_up-requires-clause-sums : goal.exchange_up-requires-clause-sums
+exchange_up-requires-clause-sums g c = c.in_ok-top.ensures.sums
+
+pub exchange_up-requires-clause-owes : goal.exchange_up-requires-clause-owes
+exchange_up-requires-clause-owes g c = record {
+  gone = c.requires.come;
+  less = 0;
+  come = c.requires.come;
+  more = c.requires.more;
+  makes = c.requires.makes;
+  owes = λ view k. c.in_ok-top.ensures.owes view (amount (shows view c.requires.come) c.requires.more) (amount (shows view c.requires.come) 0) k
+      (c.requires.owes view k);
+}
+
+pub returns-clause-tree : goal.returns-clause-tree
+returns-clause-tree g c = SameShape-tree c.grow.new.arena c.exchange_up.new.arena c.in_ok-top.top c.in_ok-top.ensures.tree
+    c.in_ok-exchange_up.ensures.shape
+
+pub returns-clause-sums : goal.returns-clause-sums
+returns-clause-sums g c = c.in_ok-exchange_up.ensures.sums
+
+pub returns-clause-floors : goal.returns-clause-floors
+returns-clause-floors g c = c.in_ok-exchange_up.ensures.floors
+
+pub returns-clause-leaves : goal.returns-clause-leaves
+returns-clause-leaves g c = c.in_ok-exchange_up.ensures.shape.leaves ∙ c.in_ok-top.ensures.leaves
+
+pub returns-clause-leaf_values : goal.returns-clause-leaf_values
+returns-clause-leaf_values g c = λ x. c.in_ok-exchange_up.ensures.shape.leaf_values x ∙ c.in_ok-top.ensures.leaf_values x
