@@ -1,5 +1,6 @@
 -- A leaf that has nothing of a stage is as it was after the acknowledgement of that stage.
-use Rattle.std.proofs.Common.{◌≡◌, ℕ, Bool, true, false, cond, nat_eq, not, ◌||◌, List, [], ◌∷◌, map, refl, ◌∙◌, ap}
+use Rattle.std.proofs.Common.{◌≡◌, ℕ, Result, Ok, Err, Bool, true, false, cond, nat_eq, not, ◌||◌, List, [], ◌∷◌, map, refl, ◌∙◌, ap}
+use Rattle.std.specs.Prelude.{OnOk}
 use Rattle.std.specs.List.{list_any}
 use Rattle.ft_base.specs.declared.stamps.Stamp.{Stamp}
 use Rattle.ft_base.specs.declared.stamps.Stamp.TheVariants.{Acked}
@@ -11,6 +12,11 @@ use Rattle.ft_props.specs.Steps.{acked_props, acked_stamp}
 use Rattle.ft_tree_leaves.specs.declared.leaves.TreeLeaf.{TreeLeaf}
 use Rattle.ft_tree_leaves.specs.Edits.{is_marked_by}
 use Rattle.ft_tree_leaves.specs.LeafChanges.{acked_leaf}
+
+-- what holds after a call that ended well
+pub on-ok : {A E P : Type 0} (r : Result A E) (x : A) → r ≡ Ok x → OnOk r P → P
+on-ok (Ok y) x e p = p
+on-ok (Err y) x e p = absurd cc
 
 pub neither : (a b : Bool) → (a || b) ≡ false → (a ≡ false) × (b ≡ false)
 neither true b h = (cc)

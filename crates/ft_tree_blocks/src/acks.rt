@@ -2,6 +2,8 @@
 
 ghost use Rattle.std.specs.Prelude.{◌≡◌, All, IsSomeAnd, IsTrue, OnOk, map, true};
 ghost use Rattle.ft_block.specs.Leaves.{IsLeafIn, change_leaf, value_at};
+ghost use Rattle.ft_tree_leaves.specs.declared.block_leaf.LeafChange.TheVariants.{Ack};
+ghost use Rattle.ft_tree_leaves.specs.BlockChanges.{changed_leaf};
 ghost use Rattle.ft_tree_leaves.specs.Edits.{is_touched_by};
 ghost use Rattle.ft_tree_leaves.specs.Elements.{IsLowestChange};
 ghost use Rattle.ft_tree_leaves.specs.LeafChanges.{acked_leaf, acked_pair};
@@ -12,6 +14,8 @@ ghost use Rattle.ft_tree_blocks.specs.Touched.{HaveAllOf, Tracks};
 ghost use Rattle.ft_tree_blocks.specs.Unsettled.{IsSoundOn};
 
 use crate::leaf_refs::LeafRefs;
+use crate::moved::after;
+use crate::reads;
 use crate::stage_nodes::{StageNodes, TouchedNode};
 use crate::touched::take_stage;
 use ft_arena::NodeId;
@@ -28,6 +32,23 @@ pub(crate) fn is_touched_by<C: Content>(leaf: &TreeLeaf<C>, stage: u64) -> bool
     ensures { result ≡ is_touched_by stage leaf.now }
 {
     is_of_stage(&leaf.stamps.ins, stage) || leaf.is_marked_by(stage)
+}
+
+// Acknowledges the changes of a stage in the properties of a leaf, as `Blocks::change` does.
+fn ack_changes<C: Content>(
+    blocks: &mut Blocks<TreeLeaf<C>>,
+    id: NodeId,
+    stage: u64,
+    seq: u64,
+    conn: u32,
+) -> Result<(), OutOfMemory>
+    requires usable { IsTrue blocks.old.usable }
+    requires lowest { IsSomeAnd (value_at blocks.old.leaves id) (λ v. IsLowestChange stage v.overlay) }
+    ensures ok { OnOk result (blocks.new.leaves ≡ change_leaf (λ v. changed_leaf C.stamped v (Ack stage seq conn)) blocks.old.leaves id) }
+    ensures usable { OnOk result (blocks.new.usable ≡ true) }
+    ensures floor { blocks.new.floor ≡ blocks.old.floor }
+{
+    blocks.change(id, &LeafChange::Ack(stage, seq, conn))
 }
 
 // Acknowledges a stage in the leaf of a node under number `seq` of connection `conn`, if it has something
@@ -48,14 +69,15 @@ fn ack_at<C: Content>(
     ensures floor { blocks.new.floor ≡ blocks.old.floor }
 {
     // What holds of the leaves at any time is read off its contract.
-    let _first = blocks.first();
-    let leaf = blocks.leaf(id);
+    let _first = reads::first(blocks);
+    let leaf = reads::leaf(blocks, id);
     if !is_touched_by(leaf, stage) {
         return Ok(());
     }
     let e = acked_stamps(alloc, &leaf.stamps, stage, seq, conn)?;
-    blocks.change(id, &LeafChange::Ack(stage, seq, conn))?;
-    blocks.set_stamps(id, e)?;
+    let changed = ack_changes(blocks, id, stage, seq, conn);
+    let stamps = after(changed, e)?;
+    blocks.set_stamps(id, stamps)?;
     Ok(())
 }
 
@@ -78,7 +100,7 @@ fn ack_nodes<C: Content>(
     ensures floor { blocks.new.floor ≡ blocks.old.floor }
 {
     // What holds of the leaves at any time is read off its contract.
-    let _first = blocks.first();
+    let _first = reads::first(blocks);
     for id in nodes {
         ack_at(blocks, alloc, id.0, stage, seq, conn)?;
     }
@@ -110,7 +132,7 @@ pub(crate) fn ack_in<C: Content>(
     ensures floor { blocks.new.floor ≡ blocks.old.floor }
 {
     // What holds of the leaves at any time is read off its contract.
-    let _first = blocks.first();
+    let _first = reads::first(blocks);
     let taken = take_stage(touched, stage);
     let nodes = taken.as_slice();
     refs.unsettle_all(nodes)?;

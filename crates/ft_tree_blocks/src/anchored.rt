@@ -15,6 +15,7 @@ ghost use Rattle.ft_tree_blocks.specs.Touched.{Tracks};
 ghost use Rattle.ft_tree_blocks.specs.Unsettled.{IsSoundOn};
 
 use crate::leaf_refs::LeafRefs;
+use crate::reads;
 use crate::settling::settled_on;
 use crate::slides::slide_leaves;
 use crate::stage_nodes::StageNodes;
@@ -51,7 +52,7 @@ pub(crate) fn insert_anchored<C: Content + Drop>(
     ensures floor { blocks.new.floor ≡ blocks.old.floor }
 {
     // What holds of the leaves at any time is read off its contract.
-    let _first = blocks.first();
+    let _first = reads::first(blocks);
     let id = insert_in(blocks, touched, at, leaf)?;
     refs.hold(id)?;
     Ok(id)
@@ -80,8 +81,8 @@ pub(crate) fn split_anchored<C: Content>(
     ensures floor { blocks.new.floor ≡ blocks.old.floor }
 {
     // What holds of the leaves at any time is read off its contract.
-    let _first = blocks.first();
-    let stands = blocks.leaf(leaf).stands(Standing::Unremoved);
+    let _first = reads::first(blocks);
+    let stands = reads::leaf(blocks, leaf).stands(Standing::Unremoved);
     let rear = split_in(blocks, touched, leaf, at)?;
     refs.cut(leaf, at, rear, stands)?;
     Ok(rear)
@@ -110,9 +111,9 @@ pub(crate) fn set_stamps_anchored<C: Content>(
     ensures floor { blocks.new.floor ≡ blocks.old.floor }
 {
     // What holds of the leaves at any time is read off its contract.
-    let _first = blocks.first();
+    let _first = reads::first(blocks);
     set_stamps_in(blocks, touched, id, e)?;
-    let stands = blocks.leaf(id).stands(Standing::Unremoved);
+    let stands = reads::leaf(blocks, id).stands(Standing::Unremoved);
     refs.unsettle(id, stands)
 }
 
@@ -137,15 +138,15 @@ pub(crate) fn join_anchored<C: Content + Drop>(
     ensures floor { blocks.new.floor ≡ blocks.old.floor }
 {
     // What holds of the leaves at any time is read off its contract.
-    let _first = blocks.first();
-    let leaf = blocks.leaf(id);
+    let _first = reads::first(blocks);
+    let leaf = reads::leaf(blocks, id);
     let count = leaf.content.len();
     let stands = leaf.stands(Standing::Unremoved);
-    let Some(next) = blocks.next(id) else {
+    let Some(next) = reads::next(blocks, id) else {
         unreachable!();
     };
     // That there is a leaf is read off its contract.
-    let _next = blocks.leaf(next);
+    let _next = reads::leaf(blocks, next);
     join_in(blocks, touched, id)?;
     refs.join(next, id, count, stands)
 }
@@ -172,7 +173,7 @@ pub(crate) fn change_anchored<C: Content>(
     ensures floor { blocks.new.floor ≡ blocks.old.floor }
 {
     // What holds of the leaves at any time is read off its contract.
-    let _first = blocks.first();
+    let _first = reads::first(blocks);
     change_in(blocks, touched, id, c)
 }
 
@@ -198,7 +199,7 @@ pub(crate) fn take_anchored<C: Content>(
     ensures floor { blocks.new.floor ≡ blocks.old.floor }
 {
     // What holds of the leaves at any time is read off its contract.
-    let _first = blocks.first();
+    let _first = reads::first(blocks);
     take_in(blocks, touched, id)
 }
 
@@ -225,7 +226,7 @@ pub(crate) fn move_anchored<C: Content>(
     ensures floor { blocks.new.floor ≡ blocks.old.floor }
 {
     // What holds of the leaves at any time is read off its contract.
-    let _first = blocks.first();
+    let _first = reads::first(blocks);
     move_in(blocks, touched, id, at)
 }
 
@@ -248,7 +249,7 @@ pub(crate) fn add_anchored<C: Content>(
     ensures sound { OnOk result (IsSoundOn C.units blocks.now.leaves refs.new.anchors refs.new.unsettled.items) }
 {
     // What holds of the leaves at any time is read off its contract.
-    let _first = blocks.first();
+    let _first = reads::first(blocks);
     let r = refs.anchors.add(at.owner, at.offset)?;
     Ok(r)
 }
@@ -267,7 +268,7 @@ pub(crate) fn place_anchored<C: Content>(
         option_map (place_on C.units C.by leaves) result ≡ reference_place (references_on C.units C.by leaves refs.now.anchors) r }
 {
     // What holds of the leaves at any time is read off its contract.
-    let _first = blocks.first();
+    let _first = reads::first(blocks);
     refs.anchors.place(r)
 }
 
@@ -286,7 +287,7 @@ pub(crate) fn settle_anchored<C: Content>(
     ensures sound { IsSoundOn C.units blocks.now.leaves refs.new.anchors refs.new.unsettled.items }
 {
     // What holds of the leaves at any time is read off its contract.
-    let _first = blocks.first();
+    let _first = reads::first(blocks);
     refs.anchors.acknowledge(r);
     let Some(place) = refs.anchors.place(r) else {
         return;
@@ -307,7 +308,7 @@ pub(crate) fn drop_anchored<C: Content>(blocks: &Blocks<TreeLeaf<C>>, refs: &mut
     ensures sound { IsSoundOn C.units blocks.now.leaves refs.new.anchors refs.new.unsettled.items }
 {
     // What holds of the leaves at any time is read off its contract.
-    let _first = blocks.first();
+    let _first = reads::first(blocks);
     refs.anchors.release(r);
 }
 

@@ -38,6 +38,7 @@ use crate::anchored::{
 use crate::leaf_refs::LeafRefs;
 use crate::next_stages::{Wanted, next_wanted_in};
 use crate::pruning::prune_in;
+use crate::reads;
 use crate::stage_leaves::stage_leaves_in;
 use crate::stage_nodes::StageNodes;
 use ft_arena::NodeId;
@@ -110,7 +111,7 @@ impl<C: Content> LeafBlocks<C> {
         // And each reference stands on an element.
         ensures inside { (r j : ℕ) → reference_place self.now.refs r ≡ Some j → j < length (elements C.units C.by self.now.leaves) }
     {
-        self.blocks.first()
+        reads::first(&self.blocks)
     }
 
     /// The leaf after this one: None exactly where it is the last.
@@ -119,7 +120,7 @@ impl<C: Content> LeafBlocks<C> {
         requires live { IsLeafIn self.now.leaves id }
         ensures { result ≡ after (ids self.now.leaves) id }
     {
-        self.blocks.next(id)
+        reads::next(&self.blocks, id)
     }
 
     /// The value of a leaf.
@@ -128,7 +129,7 @@ impl<C: Content> LeafBlocks<C> {
         requires live { IsLeafIn self.now.leaves id }
         ensures { value_at self.now.leaves id ≡ Some result.now }
     {
-        self.blocks.leaf(id)
+        reads::leaf(&self.blocks, id)
     }
 
     /// How many elements the view sees left of the leaf. The reference number of a perspective isn't below the
@@ -428,7 +429,7 @@ impl<C: Content> LeafBlocks<C> {
         ensures { result ≡ next_removal_above stage (elements C.units C.by self.now.leaves) }
     {
         // What holds of the leaves at any time is read off its contract.
-        let _first = self.blocks.first();
+        let _first = reads::first(&self.blocks);
         next_wanted_in(&self.blocks, &self.touched, stage, Wanted::Removal)
     }
 
@@ -439,7 +440,7 @@ impl<C: Content> LeafBlocks<C> {
         ensures { result ≡ next_pending_above stage self.now.leaves }
     {
         // What holds of the leaves at any time is read off its contract.
-        let _first = self.blocks.first();
+        let _first = reads::first(&self.blocks);
         next_wanted_in(&self.blocks, &self.touched, stage, Wanted::Anything)
     }
 

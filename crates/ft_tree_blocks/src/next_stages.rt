@@ -8,6 +8,7 @@ ghost use Rattle.ft_tree_blocks.specs.Touched.{Tracks};
 ghost use Rattle.ft_tree_blocks.specs.Wanted.{IsLeastStage, has_wanted, is_wanted_at};
 
 use crate::acks::is_touched_by;
+use crate::reads;
 use crate::stage_nodes::{StageNodes, TouchedNode};
 use crate::touched::stage_place;
 use ft_block::Blocks;
@@ -46,7 +47,7 @@ fn is_any_wanted<C: Content>(
     ensures { result ≡ list_any (is_wanted_at wanted blocks.now.leaves stage) nodes.now }
 {
     for id in nodes {
-        if has_wanted(blocks.leaf(id.0), stage, wanted) {
+        if has_wanted(reads::leaf(blocks, id.0), stage, wanted) {
             return true;
         }
     }

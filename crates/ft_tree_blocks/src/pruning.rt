@@ -8,6 +8,7 @@ ghost use Rattle.ft_tree_blocks.specs.Touched.{Tracks};
 ghost use Rattle.ft_tree_blocks.specs.Wanted.{is_wanted_at};
 
 use crate::acks::is_touched_by;
+use crate::reads;
 use crate::stage_nodes::{Nodes, StageNodes, TouchedNode};
 use ft_base::OutOfMemory;
 use ft_block::Blocks;
@@ -29,7 +30,7 @@ fn touched_of<C: Content>(
 {
     let mut touched = SmallVec::new(alloc);
     for id in nodes {
-        if is_touched_by(blocks.leaf(id.0), stage) {
+        if is_touched_by(reads::leaf(blocks, id.0), stage) {
             touched.push(*id)?;
         }
     }

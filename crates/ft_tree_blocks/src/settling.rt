@@ -11,6 +11,7 @@ ghost use Rattle.ft_tree_blocks.specs.LeafPlaces.{IsOnLeaf, leaf_end, leaf_start
 ghost use Rattle.ft_tree_blocks.specs.LastStanding.{last_from};
 ghost use Rattle.ft_tree_blocks.specs.Walks.{before_place, from_place};
 
+use crate::reads;
 use ft_arena::NodeId;
 use ft_block::Blocks;
 use ft_refs::Place;
@@ -33,16 +34,16 @@ pub fn next_standing<C: Content>(
         ≡ first_from (stands test) (length (elements C.units C.by (before_place leaves from))) (elements C.units C.by (from_place leaves from)) }
 {
     // What holds of the leaves at any time is read off its contract.
-    let _first = blocks.first();
+    let _first = reads::first(blocks);
     let mut at = from;
     while let Some(id) = at {
-        let leaf = blocks.leaf(id);
+        let leaf = reads::leaf(blocks, id);
         // That it has an element is read off its contract.
         let _len = leaf.content.len();
         if leaf.stands(test) {
             return at;
         }
-        at = blocks.next(id);
+        at = reads::next(blocks, id);
     }
     None
 }
@@ -62,16 +63,16 @@ pub fn last_standing<C: Content>(
         option_map (leaf_end C.units C.by leaves) result ≡ last_from (stands test) 0 (elements C.units C.by (up_to_place leaves from)) }
 {
     // What holds of the leaves at any time is read off its contract.
-    let _first = blocks.first();
+    let _first = reads::first(blocks);
     let mut at = from;
     while let Some(id) = at {
-        let leaf = blocks.leaf(id);
+        let leaf = reads::leaf(blocks, id);
         // That it has an element is read off its contract.
         let _len = leaf.content.len();
         if leaf.stands(test) {
             return at;
         }
-        at = blocks.prev(id);
+        at = reads::prev(blocks, id);
     }
     None
 }
@@ -85,10 +86,10 @@ fn last_of<C: Content>(blocks: &Blocks<TreeLeaf<C>>, leaf: NodeId) -> Place
     ensures place { place_on C.units C.by blocks.now.leaves result ≡ leaf_end C.units C.by blocks.now.leaves leaf }
 {
     // What holds of the leaves at any time is read off its contract.
-    let _first = blocks.first();
+    let _first = reads::first(blocks);
     Place {
         owner: leaf,
-        offset: blocks.leaf(leaf).content.len() - 1,
+        offset: reads::leaf(blocks, leaf).content.len() - 1,
     }
 }
 
@@ -111,17 +112,17 @@ pub fn settled_on<C: Content>(
         ≡ settled_place (stands test) (elements C.units C.by leaves) (place_on C.units C.by leaves at.now) }
 {
     // What holds of the leaves at any time is read off its contract.
-    let _first = blocks.first();
-    if blocks.leaf(at.owner).stands(test) {
+    let _first = reads::first(blocks);
+    if reads::leaf(blocks, at.owner).stands(test) {
         return Some(*at);
     }
-    match next_standing(blocks, blocks.next(at.owner), test) {
+    match next_standing(blocks, reads::next(blocks, at.owner), test) {
         Some(leaf) => Some(Place {
             owner: leaf,
             offset: 0,
         }),
         None => {
-            let leaf = last_standing(blocks, blocks.prev(at.owner), test)?;
+            let leaf = last_standing(blocks, reads::prev(blocks, at.owner), test)?;
             Some(last_of(blocks, leaf))
         }
     }

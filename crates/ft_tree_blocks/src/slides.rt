@@ -7,6 +7,7 @@ ghost use Rattle.ft_tree_blocks.specs.Anchors.{AreAnchored, references_on};
 ghost use Rattle.ft_tree_blocks.specs.Slides.{AreSettledBut, is_on};
 
 use crate::anchors::Anchors;
+use crate::reads;
 use crate::settling::settled_on;
 use ft_arena::NodeId;
 use ft_block::Blocks;
@@ -35,8 +36,8 @@ pub fn slide_leaf<C: Content>(blocks: &Blocks<TreeLeaf<C>>, anchors: &mut Anchor
         return;
     }
     // What holds of the leaves at any time is read off its contract.
-    let _first = blocks.first();
-    let leaf = blocks.leaf(id);
+    let _first = reads::first(blocks);
+    let leaf = reads::leaf(blocks, id);
     // That it has an element is read off its contract.
     let _len = leaf.content.len();
     if leaf.stands(Standing::Unremoved) {
@@ -70,5 +71,5 @@ pub fn slide_leaves<C: Content>(
         slide_leaf(blocks, anchors, *id);
     }
     // What holds of the leaves at any time is read off its contract.
-    let _first = blocks.first();
+    let _first = reads::first(blocks);
 }

@@ -7,6 +7,7 @@ ghost use Rattle.ft_tree_blocks.specs.StageLeaves.{is_given_node, touched_places
 ghost use Rattle.ft_tree_blocks.specs.Touched.{Tracks};
 
 use crate::acks::is_touched_by;
+use crate::reads;
 use crate::stage_nodes::{StageNodes, TouchedNode};
 use crate::touched::nodes_of;
 use ft_arena::NodeId;
@@ -29,7 +30,7 @@ fn touched_places<C: Content>(
 {
     let mut places = Vec::new(alloc);
     for id in nodes {
-        if is_touched_by(blocks.leaf(id.0), stage) {
+        if is_touched_by(reads::leaf(blocks, id.0), stage) {
             places.push((blocks.position_of(id.0, LenView::All), id.0))?;
         }
     }
@@ -72,7 +73,7 @@ pub(crate) fn stage_leaves_in<C: Content>(
     ensures { IfOk result (λ v. v.items ≡ touched_nodes stage blocks.now.leaves) }
 {
     // What holds of the leaves at any time is read off its contract.
-    let _first = blocks.first();
+    let _first = reads::first(blocks);
     let alloc = *touched.allocator();
     let mut places = touched_places(blocks, alloc, nodes_of(touched, stage), stage)?;
     places.sort_unstable_by_key(|p| p.0);

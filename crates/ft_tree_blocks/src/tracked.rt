@@ -7,8 +7,9 @@ ghost use Rattle.ft_block.specs.Leaves.{IsLeafIn, IsPlaceIn, change_leaf, join_l
 ghost use Rattle.ft_tree_leaves.specs.BlockChanges.{MayChange, changed_leaf};
 ghost use Rattle.ft_tree_leaves.specs.Edits.{is_touched_by};
 ghost use Rattle.ft_tree_blocks.specs.NewLeaves.{CanJoin, CutsLeaf, PutsLeaf};
-ghost use Rattle.ft_tree_blocks.specs.Touched.{AreRising, Notes, Tracks, added_stage, is_listed, purged_at};
+ghost use Rattle.ft_tree_blocks.specs.Touched.{AreRising, Notes, Tracks, added_stage, is_listed, is_stamped_by, purged_at};
 
+use crate::reads;
 use crate::stage_nodes::StageNodes;
 use crate::touched::{note, note_heir, note_stamps, purge};
 use ft_arena::NodeId;
@@ -17,6 +18,20 @@ use ft_block::Blocks;
 use ft_tree_leaves::block_leaf::universal;
 use ft_tree_leaves::{Content, LeafChange, TreeLeaf};
 use std::collections::VecDeque;
+
+// Lists the node of a new leaf for each pending stage of its stamps.
+fn note_new(
+    touched: &mut VecDeque<StageNodes>,
+    stamps: &Element,
+    id: NodeId,
+) -> Result<(), OutOfMemory>
+    requires { AreRising touched.old.items }
+    ensures notes { OnOk result (Notes id touched.old.items touched.new.items) }
+    ensures listed { OnOk result ((k : ℕ) → is_stamped_by k stamps.now ≡ true → is_listed touched.new.items k id ≡ true) }
+{
+    let old = universal(*touched.allocator());
+    note_stamps(touched, &old, stamps, id)
+}
 
 /// Puts a new leaf in, as `Blocks::insert_after` does. Nothing is pending in its properties.
 pub(crate) fn insert_in<C: Content + Drop>(
@@ -36,10 +51,9 @@ pub(crate) fn insert_in<C: Content + Drop>(
     ensures floor { blocks.new.floor ≡ blocks.old.floor }
 {
     // What holds of the leaves at any time is read off its contract.
-    let _first = blocks.first();
+    let _first = reads::first(blocks);
     let id = blocks.insert_after(at, leaf)?;
-    let old = universal(*touched.allocator());
-    note_stamps(touched, &old, &blocks.leaf(id).stamps, id)?;
+    note_new(touched, &reads::leaf(blocks, id).stamps, id)?;
     Ok(id)
 }
 
@@ -103,9 +117,9 @@ pub(crate) fn split_in<C: Content>(
     ensures floor { blocks.new.floor ≡ blocks.old.floor }
 {
     // What holds of the leaves at any time is read off its contract.
-    let _first = blocks.first();
+    let _first = reads::first(blocks);
     let rear = blocks.split(leaf, at)?;
-    note_rear(touched, blocks.leaf(rear), leaf, rear)?;
+    note_rear(touched, reads::leaf(blocks, rear), leaf, rear)?;
     Ok(rear)
 }
 
@@ -124,7 +138,7 @@ pub(crate) fn set_stamps_in<C: Content>(
     ensures usable { OnOk result (blocks.new.usable ≡ true) }
     ensures floor { blocks.new.floor ≡ blocks.old.floor }
 {
-    note_stamps(touched, &blocks.leaf(id).stamps, &e, id)?;
+    note_stamps(touched, &reads::leaf(blocks, id).stamps, &e, id)?;
     blocks.set_stamps(id, e)
 }
 
@@ -210,8 +224,8 @@ pub(crate) fn join_in<C: Content + Drop>(
     ensures floor { blocks.new.floor ≡ blocks.old.floor }
 {
     // What holds of the leaves at any time is read off its contract.
-    let _first = blocks.first();
-    purge_given(touched, blocks.next(id));
+    let _first = reads::first(blocks);
+    purge_given(touched, reads::next(blocks, id));
     blocks.join_next(id)
 }
 
@@ -233,6 +247,6 @@ pub(crate) fn move_in<C: Content>(
     ensures floor { blocks.new.floor ≡ blocks.old.floor }
 {
     // What holds of the leaves at any time is read off its contract.
-    let _first = blocks.first();
+    let _first = reads::first(blocks);
     blocks.move_after(id, at)
 }

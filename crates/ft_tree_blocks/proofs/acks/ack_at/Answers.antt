@@ -7,22 +7,21 @@ use Rattle.ft_tree_leaves.specs.declared.block_leaf.LeafChange.TheVariants.{Ack}
 use Rattle.ft_tree_leaves.specs.BlockChanges.{changed_leaf}
 use Rattle.ft_tree_leaves.specs.Edits.{is_marked_by}
 use Rattle.ft_tree_leaves.specs.LeafChanges.{acked_leaf, with_leaf_stamps}
-use Rattle.ft_tree_blocks.proofs.Acknowledged.{acked_stays, neither}
+use Rattle.ft_tree_blocks.proofs.Acknowledged.{acked_stays, neither, on-ok}
 use Rattle.ft_tree_blocks.proofs.WalkEdits.{change-here, change-nothing, change-twice, times-change}
 use Rattle.ft_tree_blocks.proofs.acks.ack_at.Goals as goal
-
-pub change-requires : goal.change-requires
-change-requires g c = record { usable = c.requires.usable; can = c.requires.lowest }
 
 pub set_stamps-requires : goal.set_stamps-requires
 set_stamps-requires g c =
     let xs = c.args.blocks.now.leaves in
+    let done = c.in_ok-stamps.ensures.done in
+    let changed = on-ok c.ack_changes-changed.result done.0 done.1 c.ack_changes-changed.ensures.ok in
     let f : TreeLeaf g.row.C.Denot → TreeLeaf g.row.C.Denot = λ x. changed_leaf g.C.Content.stamped x (Ack c.args.stage c.args.seq c.args.conn) in
     record {
-      usable = c.in_ok-change.ensures.usable;
+      usable = on-ok c.ack_changes-changed.result done.0 done.1 c.ack_changes-changed.ensures.usable;
       live = omega (
         arith,
-        ap (λ (zs : List (ℕ × TreeLeaf g.row.C.Denot)). times_leaf zs c.args.id) c.in_ok-change.ensures.ok,
+        ap (λ (zs : List (ℕ × TreeLeaf g.row.C.Denot)). times_leaf zs c.args.id) changed,
         times-change f xs c.args.id c.args.id,
         c.requires.live,
       );
@@ -41,9 +40,11 @@ returns-clause-leaves g c =
     let xs = c.args.blocks.now.leaves in
     let id = c.args.id in
     let v = c.leaf-leaf.result.now in
-    let e = c.in_ok-e.e in
+    let done = c.in_ok-stamps.ensures.done in
+    let changed = on-ok c.ack_changes-changed.result done.0 done.1 c.ack_changes-changed.ensures.ok in
+    let e = c.in_ok-stamps.stamps in
     let f : TreeLeaf g.row.C.Denot → TreeLeaf g.row.C.Denot = λ x. changed_leaf g.C.Content.stamped x (Ack c.args.stage c.args.seq c.args.conn) in
     let h : TreeLeaf g.row.C.Denot → TreeLeaf g.row.C.Denot = with_leaf_stamps (λ s. e) in
-    c.in_ok-set_stamps.ensures.ok ∙ ap (λ (zs : List (ℕ × TreeLeaf g.row.C.Denot)). change_leaf h zs id) c.in_ok-change.ensures.ok ∙ change-twice h f xs id
+    c.in_ok-set_stamps.ensures.ok ∙ ap (λ (zs : List (ℕ × TreeLeaf g.row.C.Denot)). change_leaf h zs id) changed ∙ change-twice h f xs id
     ∙ change-here (λ x. h (f x)) (acked_leaf g.C.Content.stamped c.args.stage c.args.seq c.args.conn) xs id v c.first-first.ensures.once c.leaf-leaf.ensures
-    (ap (λ (s : ElementStamps). with_leaf_stamps (λ t. s) (f v)) c.in_ok-e.ensures)
+    (ap (λ (s : ElementStamps). with_leaf_stamps (λ t. s) (f v)) (c.in_ok-stamps.ensures.value ∙ c.in_ok-e.ensures))

@@ -1,5 +1,4 @@
 use Rattle.std.proofs.Common.{◌≡◌, ℕ, List, subst, sym, ◌∙◌, ap, refl}
-use Rattle.ft_base.specs.declared.elements.Element.{Element}
 use Rattle.ft_block.specs.Leaves.{IsLeafIn, put_leaf, value_at}
 use Rattle.ft_tree_leaves.specs.declared.leaves.TreeLeaf.{TreeLeaf}
 use Rattle.ft_tree_blocks.specs.Touched.{is_stamped_by}
@@ -21,12 +20,11 @@ returns-clause-tracks g c =
     let leaf = c.args.leaf in
     let read : c.leaf.result.now ≡ leaf = new_put xs c.args.at id leaf c.leaf.result.now c.in_ok-id.ensures.fresh
     (ap (λ (ys : List (ℕ × TreeLeaf g.row.C.Denot)). value_at ys id) (sym c.in_ok-id.ensures.ok) ∙ c.leaf.ensures) in
-    tracks-is (put_leaf xs c.args.at (id, leaf)) _ c.note_stamps.new.touched.items _ c.in_ok-id.ensures.ok refl
-    (tracks-insert xs ss c.requires.tracks c.args.at id leaf c.note_stamps.new.touched.items c.in_ok-note_stamps.ensures.notes c.in_ok-id.ensures.fresh
+    tracks-is (put_leaf xs c.args.at (id, leaf)) _ c.note_new.new.touched.items _ c.in_ok-id.ensures.ok refl
+    (tracks-insert xs ss c.requires.tracks c.args.at id leaf c.note_new.new.touched.items c.in_ok-note_new.ensures.notes c.in_ok-id.ensures.fresh
     c.first-first.ensures.once c.requires.place
-    (λ k t. c.in_ok-note_stamps.ensures.listed k
-    (ap (λ (x : TreeLeaf g.row.C.Denot). is_stamped_by k x.stamps) read ∙ new_touched leaf k c.requires.settled t)
-    (ap (λ (e : Element). is_stamped_by k e) c.universal-old.ensures)))
+    (λ k t. c.in_ok-note_new.ensures.listed k
+    (ap (λ (x : TreeLeaf g.row.C.Denot). is_stamped_by k x.stamps) read ∙ new_touched leaf k c.requires.settled t)))
 
 pub returns-clause-puts : goal.returns-clause-puts
 returns-clause-puts g c = record { ok = c.in_ok-id.ensures.ok; fresh = c.in_ok-id.ensures.fresh }
