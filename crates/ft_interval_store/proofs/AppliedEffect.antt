@@ -16,7 +16,7 @@ use Rattle.ft_interval_store.specs.Intervals.{after_operation}
 use Rattle.ft_interval_store.specs.State.{AreKeptOnce, CollectionsState, HandsOn, IsFirst, IsInOrder, IsLive, IsMarked, KeepsReferences, ends_of_intervals, ends_of_operations, ends_with, keeps, placed, placed_intervals, first_operation, times_kept, with_effect, with_first_acked}
 use Rattle.ft_interval_store.proofs.HandedOn.{held, no-times, none-there, one-there, some-times}
 use Rattle.ft_interval_store.proofs.KeptEnds.{any_intervals, any_operations, intervals-same, operations-same}
-use Rattle.ft_interval_store.proofs.TakenEffect.{effect-in_order, effect-live, effect-marked, effect-others, first-in_order, first-kept_once, first-references, first-stays, others-stay, rise-below}
+use Rattle.ft_interval_store.proofs.TakenEffect.{effect-in_order, effect-live, effect-marked, effect-others, first-in_order, first-kept_once, first-references, first-stays, others-stay}
 
 pub there : (o : Option Reference) → option_map (λ (x : Reference). x.acked) o ≡ Some false → IsSome o
 there None h = absurd cc
@@ -138,21 +138,6 @@ first-places xs is now t ts before after o hands h =
     let pending = operations-same before after ts (first-stays is now t ts before after o hands) in
     λ i. record { acked = h i; pending = pending i }
 
--- without the first pending operation
-pub rest-in_order : (is : List (Interval ℕ)) (t : Operation) (ts : List Operation)
-    → (let whole : CollectionsState = record { acked = is; pending = t ∷ ts } in let left : CollectionsState = record { acked = is; pending = ts } in
-    IsInOrder whole → IsInOrder left)
-rest-in_order is t ts o = record {
-  once = λ r. (let p = is_reference r in
-      let all = len-append p (ends_of_intervals is) (both_ends t.ends ++ ends_of_operations ts) in
-      let back = len-append p (both_ends t.ends) (ends_of_operations ts) in
-      let few = len-append p (ends_of_intervals is) (ends_of_operations ts) in
-      let one : len p (ends_of_intervals is ++ (both_ends t.ends ++ ends_of_operations ts)) ≤ 1 = o.once r in
-      let less : len p (ends_of_intervals is ++ ends_of_operations ts) ≤ 1 = omega (arith, all, back, few, one) in
-      less);
-  rising = rise-below 0 t.stage ts (omega arith) o.rising.1;
-}
-
 -- of two facts after an answer
 pub both-ok : {T E : Type 0} (r : Result T E) (P Q R : Type 0) → (P → Q → R) → OnOk r P → OnOk r Q → OnOk r R
 both-ok (Ok x) P Q R f a b = f a b
@@ -190,12 +175,6 @@ module _ (is : List (Interval ℕ)) (ps : List Operation) (t : Operation) (ts : 
   pub ack-in_order : (new : List (Interval ℕ)) (after : References) → HandsOn t.ends is new before after
       → (let x : CollectionsState = record { acked = new; pending = ts } in IsInOrder x)
   ack-in_order new after hands = first-in_order is new t ts before after first-order hands
-
-  -- where it takes no effect it is gone all the same
-  pub ack-failed : (now-acked : List (Interval ℕ)) → now-acked ≡ is → (let x : CollectionsState = record { acked = now-acked; pending = ts } in IsInOrder x)
-  ack-failed now-acked same =
-      let P : List (Interval ℕ) → Type 0 = λ us. (let x : CollectionsState = record { acked = us; pending = ts } in IsInOrder x) in
-      subst P (sym same) (rest-in_order is t ts first-order)
 
   pub ack-references : (new : List (Interval ℕ)) (after : References) → HandsOn t.ends is new before after
       → (let x : CollectionsState = record { acked = new; pending = ts } in KeepsReferences now x before after)

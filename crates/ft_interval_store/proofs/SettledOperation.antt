@@ -374,8 +374,15 @@ module _ {is : List (Interval ℕ)} {ps : List Operation} {i : ℕ} {d : Operati
     new-is : settled is front own back places again before mid ≡ with-new
     new-is = ap (λ (us : List Operation). let x : CollectionsState = record { acked = is; pending = us } in x) (sym (set-around ps i (record own { ends = again }) within))
 
-    pub settle-in_order : IsInOrder with-new
+    settle-in_order : IsInOrder with-new
     settle-in_order = subst (λ x. IsInOrder x) new-is (settled-in_order is front own back places again before mid cut-order cut-live added)
+
+    -- the same of what is written at its place
+    pub settle-written : (x : Operation) → x ≡ get_or ps i x
+        → (let y : CollectionsState = record { acked = is; pending = set ps i (record x { ends = again }) } in IsInOrder y)
+    settle-written x e =
+        subst (λ (t : Operation). let y : CollectionsState = record { acked = is; pending = set ps i (record t { ends = again }) } in IsInOrder y)
+        (sym (settle-own x e)) settle-in_order
 
     module _ (after : References) (dropped : (r : ℕ) → reference_at after r ≡ cond (holds_end r own.ends) None (reference_at mid r)) where
       pub settle-references : KeepsReferences now with-new before after

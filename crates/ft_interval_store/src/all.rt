@@ -12,6 +12,7 @@ ghost use Rattle.ft_interval_store.specs.Standing.{AreOnTree, HasNoRemoval, HasP
 ghost use Rattle.ft_interval_store.specs.State.{AreLiveIntervals, AreLiveOperations, StagesRise, placed_intervals, placed_operations, text_elements, with_mapped_ends};
 
 use crate::intervals::{Held, Interval, Intervals};
+use crate::moved::{all_made, push};
 use crate::pages::Pages;
 use crate::pending::Operation;
 use crate::standing::{carried, removal_until, settled, shown_numbers};
@@ -29,11 +30,12 @@ fn placed(tree: &Tree<TextContent>, i: &Interval<RefId>) -> Result<Interval<Plac
     ensures { let xs = text_elements tree.now in
         IfOk result (ShowsInterval tree.now 0 (settled_interval xs 0 (with_mapped_ends (places_of_ends tree.now.refs) i.now))) }
 {
+    let (label, id, props) = all_made(i.label.copy(), i.id.copy(), i.props.copy())?;
     Ok(Interval {
-        label: i.label.copy()?,
-        id: i.id.copy()?,
+        label,
+        id,
         ends: settled(tree, i.ends, 0),
-        props: i.props.copy()?,
+        props,
     })
 }
 
@@ -66,7 +68,7 @@ fn placed_page(
 {
     let mut items = Vec::with_capacity(alloc, page.len())?;
     for i in page {
-        items.push(placed_on_heap(alloc, tree, i)?)?;
+        push(&mut items, placed_on_heap(alloc, tree, i)?)?;
     }
     Ok(items)
 }
@@ -199,7 +201,7 @@ fn add_records(
     ensures { OnOk result (records.new.items ≡ records.old.items ++ map (record_at tree.now) page.items) }
 {
     for i in page {
-        records.push(record_at(tree, i.into_interval()))?;
+        push(records, record_at(tree, i.into_interval()))?;
     }
     Ok(())
 }
@@ -250,7 +252,7 @@ fn add_acked_records(
     ensures { OnOk result (records.new.items ≡ records.old.items ++ map (acked_record tree.now) page.now) }
 {
     for i in page {
-        records.push(acked_record(tree, i.get())?)?;
+        push(records, acked_record(tree, i.get())?)?;
     }
     Ok(())
 }

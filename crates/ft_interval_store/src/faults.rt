@@ -36,10 +36,10 @@ impl fmt::Display for IntervalFault {
 
     fn fmt<W: fmt::Write>(&self, f: &mut fmt::Formatter<W>) -> fmt::Result {
         match *self {
-            IntervalFault::IdInUse => write!(f, "IdInUse"),
-            IntervalFault::NoSuchInterval => write!(f, "NoSuchInterval"),
+            IntervalFault::IdInUse => f.write_str("IdInUse"),
+            IntervalFault::NoSuchInterval => f.write_str("NoSuchInterval"),
             IntervalFault::OutOfRange { length } => write!(f, "OutOfRange length {length}"),
-            IntervalFault::OutOfMemory => write!(f, "OutOfMemory"),
+            IntervalFault::OutOfMemory => f.write_str("OutOfMemory"),
         }
     }
 }

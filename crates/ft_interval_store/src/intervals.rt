@@ -1,6 +1,6 @@
 //! Intervals by rising label and id.
 
-ghost use Rattle.std.specs.Prelude.{◌≡◌, [], IfOk, OnOk, OnErr, option_copied};
+ghost use Rattle.std.specs.Prelude.{◌≡◌, [], IfOk, OnOk, OnErr, cond, is_some, option_copied};
 ghost use Rattle.std.specs.Ordering.{is_eq};
 ghost use Rattle.ft_props.specs.Keys.{put_rising};
 ghost use Rattle.ft_props.specs.Properties.{apply};
@@ -9,6 +9,7 @@ ghost use Rattle.ft_interval_store.specs.Intervals.{Name, added_interval, after_
 ghost use Rattle.ft_interval_store.specs.Pages.{AreFilled, from_pages};
 ghost use Rattle.ft_interval_store.specs.State.{AreOwnEnds, IsEndsAfter, ends_changed, ends_missing};
 
+use crate::moved::all_made;
 use crate::pages::Pages;
 use crate::search::search_in;
 use ft_base::{Datum, OutOfMemory, Text};
@@ -107,21 +108,29 @@ impl<T: Copy> Held<T> {
         ensures ends { IfOk result (λ after. after ≡ ends_changed given ends self.old.ends) }
         ensures err { OnErr result (self.new ≡ self.old) }
     {
-        let had = self.interval.ends;
         self.set_props(props)?;
+        Ok(self.give_ends(given, ends))
+    }
+
+    // Gives it the ends, if an operation gives some. It returns which it has then, and which no interval has.
+    fn give_ends(&mut self, given: Option<Ends>, ends: EndPair<T>) -> EndsAfter<T>
+        ensures interval { self.new ≡ record self.old { ends = cond (is_some given) ends self.old.ends } }
+        ensures ends { result ≡ ends_changed given ends self.old.ends }
+    {
+        let had = self.interval.ends;
         if given.is_none() {
-            return Ok(EndsAfter {
+            return EndsAfter {
                 kept: had,
                 unused: ends,
                 lost: EndPair::none(),
-            });
+            };
         }
         self.interval.ends = ends;
-        Ok(EndsAfter {
+        EndsAfter {
             kept: ends,
             unused: EndPair::none(),
             lost: had,
-        })
+        }
     }
 }
 
@@ -208,13 +217,17 @@ fn added<T: Copy + Drop>(
 ) -> Result<Held<T>, OutOfMemory>
     ensures { IfOk result (λ held. held ≡ added_interval label.now id.now ends props.now) }
 {
-    let interval = Interval {
-        label: label.copy()?,
-        id: id.copy()?,
-        ends,
-        props: Props::new(alloc).applied(props)?,
-    };
-    Held::new(alloc, interval)
+    let props = Props::new(alloc).applied(props);
+    let (label, id, props) = all_made(label.copy(), id.copy(), props)?;
+    Held::new(
+        alloc,
+        Interval {
+            label,
+            id,
+            ends,
+            props,
+        },
+    )
 }
 
 /// Intervals by rising label and id, so that no name stands twice. One is found by a binary search for its page, and by

@@ -8,7 +8,7 @@ ghost use Rattle.ft_props.specs.Element.{ElementContent};
 ghost use Rattle.ft_interval_store.specs.declared.intervals.EndPair.{EndPair};
 ghost use Rattle.ft_interval_store.specs.Ends.{AreAddedEnds, AreLiveEnds, IsAddedEnd, IsLiveEnd, map_ends, place_of_end, places_of_ends};
 ghost use Rattle.ft_interval_store.specs.Numbers.{AreNumbers, IsNumber, number_or_none};
-ghost use Rattle.ft_interval_store.specs.Shown.{regenerated, settled_end};
+ghost use Rattle.ft_interval_store.specs.Shown.{numbers_at, regenerated, settled_end};
 ghost use Rattle.ft_interval_store.specs.State.{text_elements};
 
 use crate::intervals::EndPair;
@@ -61,37 +61,46 @@ pub fn ends_of_numbers(numbers: EndPair<u64>) -> Ends
     }
 }
 
-/// The operation with these numbers as its ends, if it gives some.
-pub fn with_numbers(op: &TextOp, numbers: EndPair<u64>) -> Result<TextOp, OutOfMemory>
-    ensures { (xs : List (TreeElement ElementContent)) → (k : ℕ) → (ends : EndPair ℕ) → AreNumbers xs k ends numbers
-        → IfOk result (λ again. again ≡ regenerated xs k ends op.now) }
+// The operation with these ends, if it gives some.
+fn with_ends(op: TextOp, ends: Ends) -> TextOp
+    ensures { (xs : List (TreeElement ElementContent)) → (k : ℕ) → (now : EndPair ℕ) → ends ≡ numbers_at xs k now
+        → result ≡ regenerated xs k now op }
 {
-    let ends = ends_of_numbers(numbers);
     match op {
         TextOp::IntervalAdd {
             label,
             id,
             props,
             ..
-        } => Ok(TextOp::IntervalAdd {
-            label: label.copy()?,
-            id: id.copy()?,
+        } => TextOp::IntervalAdd {
+            label,
+            id,
             ends,
-            props: props.copy()?,
-        }),
+            props,
+        },
         TextOp::IntervalChange {
             label,
             id,
             ends: given,
             props,
-        } => Ok(TextOp::IntervalChange {
-            label: label.copy()?,
-            id: id.copy()?,
+        } => TextOp::IntervalChange {
+            label,
+            id,
             ends: given.and(Some(ends)),
-            props: props.copy()?,
-        }),
-        TextOp::IntervalDelete { .. } | TextOp::One(_) | TextOp::Group(_) => op.copy(),
+            props,
+        },
+        TextOp::IntervalDelete { .. } | TextOp::One(_) | TextOp::Group(_) => op,
     }
+}
+
+/// The operation with these numbers as its ends, if it gives some.
+pub fn with_numbers(op: &TextOp, numbers: EndPair<u64>) -> Result<TextOp, OutOfMemory>
+    ensures { (xs : List (TreeElement ElementContent)) → (k : ℕ) → (ends : EndPair ℕ) → AreNumbers xs k ends numbers
+        → IfOk result (λ again. again ≡ regenerated xs k ends op.now) }
+{
+    let ends = ends_of_numbers(numbers);
+    let again = op.copy()?;
+    Ok(with_ends(again, ends))
 }
 
 /// Puts pending references on the elements that the stage sees at these numbers.

@@ -5,6 +5,7 @@ ghost use Rattle.std.specs.Borrow.{sem};
 ghost use Rattle.std.specs.List.{insert, remove, slice_index_or};
 ghost use Rattle.ft_interval_store.specs.Pages.{AreFilled, IsPageGap, IsPagePlace, count_before, from_pages};
 
+use crate::moved::push;
 use ft_base::OutOfMemory;
 use std::alloc::Global;
 use std::marker::Model;
@@ -92,7 +93,7 @@ impl<T: Drop> Pages<T> {
         let Some(len) = self.len.checked_add(page.len()) else {
             return Err(OutOfMemory);
         };
-        self.pages.push(page)?;
+        push(&mut self.pages, page)?;
         self.len = len;
         Ok(())
     }
@@ -225,9 +226,8 @@ fn push_first<T: Drop>(pages: &mut Vec<Vec<T>>, element: T) -> Result<(), OutOfM
     ensures err { OnErr result (pages.new.items ≡ pages.old.items) }
 {
     let mut first = Vec::new(*pages.allocator());
-    first.push(element)?;
-    pages.push(first)?;
-    Ok(())
+    push(&mut first, element)?;
+    push(pages, first)
 }
 
 // The gap before the element at that place of the list, behind the element before it if there is one.

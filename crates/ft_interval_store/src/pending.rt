@@ -9,6 +9,7 @@ ghost use Rattle.ft_interval_store.specs.Shown.{last};
 ghost use Rattle.ft_interval_store.specs.State.{is_add, is_at_stage};
 
 use crate::intervals::{EndPair, is_same_name};
+use crate::moved::push;
 use ft_base::{Datum, OutOfMemory, Text};
 use ft_op::{Ends, TextOp};
 use ft_refs::RefId;
@@ -30,17 +31,6 @@ impl Operation {
     {
         self.stage
     }
-}
-
-// Adds an operation behind all others.
-//
-// Returns `OutOfMemory` where there is no room for it, and then nothing changed.
-fn push(pending: &mut Vec<Operation>, operation: Operation) -> Result<(), OutOfMemory>
-    ensures ok { OnOk result (pending.new.items ≡ pending.old.items ++ operation ∷ []) }
-    ensures err { OnErr result (pending.new.items ≡ pending.old.items) }
-{
-    pending.push(operation)?;
-    Ok(())
 }
 
 /// Adds a copy of an operation with these ends behind all others.

@@ -219,9 +219,10 @@ impl Store {
         ensures rest { OnOk result (tree.new ≡ record tree.old { refs = tree.new.refs }) }
         ensures err { OnErr result (tree.new.usable ≡ false) }
     {
-        let t = self.pending.remove(0);
-        let ends = take_effect(&mut self.acked, tree, found.place, &t.op, &t.ends)?;
-        Ok(AckedOperation { op: t.op, ends })
+        let first = &self.pending[0];
+        let ends = take_effect(&mut self.acked, tree, found.place, &first.op, &first.ends)?;
+        let Operation { op, .. } = self.pending.remove(0);
+        Ok(AckedOperation { op, ends })
     }
 
     /// The stage of the first pending operation: None exactly where nothing is pending.
@@ -356,13 +357,13 @@ impl Store {
             unreachable!();
         };
         let numbers = settled_numbers(tree, self.pending[i].ends, stage);
+        let again = add_numbers(tree, &numbers, stage)?;
+        drop_ends(tree, self.pending[i].ends);
+        self.pending[i].ends = again;
         let Ok(op) = with_numbers(&self.pending[i].op, numbers) else {
             tree.spoil();
             return Err(OutOfMemory);
         };
-        let again = add_numbers(tree, &numbers, stage)?;
-        drop_ends(tree, self.pending[i].ends);
-        self.pending[i].ends = again;
         Ok(op)
     }
 }

@@ -71,3 +71,6 @@ pub invariant_of-self : goal.invariant_of-self
 invariant_of-self c =
     subst (λ (is : List (Interval ℕ)). let x : CollectionsState = record { acked = is; pending = c.self.inside.pending.items } in IsInOrder x)
     (sym c.in_err-take_effect.ensures.err) c.self.invariant
+
+pub returns-clause-ends : goal.returns-clause-ends
+returns-clause-ends c = c.in_ok-take_effect.ensures.ends
