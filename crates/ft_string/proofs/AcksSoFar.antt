@@ -5,7 +5,11 @@ use Rattle.std.proofs.lemmas.Bool.Decides.{nat_tests}
 use Rattle.std.proofs.lemmas.List.Elements.{All-cons, All-nil}
 use Rattle.ft_base.proofs.Booleans.{both}
 use Rattle.ft_interval_store.specs.declared.pending.Operation.{Operation}
-use Rattle.ft_interval_store.specs.State.{CollectionsState, IsLive, first_stage, is_first, text_elements}
+use Rattle.ft_interval_store.specs.declared.intervals.EndPair.{EndPair}
+use Rattle.ft_interval_store.specs.declared.intervals.Interval.{Interval}
+use Rattle.ft_interval_store.specs.Ends.{References, map_ends, slid_end}
+use Rattle.ft_interval_store.specs.State.{CollectionsState, IsLive, first_stage, is_first, placed, placed_operations, text_elements, with_first_acked}
+use Rattle.std.proofs.lemmas.List.{length-map}
 use Rattle.ft_laws_agreement.proofs.NumberTests.{same_number}
 use Rattle.ft_tree_leaves.specs.declared.text.TextContent.{TextContent}
 use Rattle.ft_tree_leaves.specs.Elements.{IsLowestChange, TreeElement, acked_element}
@@ -153,6 +157,18 @@ rest-noted k s c ops us xs l n true e = kept-noted k s c ops xs n
 rest-noted k s c [] us xs l n false e = kept-noted k s c [] xs n
 rest-noted k s c (t ∷ ts) us xs l n false e = dropped-noted k s c t ts (first-element k t us l e) xs n
 
+-- a first stage on intervals is pending no more
+first-gone : (k : ℕ) (refs : References) (f : EndPair ℕ → EndPair ℕ) (acked : List (Interval ℕ)) (us : List Operation) → is_first k us ≡ true
+    → length (with_first_acked f (placed refs (record { acked = acked; pending = us }))).pending + 1 ≡ length us
+first-gone k refs f acked [] h = (cc)
+first-gone k refs f acked (u ∷ us) h = let same : length (placed_operations refs us) ≡ length us = length-map us _ in omega arith
+
+-- and where there is none, there is one on elements
+some-op : (k : ℕ) (ops : List PendingOp) (us : List Operation) → least_of (first_op ops) (first_stage us) ≡ Some k → is_first k us ≡ false → length (drop 1 ops) < length ops
+some-op k [] [] h e = (cc)
+some-op k [] (u ∷ us) h e = let same : u.stage ≡ k = some-same h in absurd (grind (arith, nat_tests))
+some-op k (t ∷ ts) us h e = omega arith
+
 module _ (end k s c : ℕ) (now mid : TreeState TextContent) (given between : CollectionsState) (rest more : List PendingOp) (h : next_below end given rest ≡ Some k)
     (a : AcksStage k s c now mid given between rest more) where
   found : least_of (first_op rest) (first_stage given.pending) ≡ Some k
@@ -169,6 +185,27 @@ module _ (end k s c : ℕ) (now mid : TreeState TextContent) (given between : Co
         (subst (λ xs. AreNoted (cond (is_first k given.pending) rest (drop 1 rest)) xs) (sym (ap (λ x. text_elements x) a.leaves ∙ a.elements))
         (rest-noted k s c rest given.pending (text_elements now) found g.noted (is_first k given.pending) refl));
   }
+
+  -- and less is pending
+  pub acks-fewer : pending_count between more < pending_count given rest
+  acks-fewer = step (is_first k given.pending) refl
+    where
+      step : (b : Bool) → is_first k given.pending ≡ b → pending_count between more < pending_count given rest
+      step true e =
+          let left : length between.pending ≡ length (with_first_acked (map_ends (slid_end (text_elements a.mid))) (placed a.mid.refs given)).pending =
+          sym (length-map between.pending _) ∙ ap (λ (x : CollectionsState). length x.pending)
+          (a.intervals ∙ ap (λ c. cond c (with_first_acked (map_ends (slid_end (text_elements a.mid))) (placed a.mid.refs given)) (placed a.mid.refs given)) e) in
+          let gone = first-gone k a.mid.refs (map_ends (slid_end (text_elements a.mid))) given.acked given.pending e in
+          let ops = ap length (a.ops_are ∙ ap (λ c. cond c rest (drop 1 rest)) e) in
+          omega arith
+      step false e =
+          let left : length between.pending ≡ length given.pending =
+          sym (length-map between.pending _) ∙ ap (λ (x : CollectionsState). length x.pending)
+          (a.intervals ∙ ap (λ c. cond c (with_first_acked (map_ends (slid_end (text_elements a.mid))) (placed a.mid.refs given)) (placed a.mid.refs given)) e)
+          ∙ length-map given.pending _ in
+          let ops = ap length (a.ops_are ∙ ap (λ c. cond c rest (drop 1 rest)) e) in
+          let some = some-op k rest given.pending found e in
+          omega arith
 
 pub acks-done : (end s c : ℕ) (first now : TreeState TextContent) (before given : CollectionsState) (ops rest : List PendingOp) → AcksSoFar end s c first now before given ops rest
     → next_below end given rest ≡ None → AcksStages end s c first now before given ops rest

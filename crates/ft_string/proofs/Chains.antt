@@ -1,5 +1,5 @@
 -- Operations of a tree one after another, as loops make them.
-use Rattle.std.proofs.Common.{◌≡◌, ℕ, zero, suc, ◌+◌, ◌≤◌, ◌<◌, All, IsTrue, List, [], ◌∷◌, ◌++◌, refl, sym, ◌∙◌, ap, subst, arith, length, drop, get_or, append_assoc}
+use Rattle.std.proofs.Common.{◌≡◌, ℕ, zero, suc, ◌+◌, ◌≤◌, ◌<◌, All, IsTrue, List, [], ◌∷◌, ◌++◌, refl, sym, ◌∙◌, ap, subst, arith, length, drop, get_or, append_assoc, append-nil}
 use Rattle.std.specs.List.{AllByRecursion}
 use Rattle.std.proofs.Math.Seq.{drop-cons}
 use Rattle.ft_base.specs.declared.elements.Perspective.{Perspective}
@@ -10,7 +10,7 @@ use Rattle.ft_op.specs.WellFormed.{IsWellFormedBase}
 use Rattle.ft_interval_store.specs.State.{text_elements}
 use Rattle.ft_props.specs.Properties.{max_safe_integer}
 use Rattle.ft_tree.specs.State.{TreeState}
-use Rattle.ft_string.specs.Edits.{put_in_by_all}
+use Rattle.ft_string.specs.Edits.{put_in_by, put_in_by_all}
 use Rattle.ft_string.specs.Parts.{TakesOp, TakesOps, TriesOp, TriesOps, noted}
 use Rattle.ft_string.specs.declared.pending.PendingOp.{PendingOp}
 use Rattle.ft_string.proofs.Above.{HaveBelow, have-below, taken-below}
@@ -99,6 +99,19 @@ pub takes-next : (first : ℕ) (all : List BaseOp) (i : ℕ) (op : BaseOp) (stag
     → after ≡ pending ++ (record { stage = stage; op = op } ∷ []) → TakesSoFar first all (drop (i + 1) all) (stage + 1) tree next before after
 takes-next first all i op stage tree now next before pending after h l e t n =
     takes-next-of first all op (drop (i + 1) all) stage tree now next before pending after (takes-here first all i op stage tree now before pending h l e) t n
+
+-- there is room for what the first one puts in
+pub takes-room : (first : ℕ) (all : List BaseOp) (i : ℕ) (op : BaseOp) (stage : ℕ) (tree now : TreeState TextContent) (before pending : List PendingOp)
+    → TakesSoFar first all (drop i all) stage tree now before pending → i < length all → op ≡ get_or all i op → now.made + put_in_by op ≤ max_safe_integer
+takes-room first all i op stage tree now before pending h l e = let m = (takes-here first all i op stage tree now before pending h l e).made in omega arith
+
+pub takes-done : (first : ℕ) (all rest : List BaseOp) (stage : ℕ) (tree now : TreeState TextContent) (before pending : List PendingOp)
+    → TakesSoFar first all rest stage tree now before pending → rest ≡ [] → TakesOps first all tree now
+takes-done first all rest stage tree now before pending h none = h.whole now (subst (λ os. TakesOps stage os now now) (sym none) refl)
+
+pub noted-done : (first : ℕ) (all rest : List BaseOp) (stage : ℕ) (tree now : TreeState TextContent) (before pending : List PendingOp)
+    → TakesSoFar first all rest stage tree now before pending → rest ≡ [] → pending ≡ before ++ noted first all
+noted-done first all rest stage tree now before pending h none = sym (h.notes ∙ ap (λ os. pending ++ noted stage os) none ∙ append-nil pending)
 
 pub takes-begin : (first : ℕ) (all : List BaseOp) (tree : TreeState TextContent) (pending : List PendingOp) → IsTrue tree.usable → AllByRecursion IsWellFormedBase all
     → All (λ e. IsAboveChanges first e.overlay) (text_elements tree) → tree.made + put_in_by_all all ≤ max_safe_integer

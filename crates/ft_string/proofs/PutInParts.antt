@@ -110,6 +110,16 @@ module _ (see past : TreeElement ElementContent → Bool) (p : ℕ) (ins : Stamp
       all-stops stops [] = refl
       all-stops stops (u ∷ us) = rw (stops (element_with (record { ins = ins; dels = [] }) by (record { acked = props; pending = [] }) u) refl, all-stops stops us) refl
 
+  -- there is room for the last one
+  pub inserts-room : (most : ℕ) (all : List ElementContent) (front : List TextContent) (x : TextContent) (left : List TextContent) (first now : TreeState TextContent)
+      → InsertsLeft all left first now → left ≡ front ++ (x ∷ []) → first.made + length all ≤ most → now.made + length (text_units x) ≤ most
+  inserts-room most all front x left first now h same fits =
+      let units : flat_map text_units left ≡ flat_map text_units front ++ text_units x =
+      ap (flat_map text_units) same ∙ flat_map-append text_units front (x ∷ []) ∙ ap (λ us. flat_map text_units front ++ us) (append-nil (text_units x)) in
+      let size : length (flat_map text_units left) ≡ length (flat_map text_units front) + length (text_units x) =
+      ap length units ∙ length-append (flat_map text_units front) (text_units x) in
+      let before = h.made in omega arith
+
   pub last-new : (front : List TextContent) (x : TextContent) (left : List TextContent) → are_new left ≡ true → left ≡ front ++ (x ∷ []) → x.by ≡ None
   last-new front x left h same = none-of x.by (both (is_none x.by) true (all-of front (x ∷ []) (sym (ap are_new same) ∙ h)).1).0
 

@@ -11,6 +11,7 @@ ghost use Rattle.ft_string.specs.Holds.{HoldsText, IsTextSound};
 ghost use Rattle.ft_string.specs.Acks.{AcksStage, AcksStages, AreNoted, OpsRise, first_op, least_of, next_below};
 ghost use Rattle.ft_string.specs.State.{KeepsRest};
 
+use crate::moved::drop_first;
 use crate::pending::PendingOp;
 use crate::strings::SharedString;
 use ft_base::OutOfMemory;
@@ -67,7 +68,7 @@ fn ack_stage(
     if intervals.first_stage() == Some(stage) {
         return intervals.ack(tree, stage);
     }
-    let _ = ops.pop_front();
+    drop_first(ops);
     Ok(())
 }
 

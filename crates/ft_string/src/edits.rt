@@ -23,6 +23,7 @@ ghost use Rattle.ft_string.specs.State.{KeepsRest};
 
 use crate::contents::insert_local;
 use crate::lengths::{have_room, put_in_by_all, test_all};
+use crate::moved::push_behind;
 use crate::pending::PendingOp;
 use crate::strings::SharedString;
 use ft_arena::NodeId;
@@ -64,6 +65,14 @@ fn take_op<G: Ledger>(
     }
 }
 
+// Notes an operation as a pending one of that stage, behind the others.
+fn note(pending: &mut VecDeque<PendingOp>, op: &BaseOp, stage: u64) -> Result<(), OutOfMemory>
+    ensures { OnOk result (pending.new.items ≡ pending.old.items ++ record { stage = stage; op = op.now } ∷ []) }
+{
+    let op = op.copy()?;
+    push_behind(pending, PendingOp { stage, op })
+}
+
 // Makes an operation at a pending stage, and notes it.
 fn take_noted<G: Ledger>(
     tree: &mut Tree<TextContent>,
@@ -81,11 +90,7 @@ fn take_noted<G: Ledger>(
     ensures reads { IsShort (One op.now) → steps.new ≤ steps.old + 9 * (tree.old.depth + 1) }
 {
     match take_op(tree, op, stage, steps) {
-        Ok(()) => {
-            let op = op.copy()?;
-            pending.push_back(PendingOp { stage, op })?;
-            Ok(())
-        }
+        Ok(()) => note(pending, op, stage),
         Err(_) => Err(OutOfMemory),
     }
 }

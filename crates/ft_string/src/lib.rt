@@ -12,6 +12,7 @@ mod contents;
 mod edits;
 mod effects;
 mod lengths;
+mod moved;
 pub mod pending;
 mod rejoining;
 mod segments;

@@ -1,7 +1,7 @@
 //! How a shared text comes back under a new connection: each pending edit is sent again, stage by stage, and then the pending
 //! leaves move to where the order will put them.
 
-ghost use Rattle.std.specs.Prelude.{◌≡◌, ℕ, ◌+◌, ◌-◌, ◌<◌, ◌≤◌, ◌^◌, ◌++◌, ◌∷◌, List, [], IfOk, IsTrue, OnErr, OnOk, cond, false, flat_map, map, nat_eq, option_map};
+ghost use Rattle.std.specs.Prelude.{◌≡◌, ℕ, ◌+◌, ◌-◌, ◌<◌, ◌≤◌, ◌^◌, ◌++◌, List, [], IfOk, IsTrue, OnErr, OnOk, cond, false, flat_map, map, nat_eq, option_map};
 ghost use Rattle.ft_op.specs.declared.operations.ChannelOp.TheVariants.{Text};
 ghost use Rattle.ft_op.specs.Document.{Document};
 ghost use Rattle.ft_op.specs.Pieces.{op_of, pieces};
@@ -13,6 +13,7 @@ ghost use Rattle.ft_string.specs.Holds.{IsTextSound};
 ghost use Rattle.ft_string.specs.Rejoins.{Gives, GivesOps, NextDue, again_of, due, has_any, has_piece, one_of, piece_op};
 
 use crate::lengths::made_in;
+use crate::moved::{after, push_if};
 use crate::pending::PendingOp;
 use crate::strings::SharedString;
 use ft_base::{Datum, OutOfMemory};
@@ -47,14 +48,15 @@ fn operation_of(op: &BaseOp, piece: Piece) -> Result<BaseOp, OutOfMemory>
     }
 }
 
-// Adds the operations that the pieces of an operation make.
-fn push_pieces(op: &BaseOp, parts: &[Piece], again: &mut BaseOps) -> Result<(), OutOfMemory>
-    ensures { OnOk result (again.new ≡ again.old ++ map (piece_op op.now) parts.now) }
+// Adds the operations that the pieces of an operation make, and returns whether there are any.
+fn push_pieces(op: &BaseOp, parts: &[Piece], again: &mut BaseOps) -> Result<bool, OutOfMemory>
+    ensures pieces { OnOk result (again.new ≡ again.old ++ map (piece_op op.now) parts.now) }
+    ensures some { IfOk result (λ some. some ≡ has_any parts.now) }
 {
     for part in parts {
         again.push(operation_of(op, *part)?)?;
     }
-    Ok(())
+    Ok(!parts.is_empty())
 }
 
 // Adds the operations as which a pending operation is sent again, and returns whether there are any.
@@ -68,12 +70,30 @@ fn push_again(
     ensures some { IfOk result (λ some. some ≡ has_piece (text_elements tree.now) op.now) }
 {
     let parts = regenerate(tree, op.stage)?;
-    push_pieces(&op.op, &parts, again)?;
-    Ok(!parts.is_empty())
+    push_pieces(&op.op, &parts, again)
 }
 
-// Takes the operations of the stages up to the last one from the front. Those of which something is sent again go behind `kept`;
-// returns what is sent.
+// Takes the operations of the stages up to the last one from the front. Those of which something is sent again go behind `kept`,
+// and what is sent into `again`.
+fn give_due(
+    tree: &Tree<TextContent>,
+    ops: &mut VecDeque<PendingOp>,
+    kept: &mut VecDeque<PendingOp>,
+    last: u64,
+    again: &mut BaseOps,
+) -> Result<(), OutOfMemory>
+    requires usable { IsTrue tree.now.usable }
+    requires none { again.old ≡ [] }
+    ensures { OnOk result (GivesOps (text_elements tree.now) (last + 1) ops.old.items ops.new.items kept.old.items kept.new.items again.new) }
+{
+    while let Some(op) = next_due(ops, last) {
+        let some = push_again(tree, &op, again);
+        push_if(kept, op, some)?;
+    }
+    Ok(())
+}
+
+// The same, and returns what is sent.
 fn give_ops(
     tree: &Tree<TextContent>,
     ops: &mut VecDeque<PendingOp>,
@@ -84,11 +104,8 @@ fn give_ops(
     ensures { IfOk result (λ sent. GivesOps (text_elements tree.now) (last + 1) ops.old.items ops.new.items kept.old.items kept.new.items sent) }
 {
     let mut again = BaseOps::new(tree.allocator());
-    while let Some(op) = next_due(ops, last) {
-        let some = push_again(tree, &op, &mut again)?;
-        keep_if(kept, op, some)?;
-    }
-    Ok(again)
+    let given = give_due(tree, ops, kept, last, &mut again);
+    after(given, again)
 }
 
 // Takes the first operation, if its stage is no later than the last one.
@@ -100,16 +117,6 @@ fn next_due(ops: &mut VecDeque<PendingOp>, last: u64) -> Option<PendingOp>
     } else {
         None
     }
-}
-
-// Adds the operation, if it goes on.
-fn keep_if(kept: &mut VecDeque<PendingOp>, op: PendingOp, goes_on: bool) -> Result<(), OutOfMemory>
-    ensures { OnOk result (kept.new.items ≡ kept.old.items ++ cond goes_on (op ∷ []) []) }
-{
-    if goes_on {
-        kept.push_back(op)?;
-    }
-    Ok(())
 }
 
 // Whether the stage of the first operation is no later than the last one.
@@ -162,7 +169,8 @@ fn give(
 
 // Adds what is in `back` to the end of `front`, and leaves nothing there.
 fn join(front: &mut VecDeque<PendingOp>, back: &mut VecDeque<PendingOp>) -> Result<(), OutOfMemory>
-    ensures { OnOk result (front.new.items ≡ front.old.items ++ back.old.items) }
+    ensures joined { OnOk result (front.new.items ≡ front.old.items ++ back.old.items) }
+    ensures none { OnOk result (back.new.items ≡ []) }
 {
     while let Some(op) = back.pop_front() {
         front.push_back(op)?;
@@ -227,8 +235,7 @@ impl SharedString {
         self.usable = false;
         normalise(&mut self.tree)?;
         join(&mut self.again, &mut self.ops)?;
-        let alloc = self.tree.allocator();
-        self.ops = mem::replace(&mut self.again, VecDeque::new(alloc));
+        mem::swap(&mut self.ops, &mut self.again);
         self.given = 0;
         self.usable = true;
         Ok(())

@@ -16,6 +16,7 @@ ghost use Rattle.ft_string.specs.Saved.{Adds, head_of, headed, joined_from, leaf
 
 use crate::contents::{characters, push_character};
 use crate::lengths::sum;
+use crate::moved::put;
 use ft_arena::NodeId;
 use ft_base::{Datum, OutOfMemory, Text};
 use ft_msg::marks::{
@@ -261,7 +262,8 @@ impl Segments {
         let begins = self.count % CHUNK_LENGTH as u64 == 0;
         self.count = sum(self.count, 1)?;
         let last = self.last.take();
-        self.last = Some(extend(&mut self.list, last, begins, c, head)?);
+        let next = extend(&mut self.list, last, begins, c, head)?;
+        put(&mut self.last, Some(next));
         Ok(())
     }
 
@@ -273,7 +275,8 @@ impl Segments {
         self.count = sum(self.count, 1)?;
         let last = self.last.take();
         end(&mut self.list, last)?;
-        self.last = Some(OpenSegment::of_marker(alloc, ref_type, head)?);
+        let next = OpenSegment::of_marker(alloc, ref_type, head)?;
+        put(&mut self.last, Some(next));
         Ok(())
     }
 

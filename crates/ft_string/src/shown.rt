@@ -6,11 +6,14 @@ ghost use Rattle.ft_msg.specs.Content.{interval_record, stage_view};
 ghost use Rattle.ft_msg.specs.Overlap.{ReadsFewNodes};
 ghost use Rattle.ft_op.specs.Document.{Document};
 ghost use Rattle.ft_op.specs.Stages.{Stage, shown_intervals};
+ghost use Rattle.ft_interval.specs.Indexes.{StandsOn};
+ghost use Rattle.ft_interval_store.specs.Shown.{shown_intervals as all_shown, shown_record};
+ghost use Rattle.ft_interval_store.specs.State.{placed, text_elements};
 ghost use Rattle.ft_sumdoc.specs.Meeting.{meets};
 ghost use Rattle.ft_props.specs.Properties.{max_safe_integer};
 ghost use Rattle.ft_string.specs.Calls.{KeepsOthers, ShowsText};
 ghost use Rattle.ft_string.specs.Holds.{HoldsText, IsTextSound};
-ghost use Rattle.ft_string.specs.Shows.{AddsLeaf, AddsShown, ShowsLeaves, characters_of, continued, is_shown_leaf, leaf_origins, markers_of, origins_in, with_properties};
+ghost use Rattle.ft_string.specs.Shows.{AddsLeaf, AddsShown, ShowsLeaves, characters_in, characters_of, continued, is_shown_leaf, leaf_origins, markers_in, markers_of, origins_in, runs_in, with_properties};
 ghost use Rattle.ft_block.specs.Leaves.{IsLeafIn, value_at};
 ghost use Rattle.ft_tree_leaves.specs.declared.leaves.TreeLeaf.{TreeLeaf};
 ghost use Rattle.ft_tree_leaves.specs.declared.text.TextContent.{TextContent};
@@ -18,10 +21,12 @@ ghost use Rattle.ft_tree_leaves.specs.TextLeaves.{text_units};
 ghost use Rattle.ft_msg.specs.declared.views.Run.{Run};
 
 use crate::lengths::made_in;
+use crate::moved::{push, put};
 use crate::strings::SharedString;
 use ft_arena::NodeId;
 use ft_attrib::{Attribution, Origin};
 use ft_base::{Datum, List, OutOfMemory, Stamp, Steps, Text, seen_at};
+use ft_interval::Collections;
 use ft_msg::{Run, Spot, Spots, View};
 use ft_props::Props;
 use ft_sumdoc::IntervalRec;
@@ -99,18 +104,14 @@ fn push_run(runs: &mut Vec<Run>, start: u64, end: u64, props: &Props) -> Result<
     if props.is_empty() {
         return Ok(());
     }
-    let Some(last) = runs.pop() else {
+    let Some(mut last) = runs.pop() else {
         return begin_run(runs, start, end, props);
     };
     if last.end == start && last.props.same(props) {
-        runs.push(Run {
-            start: last.start,
-            end,
-            props: last.props,
-        })?;
-        return Ok(());
+        last.end = end;
+        return push(runs, last);
     }
-    runs.push(last)?;
+    push(runs, last)?;
     begin_run(runs, start, end, props)
 }
 
@@ -119,8 +120,7 @@ fn begin_run(runs: &mut Vec<Run>, start: u64, end: u64, props: &Props) -> Result
     ensures { OnOk result (runs.new.items ≡ runs.old.items ++ record { start = start; end = end; props = props.now } ∷ []) }
 {
     let props = props.copy()?;
-    runs.push(Run { start, end, props })?;
-    Ok(())
+    push(runs, Run { start, end, props })
 }
 
 // Whether the client sees the elements of a leaf.
@@ -162,15 +162,37 @@ fn show_all(tree: &Tree<TextContent>) -> Result<Shown, OutOfMemory>
     Ok(shown)
 }
 
-/// The items as a list.
-pub(crate) fn listed<T: Drop>(alloc: Global, items: Vec<T>) -> Result<List<T>, OutOfMemory>
-    ensures { IfOk result (λ list. list ≡ items.items) }
+// Fills what a view has of the elements.
+fn show_elements(tree: &Tree<TextContent>, out: &mut View) -> Result<(), OutOfMemory>
+    requires { IsTrue tree.now.usable }
+    ensures text { OnOk result (out.new.text ≡ characters_in tree.now.leaves) }
+    ensures markers { OnOk result (out.new.markers ≡ markers_in 0 tree.now.leaves) }
+    ensures runs { OnOk result (out.new.runs ≡ runs_in 0 tree.now.leaves) }
+    ensures others { KeepsOthers out.old out.new }
 {
-    let mut list = List::new(alloc);
-    for item in items {
-        list.push(item)?;
-    }
-    Ok(list)
+    let shown = show_all(tree)?;
+    put(&mut out.text, Text::from_string(shown.text));
+    put(&mut out.markers, shown.markers);
+    put(&mut out.runs, List::of(shown.runs));
+    Ok(())
+}
+
+// Fills what a view has of the intervals.
+fn show_intervals(
+    intervals: &Collections,
+    tree: &Tree<TextContent>,
+    out: &mut View,
+) -> Result<(), OutOfMemory>
+    requires usable { IsTrue tree.now.usable }
+    requires stands { StandsOn tree.now intervals.now }
+    ensures intervals { let xs = text_elements tree.now in
+        let c = placed tree.now.refs intervals.now.state in
+        OnOk result (out.new.intervals ≡ map (shown_record xs) (all_shown xs c.acked c.pending)) }
+    ensures others { out.new ≡ record out.old { intervals = out.new.intervals } }
+{
+    let all = intervals.all(tree)?;
+    put(&mut out.intervals, List::of(all));
+    Ok(())
 }
 
 // Adds who inserted the elements of a leaf, if the client sees them.
@@ -228,18 +250,11 @@ impl SharedString {
             → OnOk result (ShowsText last doc stages out.new) }
         ensures others { KeepsOthers out.old out.new }
     {
-        let alloc = self.tree.allocator();
         // That ends are numbers, and that names rise, is read off these contracts.
         let _made = made_in(&self.tree);
         let _first = self.intervals.first_stage();
-        let shown = show_all(&self.tree)?;
-        let intervals = listed(alloc, self.intervals.all(&self.tree)?)?;
-        let runs = listed(alloc, shown.runs)?;
-        out.text = Text::from_string(shown.text);
-        out.markers = shown.markers;
-        out.runs = runs;
-        out.intervals = intervals;
-        Ok(())
+        show_elements(&self.tree, out)?;
+        show_intervals(&self.intervals, &self.tree, out)
     }
 
     /// The shown intervals of the label that meet the places from `a` to `b`, by rising id: those that aren't detached, start at

@@ -5,23 +5,25 @@ ghost use Rattle.ft_op.specs.Document.{Document};
 ghost use Rattle.ft_msg.specs.Summary.{doc_of, segment_bodies};
 ghost use Rattle.ft_props.specs.Keys.{key_cmp, put_rising};
 ghost use Rattle.ft_props.specs.Properties.{apply};
+ghost use Rattle.ft_sumdoc.specs.declared.summary.IntervalRec.{IntervalRec};
 ghost use Rattle.ft_sumdoc.specs.Forms.{rises};
 ghost use Rattle.ft_sumdoc.specs.Valid.{IsValidSummary, is_interval_before};
 ghost use Rattle.ft_interval.specs.Indexes.{StandsOn};
-ghost use Rattle.ft_interval_store.specs.State.{text_elements};
+ghost use Rattle.ft_interval_store.specs.State.{is_interval_operation, text_elements};
 ghost use Rattle.ft_tree_leaves.specs.References.{reference_at};
 ghost use Rattle.ft_tree_leaves.specs.TextLeaves.{text_units};
 ghost use Rattle.ft_string.specs.Calls.{HasNoText, KeepsSummary, SavesText};
 ghost use Rattle.ft_string.specs.Contents.{contents_in};
 ghost use Rattle.ft_string.specs.Holds.{HoldsSome, HoldsText, IsTextSound};
 ghost use Rattle.ft_string.specs.Loads.{AddsInterval, AllFitOn, Appends, HasIntervals, IsAddOf, everybody, fits_on, given_ends, given_property, segment_elements, summary_elements};
+ghost use Rattle.ft_string.specs.Parts.{AreSound, state_of};
 
 use crate::contents::{Contents, runs_of};
 use crate::lengths::{have_room, made_in};
+use crate::moved::{beside, both, put};
 use crate::segments::segments_of;
-use crate::shown::listed;
 use crate::strings::SharedString;
-use ft_base::{Datum, OutOfMemory, Perspective, Text};
+use ft_base::{Datum, List, OutOfMemory, Perspective, Text};
 use ft_interval::Collections;
 use ft_json::ValText;
 use ft_msg::marks::element_of;
@@ -111,8 +113,7 @@ fn append_all(tree: &mut Tree<TextContent>, segs: &[SegRec]) -> Result<(), OutOf
 fn put_copy(set: &mut PropSet, property: &(Text, ValText)) -> Result<(), OutOfMemory>
     ensures { OnOk result (set.new ≡ put_rising key_cmp (given_property property.now) set.old) }
 {
-    let key = property.0.copy()?;
-    let value = property.1.copy()?;
+    let (key, value) = both(property.0.copy(), property.1.copy())?;
     set.put(key, Some(value))
 }
 
@@ -142,9 +143,8 @@ fn given_ends(ends: Ends2) -> Ends
 fn add_of(i: &IntervalRec) -> Result<TextOp, OutOfMemory>
     ensures { IfOk result (λ op. IsAddOf i.now op) }
 {
-    let label = i.label.copy()?;
-    let id = i.id.copy()?;
-    let props = set_of(&i.props)?;
+    let names = both(i.label.copy(), i.id.copy());
+    let ((label, id), props) = both(names, set_of(&i.props))?;
     Ok(TextOp::IntervalAdd {
         label,
         id,
@@ -158,6 +158,24 @@ fn everybody() -> Perspective
     ensures { result ≡ everybody }
 {
     Perspective { r: u64::MAX, c: 0 }
+}
+
+// Applies the operation that adds an interval of a summary.
+fn apply_add(
+    intervals: &mut Collections,
+    tree: &mut Tree<TextContent>,
+    op: &TextOp,
+) -> Result<(), OutOfMemory>
+    requires usable { IsTrue tree.old.usable }
+    requires floor { tree.old.floor ≡ 0 }
+    requires stands { StandsOn tree.old intervals.old }
+    requires kind { is_interval_operation op.now ≡ true }
+    ensures adds { (i : IntervalRec) → IsAddOf i op.now → fits_on (text_elements tree.old) i ≡ true
+        → OnOk result (AddsInterval i intervals.old.state intervals.new.state tree.old tree.new) }
+    ensures stands { OnOk result (StandsOn tree.new intervals.new) }
+{
+    let _fits = intervals.apply(tree, op, everybody())?;
+    Ok(())
 }
 
 // Adds an interval of a summary, where its ends fit.
@@ -174,8 +192,9 @@ fn add_interval(
     ensures stands { OnOk result (StandsOn tree.new intervals.new) }
 {
     let op = add_of(i)?;
-    let _fits = intervals.apply(tree, &op, everybody())?;
-    Ok(())
+    let added = apply_add(intervals, tree, &op);
+    drop(op);
+    added
 }
 
 // The intervals of a summary, by rising names, on a tree that has no references.
@@ -198,6 +217,19 @@ fn intervals_on(
     Ok(intervals)
 }
 
+// Puts the elements and the intervals of a summary on a tree that has none.
+fn fill(tree: &mut Tree<TextContent>, doc: &SumDoc) -> Result<Collections, OutOfMemory>
+    requires none { tree.old ≡ record { leaves = []; refs = []; floor = 0; sweep = None; made = 0; depth = 0; usable = true } }
+    requires valid { IsValidSummary doc.now }
+    ensures holds { IfOk result (λ c. HoldsText (state_of tree.new c.state [] 0 true) (doc_of doc.now) []) }
+    ensures sound { IfOk result (λ c. AreSound tree.new c.state) }
+    ensures stands { IfOk result (λ c. StandsOn tree.new c) }
+    ensures floor { OnOk result (tree.new.floor ≡ 0) }
+{
+    append_all(tree, doc.text.as_slice())?;
+    intervals_on(tree, doc.intervals.as_slice())
+}
+
 impl SharedString {
     /// The text that a summary gives.
     pub fn load(alloc: Global, doc: &SumDoc) -> Result<SharedString, OutOfMemory>
@@ -209,8 +241,8 @@ impl SharedString {
         ensures usable { IfOk result (λ s. IsTrue s.usable) }
     {
         let mut tree = Tree::new(alloc);
-        append_all(&mut tree, doc.text.as_slice())?;
-        let intervals = intervals_on(&mut tree, doc.intervals.as_slice())?;
+        let intervals = fill(&mut tree, doc);
+        let (intervals, tree) = beside(intervals, tree)?;
         Ok(SharedString {
             tree,
             intervals,
@@ -238,10 +270,9 @@ impl SharedString {
         let _made = made_in(&self.tree);
         let _first = self.intervals.first_stage();
         let text = segments_of(&self.tree, doc.min)?;
-        let all = self.intervals.all(&self.tree)?;
-        let intervals = listed(self.tree.allocator(), all)?;
-        doc.text = text;
-        doc.intervals = intervals;
+        put(&mut doc.text, text);
+        let intervals = self.intervals.all(&self.tree)?;
+        put(&mut doc.intervals, List::of(intervals));
         Ok(())
     }
 }

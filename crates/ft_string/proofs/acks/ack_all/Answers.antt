@@ -1,6 +1,6 @@
 use Rattle.std.proofs.Common.{◌+◌, ◌∙◌, sym}
 use Rattle.ft_interval_store.specs.State.{text_elements}
-use Rattle.ft_string.proofs.AcksSoFar.{acks-done, acks-next, lowest}
+use Rattle.ft_string.proofs.AcksSoFar.{acks-done, acks-fewer, acks-next, lowest}
 use Rattle.ft_string.proofs.StandingIndexes.{acked-marked}
 use Rattle.ft_string.proofs.acks.ack_all.Goals as goal
 
@@ -33,6 +33,11 @@ loop-stage-preserved c = record {
   marked = acked-marked c.in-Some.stage c.args.seq c.args.conn c.loop-stage.tree c.ack_stage.new.tree c.loop-stage.intervals.state c.ack_stage.new.intervals.state c.loop-stage.ops.items
       c.ack_stage.new.ops.items c.in_ok-ack_stage.ensures.stage c.loop-stage.invariant.marked;
 }
+
+pub loop-stage-smaller : goal.loop-stage-smaller
+loop-stage-smaller c =
+    acks-fewer (c.args.last + 1) c.in-Some.stage c.args.seq c.args.conn c.loop-stage.tree c.ack_stage.new.tree c.loop-stage.intervals.state c.ack_stage.new.intervals.state c.loop-stage.ops.items
+    c.ack_stage.new.ops.items (sym c.next_up_to.ensures ∙ c.in-Some.is) c.in_ok-ack_stage.ensures.stage
 
 pub returns-clause-stages : goal.returns-clause-stages
 returns-clause-stages c =

@@ -5,9 +5,9 @@ use Rattle.ft_block.specs.Leaves.{last_stage}
 use Rattle.ft_tree_leaves.specs.Elements.{seen_in}
 use Rattle.ft_tree_leaves.specs.TextLeaves.{text_units}
 use Rattle.ft_op.specs.Operation.{segment_contents}
-use Rattle.ft_props.specs.Properties.{apply}
+use Rattle.ft_props.specs.Properties.{apply, max_safe_integer}
 use Rattle.ft_string.specs.Contents.{contents_in}
-use Rattle.ft_string.proofs.PutInParts.{fewer, inserts-begin, inserts-done, inserts-next, last-new, puts-by, puts-made, reads-begin, reads-next}
+use Rattle.ft_string.proofs.PutInParts.{fewer, inserts-begin, inserts-done, inserts-next, inserts-room, last-new, puts-by, puts-made, reads-begin, reads-next}
 use Rattle.ft_string.proofs.contents.insert_local.Goals as goal
 
 pub loop-content-init : goal.loop-content-init
@@ -46,3 +46,12 @@ returns-clause-ok g c =
 
 pub returns-clause-reads : goal.returns-clause-reads
 returns-clause-reads g c = c.loop-content.invariant.reads.after
+
+pub insert_local-requires-clause-usable : goal.insert_local-requires-clause-usable
+insert_local-requires-clause-usable g c = c.loop-content.invariant.inserts.usable
+
+pub insert_local-requires-clause-made : goal.insert_local-requires-clause-made
+insert_local-requires-clause-made g c =
+    inserts-room (seen_in last_stage) no_run c.args.p (Local c.args.stage) None (apply [] c.args.props.now) max_safe_integer
+    (segment_contents c.args.seg.now) (contents_in c.pop.new.self) c.in-Some.content (contents_in c.loop-content.contents) c.args.tree.now c.loop-content.tree
+    c.loop-content.invariant.inserts c.in-Some.ensures c.requires.made

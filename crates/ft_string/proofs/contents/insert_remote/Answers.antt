@@ -5,9 +5,9 @@ use Rattle.ft_block.specs.declared.leaves.LenView.TheVariants.{At}
 use Rattle.ft_tree_leaves.specs.Elements.{is_pending, seen_in}
 use Rattle.ft_tree_leaves.specs.TextLeaves.{text_author, text_units}
 use Rattle.ft_op.specs.Operation.{segment_contents}
-use Rattle.ft_props.specs.Properties.{apply}
+use Rattle.ft_props.specs.Properties.{apply, max_safe_integer}
 use Rattle.ft_string.specs.Contents.{contents_in}
-use Rattle.ft_string.proofs.PutInParts.{fewer, inserts-begin, inserts-done, inserts-next, puts-made}
+use Rattle.ft_string.proofs.PutInParts.{fewer, inserts-begin, inserts-done, inserts-next, inserts-room, puts-made}
 use Rattle.ft_string.proofs.contents.insert_remote.Goals as goal
 
 pub loop-content-init : goal.loop-content-init
@@ -35,3 +35,12 @@ returns g c =
     inserts-done (seen_in (At c.args.at)) is_pending c.args.p (Acked c.args.seq c.args.at.c) (text_author c.args.seq c.args.at.c) (apply [] c.args.props.now)
     (segment_contents c.args.seg.now) (contents_in c.loop-content.contents) c.args.tree.now c.loop-content.tree c.loop-content.invariant
     (ap length c.in_default.ensures)
+
+pub insert_remote-requires-clause-usable : goal.insert_remote-requires-clause-usable
+insert_remote-requires-clause-usable g c = c.loop-content.invariant.usable
+
+pub insert_remote-requires-clause-made : goal.insert_remote-requires-clause-made
+insert_remote-requires-clause-made g c =
+    inserts-room (seen_in (At c.args.at)) is_pending c.args.p (Acked c.args.seq c.args.at.c) (text_author c.args.seq c.args.at.c) (apply [] c.args.props.now) max_safe_integer
+    (segment_contents c.args.seg.now) (contents_in c.pop.new.self) c.in-Some.content (contents_in c.loop-content.contents) c.args.tree.now c.loop-content.tree
+    c.loop-content.invariant c.in-Some.ensures c.requires.made

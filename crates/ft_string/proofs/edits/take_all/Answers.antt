@@ -1,4 +1,8 @@
-use Rattle.ft_string.proofs.Chains.{takes-begin, takes-next}
+use Rattle.std.proofs.Common.{drop}
+use Rattle.std.proofs.lemmas.List.{drop_all}
+use Rattle.ft_interval_store.specs.State.{text_elements}
+use Rattle.ft_string.proofs.Above.{are-above}
+use Rattle.ft_string.proofs.Chains.{noted-done, takes-begin, takes-done, takes-here, takes-next, takes-room}
 use Rattle.ft_string.proofs.ReadsOfOne.{reads-begin, reads-next}
 use Rattle.ft_string.proofs.edits.take_all.Goals as goal
 
@@ -16,3 +20,32 @@ loop-op-preserved g c = (
   reads-next c.args.ops.now c.loop-op.op-index c.op-item.result c.args.tree.now c.loop-op.tree c.take_noted.new.tree c.args.steps.now c.loop-op.steps
       c.take_noted.new.steps c.loop-op.invariant.1 c.loop-op-test.true c.op-item.is c.take_noted.ensures.reads,
 )
+
+pub take_noted-requires-clause-usable : goal.take_noted-requires-clause-usable
+take_noted-requires-clause-usable g c = c.loop-op.invariant.0.usable
+
+pub take_noted-requires-clause-formed : goal.take_noted-requires-clause-formed
+take_noted-requires-clause-formed g c =
+    (takes-here c.args.first c.args.ops.now c.loop-op.op-index c.op-item.result c.loop-op.stage c.args.tree.now c.loop-op.tree c.args.pending.now.items c.loop-op.pending.items
+    c.loop-op.invariant.0 c.loop-op-test.true c.op-item.is).formed.0
+
+pub take_noted-requires-clause-above : goal.take_noted-requires-clause-above
+take_noted-requires-clause-above g c = are-above c.loop-op.stage (text_elements c.loop-op.tree) c.loop-op.invariant.0.above
+
+pub take_noted-requires-clause-made : goal.take_noted-requires-clause-made
+take_noted-requires-clause-made g c =
+    takes-room c.args.first c.args.ops.now c.loop-op.op-index c.op-item.result c.loop-op.stage c.args.tree.now c.loop-op.tree c.args.pending.now.items c.loop-op.pending.items
+    c.loop-op.invariant.0 c.loop-op-test.true c.op-item.is
+
+pub returns-clause-taken : goal.returns-clause-taken
+returns-clause-taken g c =
+    takes-done c.args.first c.args.ops.now (drop c.loop-op.op-index c.args.ops.now) c.loop-op.stage c.args.tree.now c.loop-op.tree c.args.pending.now.items c.loop-op.pending.items
+    c.loop-op.invariant.0 (drop_all c.loop-op.op-index c.args.ops.now c.loop-op-test.false)
+
+pub returns-clause-noted : goal.returns-clause-noted
+returns-clause-noted g c =
+    noted-done c.args.first c.args.ops.now (drop c.loop-op.op-index c.args.ops.now) c.loop-op.stage c.args.tree.now c.loop-op.tree c.args.pending.now.items c.loop-op.pending.items
+    c.loop-op.invariant.0 (drop_all c.loop-op.op-index c.args.ops.now c.loop-op-test.false)
+
+pub returns-clause-reads : goal.returns-clause-reads
+returns-clause-reads g c op one short = (c.loop-op.invariant.1 op one short).bound

@@ -25,8 +25,8 @@ invariant_of-self-2 c =
     let before = c.self.invariant (subst (λ b. IsTrue b) (sym (ap (λ (s : TextState). s.usable) c.self.view_is)) c.requires.usable) in
     let e = c.in_ok-normalise.ensures in
     let up = given-up_to a.tree a.tree a.intervals.state all a.given a.given a.usable a.usable last h.doc h.stages h.sound h.holds in
-    let moved = ap (λ (q : VecDeque PendingOp Global). q.items) c.replace.ensures.value ∙ c.in_ok-join.ensures in
-    let none = ap (λ (q : VecDeque PendingOp Global). q.items) c.replace.ensures.after ∙ c.new.ensures.items in
+    let moved = ap (λ (q : VecDeque PendingOp Global). q.items) c.swap.ensures.x_after ∙ c.in_ok-join.ensures.joined in
+    let none = ap (λ (q : VecDeque PendingOp Global). q.items) c.swap.ensures.y_after ∙ c.in_ok-join.ensures.none in
     λ t. record {
       parts = rejoined-sound a.tree c.normalise.new.tree a.intervals.state _ (e.places last up) e.usable before.parts;
       stands = rejoined-stands a.tree c.normalise.new.tree a.intervals all a.given a.usable last h.doc h.stages h.sound h.holds (e.elements last up) (e.places last up) before.stands;
@@ -42,7 +42,7 @@ returns-clause-holds c last doc stages sound holds =
     let before = c.self.invariant (subst (λ b. IsTrue b) (sym (ap (λ (s : TextState). s.usable) c.self.view_is)) c.requires.usable) in
     let e = c.in_ok-normalise.ensures in
     let up = given-up_to a.tree a.tree a.intervals.state all a.given a.given a.usable a.usable last doc stages sound held in
-    let moved = ap (λ (q : VecDeque PendingOp Global). q.items) c.replace.ensures.value ∙ c.in_ok-join.ensures in
-    let none = ap (λ (q : VecDeque PendingOp Global). q.items) c.replace.ensures.after ∙ c.new.ensures.items in
-    subst (λ os. HoldsRejoined (state_of c.normalise.new.tree a.intervals.state os 0 true) doc stages) (sym (ap (λ os. os ++ c.replace.result.items) none ∙ moved))
+    let moved = ap (λ (q : VecDeque PendingOp Global). q.items) c.swap.ensures.x_after ∙ c.in_ok-join.ensures.joined in
+    let none = ap (λ (q : VecDeque PendingOp Global). q.items) c.swap.ensures.y_after ∙ c.in_ok-join.ensures.none in
+    subst (λ os. HoldsRejoined (state_of c.normalise.new.tree a.intervals.state os 0 true) doc stages) (sym (ap (λ os. os ++ c.swap.new.x.items) none ∙ moved))
     (rejoined-whole a.tree c.normalise.new.tree a.intervals.state all a.given 0 a.usable true last doc stages sound held (e.elements last up) (e.places last up) e.made before.parts)

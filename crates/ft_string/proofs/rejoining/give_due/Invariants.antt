@@ -1,7 +1,7 @@
 use Rattle.std.proofs.Common.{◌+◌, length}
 use Rattle.ft_interval_store.specs.State.{text_elements}
 use Rattle.ft_string.proofs.SentSoFar.{GivesSoFar}
-use Rattle.ft_string.proofs.rejoining.give_ops.Given as goal
+use Rattle.ft_string.proofs.rejoining.give_due.Given as goal
 
 -- what was given, and then what is due of the rest, is all
 abbrev pub invariant-loop-op : goal.invariant-loop-op
