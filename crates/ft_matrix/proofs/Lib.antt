@@ -1,3 +1,4 @@
+mod MovedValues
 mod Freed
 mod AckedGrids
 mod AckedUnits

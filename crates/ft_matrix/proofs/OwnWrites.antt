@@ -165,10 +165,6 @@ module _ (last k : ℕ) (e : k ≡ last + 1) (few : last ≤ 1844674407370955161
         let q = some-unit (at (seen_in last_stage) j (units_of old.cols)) b (sym (seen-get (seen_in last_stage) (λ (d : TreeElement ℕ). d.unit) (units_of old.cols) j) ∙ sym g) in
         taken _ _ _ _ p.0 q.0 p.1.0 q.1.0 p.1.1 q.1.1 rows-found cols-found refl
 
--- the stage of a write
-abbrev pub write_stage : ℕ → ℕ → ℕ → ValueBytes → ℕ → ℕ → GridStage
-write_stage k i j value row col = record { stage = k; op = Set i j value; row = Some row; col = Some col }
-
 -- ---- soundness
 
 kept-cell : (h g k : ℕ) (value : ValueBytes) (old new : CellList) → IsPended h g k value old new → (r c : ℕ) → (nat_eq r h && nat_eq c g) ≡ false → cell_at old r c ≡ empty_cell

@@ -1,5 +1,5 @@
 -- What a reconnection makes of a grid that holds the part of a document: what is sent of an edit, and the stages that go on.
-use Rattle.std.proofs.Common.{◌≡◌, ℕ, ◌≤◌, true, List, [], ◌∷◌, ◌++◌, Option, option_map, refl, sym, ◌∙◌, ap, subst, map, flat_map, IfOk, Result, Ok, Err}
+use Rattle.std.proofs.Common.{◌≡◌, ℕ, ◌≤◌, true, List, [], ◌∷◌, ◌++◌, Option, option_map, refl, sym, ◌∙◌, ap, subst, map, flat_map}
 use Rattle.std.specs.List.{list_all}
 use Rattle.ft_op.specs.declared.operations.CellOp.{CellOp}
 use Rattle.ft_op.specs.declared.operations.ChannelOp.TheVariants.{Grid as OfGrid}
@@ -78,8 +78,3 @@ none-given first doc before (t ∷ mine) rest e = cc e
 pub none-sent : (first : ℕ) (doc : Document) (mine : List Stage) → map (λ (t : Stage). t.stage) mine ≡ numbers_from first 0 → flat_map (pieces doc) mine ≡ []
 none-sent first doc [] e = refl
 none-sent first doc (t ∷ mine) e = cc e
-
--- what holds of a value that a call gave, by what it says of it
-pub if-ok : {A E : Type 0} {P Q : A → Type 0} (r : Result A E) → IfOk r P → ((x : A) → P x → Q x) → IfOk r Q
-if-ok (Ok x) p f = f x p
-if-ok (Err e) p f = tt

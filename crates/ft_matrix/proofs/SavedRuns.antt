@@ -1,5 +1,5 @@
 -- Runs of units made leaf by leaf: the last one so far may still go on.
-use Rattle.std.proofs.Common.{◌≡◌, ℕ, suc, ◌+◌, ◌≤◌, Bool, true, false, cond, List, [], ◌∷◌, ◌++◌, Option, Some, None, refl, sym, ◌∙◌, ap, subst, length, option_map, IfOk, Result, Ok, Err, arith, append_assoc}
+use Rattle.std.proofs.Common.{◌≡◌, ℕ, zero, suc, ◌+◌, ◌≤◌, Bool, true, false, cond, List, [], ◌∷◌, ◌++◌, Option, Some, None, refl, sym, ◌∙◌, ap, subst, length, option_map, slice_index_or, slice_set, if◌then◌else◌, is_ok, IfOk, OnOk, Result, Ok, Err, arith, append_assoc}
 use Rattle.ft_arena.specs.Ids.{after, first}
 use Rattle.ft_base.specs.declared.elements.Element.{Element as ElementStamps}
 use Rattle.ft_base.specs.declared.memory.OutOfMemory.{OutOfMemory}
@@ -18,7 +18,7 @@ use Rattle.ft_props.specs.Compaction.{has_collectable_removal}
 use Rattle.ft_props.specs.Overlay.{OverlayState}
 use Rattle.ft_sumdoc.specs.declared.summary.RunRec.{RunRec}
 use Rattle.ft_sumdoc.specs.WellFormed.{same_stamps}
-use Rattle.ft_matrix.specs.SavedUnits.{AddsLeaf, continued, saved_runs, unit_run}
+use Rattle.ft_matrix.specs.SavedUnits.{AddsLeaf, Joins, continued, saved_runs, unit_run}
 
 -- ---- runs of which the last one goes on
 
@@ -32,22 +32,57 @@ continued-none [] = refl
 continued-none (r ∷ []) = refl
 continued-none (r ∷ s ∷ runs) = ap (λ us. r ∷ us) (continued-none (s ∷ runs))
 
-pub first-run : (old new : List RunRec) (r : RunRec) → old ≡ [] → new ≡ r ∷ [] → (rest : List RunRec) → continued new rest ≡ continued old (with_run r rest)
-first-run old new r e f rest = ap (λ us. continued us rest) f ∙ sym (ap (λ us. continued us (with_run r rest)) e)
-
-pub joined-run : (front old new : List RunRec) (last r : RunRec) → old ≡ front ++ last ∷ [] → same_stamps last.ins last.dels r.ins r.dels ≡ true
+joined-run : (front old new : List RunRec) (last r : RunRec) → old ≡ front ++ last ∷ [] → same_stamps last.ins last.dels r.ins r.dels ≡ true
     → new ≡ front ++ record r { count = r.count + last.count } ∷ [] → (rest : List RunRec) → continued new rest ≡ continued old (with_run r rest)
 joined-run front old new last r e s f rest =
     ap (λ us. continued us rest) f ∙ continued-last front (record r { count = r.count + last.count }) rest
     ∙ ap (λ us. front ++ us) (sym (ap (λ q. with_run q (with_run r rest)) (run-alike last r.ins r.dels s) ∙ with_run-joined last.count r.count r.ins r.dels rest))
     ∙ sym (ap (λ us. continued us (with_run r rest)) e ∙ continued-last front last (with_run r rest))
 
-pub apart-run : (front old new : List RunRec) (last r : RunRec) → old ≡ front ++ last ∷ [] → same_stamps last.ins last.dels r.ins r.dels ≡ false
+apart-run : (front old new : List RunRec) (last r : RunRec) → old ≡ front ++ last ∷ [] → same_stamps last.ins last.dels r.ins r.dels ≡ false
     → new ≡ (front ++ last ∷ []) ++ r ∷ [] → (rest : List RunRec) → continued new rest ≡ continued old (with_run r rest)
 apart-run front old new last r e s f rest =
     ap (λ us. continued us rest) f ∙ continued-last (front ++ last ∷ []) r rest ∙ append_assoc front (last ∷ []) (with_run r rest)
     ∙ ap (λ us. front ++ us) (sym (with_run-apart last r rest s))
     ∙ sym (ap (λ us. continued us (with_run r rest)) e ∙ continued-last front last (with_run r rest))
+
+-- the last one of a list, and what the list is where another one is written in its place
+record EndsWith {A : Type 0} (xs : List A) (n : ℕ) (x : A) : Type 0 where
+  front : List A
+  is : xs ≡ front ++ x ∷ []
+  written : (y : A) → slice_set xs n y ≡ front ++ y ∷ []
+
+ends-with : {A : Type 0} (xs : List A) (n : ℕ) (x : A) → n + 1 ≡ length xs → x ≡ slice_index_or xs n x → EndsWith xs n x
+ends-with [] n x e h = absurd (omega (arith, e))
+ends-with (w ∷ []) zero x e h = record { front = []; is = ap (λ v. v ∷ []) (sym h); written = λ y. refl }
+ends-with (w ∷ []) (suc n) x e h = absurd (omega (arith, e))
+ends-with (w ∷ v ∷ xs) zero x e h = absurd (omega (arith, e))
+ends-with (w ∷ v ∷ xs) (suc n) x e h =
+    let rest = ends-with (v ∷ xs) n x (omega (arith, e)) h in
+    record { front = w ∷ rest.front; is = ap (λ us. w ∷ us) rest.is; written = λ y. ap (λ us. w ∷ us) (rest.written y) }
+
+module _ (old : List RunRec) (n : ℕ) (last r : RunRec) (e : n + 1 ≡ length old) (h : last ≡ slice_index_or old n last) where
+  pub run-counted : (count : ℕ) → same_stamps last.ins last.dels r.ins r.dels ≡ true → count ≡ r.count + last.count → Joins r old
+      (slice_set old n (record last { count = count })) true
+  run-counted count s sum =
+      let end = ends-with old n last e h in
+      joined-run end.front old (slice_set old n (record last { count = count })) last r end.is s
+      (end.written (record last { count = count }) ∙ ap (λ q. end.front ++ record q { count = count } ∷ []) (run-alike last r.ins r.dels s)
+      ∙ ap (λ m. end.front ++ record r { count = m } ∷ []) sum)
+
+  pub run-uncounted : same_stamps last.ins last.dels r.ins r.dels ≡ false → Joins r old (slice_set old n last) false
+  run-uncounted s =
+      let end = ends-with old n last e h in
+      (end.written last ∙ sym end.is, apart-run end.front old (old ++ r ∷ []) last r end.is s (ap (λ us. us ++ r ∷ []) end.is))
+
+pub run-pushed : {A : Type 0} (there : Result Bool OutOfMemory) (done : Result A OutOfMemory) (r : RunRec) (old between new : List RunRec) → IfOk
+    there (Joins r old between)
+    → OnOk done (is_ok there ≡ true) → OnOk done (IfOk there (λ t. new ≡ (if t then between else between ++ r ∷ [])))
+    → OnOk done ((rest : List RunRec) → continued new rest ≡ continued old (with_run r rest))
+run-pushed there (Err f) r old between new j k n = tt
+run-pushed (Err f) (Ok x) r old between new j k n = (cc)
+run-pushed (Ok true) (Ok x) r old between new j k n = λ rest. ap (λ us. continued us rest) n ∙ j rest
+run-pushed (Ok false) (Ok x) r old between new j k n = λ rest. ap (λ us. continued us rest) (n ∙ ap (λ us. us ++ r ∷ []) j.0) ∙ j.1 rest
 
 -- ---- the units of a leaf
 
@@ -138,7 +173,3 @@ module _ (min : ℕ) (leaves : Leaves) (id : ℕ) (old new : List RunRec) (stamp
             ∙ ap (continued old) (sym (ap (λ b. cond b rest (with_run (unit_run min x.stamps (length (handles_of x.content))) rest))
             (sym (ap (λ (t : ElementStamps). has_collectable_removal min t.dels) s) ∙ stays)));
       }
-
-pub list-is : (r : Result (List RunRec) OutOfMemory) (a b : List RunRec) → IfOk r (λ l. l ≡ a) → a ≡ b → IfOk r (λ l. l ≡ b)
-list-is (Ok l) a b h e = h ∙ e
-list-is (Err f) a b h e = tt

@@ -14,7 +14,9 @@ use Rattle.ft_op.specs.Stages.{Stage}
 use Rattle.ft_msg.specs.Client.{local_grid, local_sub_operations}
 use Rattle.ft_tree_leaves.specs.Elements.{seen_in}
 use Rattle.ft_perm.specs.Vectors.{VectorState}
+use Rattle.ft_props.specs.Properties.{ValueBytes}
 use Rattle.ft_matrix.specs.declared.grid.Grid.{Grid}
+use Rattle.ft_matrix.specs.declared.stages.GridStage.{GridStage}
 use Rattle.ft_matrix.specs.Applied.{Holds}
 use Rattle.ft_matrix.specs.GridStates.{grid_state}
 use Rattle.ft_matrix.specs.HoldsGrid.{HoldsGrid}
@@ -23,6 +25,10 @@ use Rattle.ft_matrix.specs.Units.{units_of}
 -- the stage of an operation of the grid
 abbrev pub stage_of : ℕ → CellOp → NamedElements → Stage
 stage_of k op names = record { stage = k; sub_operation = OnGrid op; names = names }
+
+-- the stage of a write to a cell, where its row and its column have these handles
+abbrev pub write_stage : ℕ → ℕ → ℕ → ValueBytes → ℕ → ℕ → GridStage
+write_stage k i j value row col = record { stage = k; op = Set i j value; row = Some row; col = Some col }
 
 -- the grid took an operation as stage k, the one above the last, and holds what that makes of the document
 pub record TakesStage (last k : ℕ) (g : Grid) (doc : Document) (stages : List Stage) (op : CellOp) : Type 0 where

@@ -1,5 +1,5 @@
 -- The units of a vector as the runs of a summary. No public clause cites this module.
-use Rattle.std.specs.Prelude.{◌≡◌, ◌≤◌, ℕ, cond, List, [], ◌∷◌, length, map}
+use Rattle.std.specs.Prelude.{◌≡◌, ◌≤◌, ℕ, Bool, true, false, cond, List, [], ◌∷◌, ◌++◌, length, map}
 use Rattle.ft_base.specs.declared.elements.Element.{Element as ElementStamps}
 use Rattle.ft_tree_leaves.specs.declared.leaves.TreeLeaf.{TreeLeaf}
 use Rattle.ft_tree_leaves.specs.Elements.{TreeElement}
@@ -19,6 +19,11 @@ abbrev pub continued : List RunRec → List RunRec → List RunRec
 continued [] rest = rest
 continued (r ∷ []) rest = with_run r rest
 continued (r ∷ s ∷ runs) rest = r ∷ continued (s ∷ runs) rest
+
+-- a run is counted with the last one of others, or it belongs behind them
+abbrev pub Joins : RunRec → List RunRec → List RunRec → Bool → Type 0
+Joins run old new true = (rest : List RunRec) → continued new rest ≡ continued old (with_run run rest)
+Joins run old new false = (new ≡ old) × ((rest : List RunRec) → continued (old ++ run ∷ []) rest ≡ continued old (with_run run rest))
 
 -- the runs of units, without those that were removed at or below the minimum
 abbrev pub saved_runs : ℕ → List (TreeElement ℕ) → List RunRec

@@ -27,6 +27,7 @@ ghost use Rattle.ft_rebase.specs.StageLists.{StandSideBySide};
 ghost use Rattle.ft_sumdoc.specs.Valid.{IsValidSummary};
 
 use crate::grid::Grid;
+use crate::moves::{fill, when_done};
 use crate::own_edits::{first_leaf, sub_operation_count};
 use crate::saved::saved_units;
 use crate::seen::LOCAL;
@@ -313,13 +314,16 @@ impl SharedMatrix {
         ensures floor { IfOk result (λ made. made.floor ≡ 0) }
         ensures usable { IfOk result (λ made. made.usable ≡ true) }
     {
-        let grid = Grid::load(alloc, doc)?;
-        Ok(SharedMatrix {
+        let mut grid = Grid::new(alloc);
+        let loaded = grid.load(doc);
+        let usable = loaded.is_ok();
+        let table = SharedMatrix {
             grid,
             alloc,
             given: 0,
-            usable: true,
-        })
+            usable,
+        };
+        when_done(loaded, table)
     }
 
     /// Fills what a summary at the minimum `doc.min` has of the table: its rows, its columns and its cells.
@@ -334,13 +338,9 @@ impl SharedMatrix {
         ensures { (last : ℕ) (of : Document) → AreWellNamed last of [] → HoldsGrid self.now of [] → IsAboveAll 0 self.now → of.minimum ≡ doc.old.min
             → OnOk result (doc.new ≡ with_units of doc.old) }
     {
-        let rows = saved_units(&self.grid.rows, doc.min)?;
-        let cols = saved_units(&self.grid.cols, doc.min)?;
-        let cells = self.grid.shown_cells(self.alloc)?;
-        doc.rows = rows;
-        doc.cols = cols;
-        doc.cells = cells;
-        Ok(())
+        fill(&mut doc.rows, saved_units(&self.grid.rows, doc.min))?;
+        fill(&mut doc.cols, saved_units(&self.grid.cols, doc.min))?;
+        fill(&mut doc.cells, self.grid.shown_cells(self.alloc))
     }
 
     /// Fills what a view shows of the table: how many rows and columns are seen, and their cells that have a value. It goes to
@@ -355,7 +355,6 @@ impl SharedMatrix {
     {
         out.rows = seen_count(&self.grid.rows, LOCAL);
         out.cols = seen_count(&self.grid.cols, LOCAL);
-        out.cells = self.grid.shown_cells(self.alloc)?;
-        Ok(())
+        fill(&mut out.cells, self.grid.shown_cells(self.alloc))
     }
 }

@@ -1,7 +1,8 @@
 //! What a client's own operations make of a grid.
 
-ghost use Rattle.std.specs.Prelude.{◌≡◌, ℕ, ◌+◌, ◌*◌, ◌≤◌, ◌^◌, List, None, IfOk, IsTrue, OnOk, length, map, true};
+ghost use Rattle.std.specs.Prelude.{◌≡◌, ℕ, ◌+◌, ◌*◌, ◌<◌, ◌≤◌, ◌^◌, ◌++◌, [], ◌∷◌, All, List, None, IfOk, IsTrue, OnOk, length, map, true};
 ghost use Rattle.std.specs.List.{AllByRecursion};
+ghost use Rattle.ft_cells.specs.CellTables.{cell_at, changed_cell, with_write};
 ghost use Rattle.ft_op.specs.declared.operations.ChannelOp.{ChannelOp};
 ghost use Rattle.ft_op.specs.declared.operations.GridOp.{GridOp};
 ghost use Rattle.ft_op.specs.Document.{Document};
@@ -12,20 +13,23 @@ ghost use Rattle.ft_matrix.specs.Sound.{IsSound};
 ghost use Rattle.ft_matrix.specs.GridStates.{depth_of, grid_state};
 ghost use Rattle.ft_matrix.specs.Conditions.{IsAboveAll};
 ghost use Rattle.ft_matrix.specs.Applied.{Holds};
-ghost use Rattle.ft_matrix.specs.OwnEdits.{Counts, EditsAll, EditsOne, TakesStages, lengths_after, refusal, seen_units};
+ghost use Rattle.ft_matrix.specs.OwnEdits.{Counts, EditsAll, EditsOne, TakesStages, lengths_after, refusal, seen_units, write_stage};
 ghost use Rattle.ft_matrix.specs.Sides.{units_at};
 ghost use Rattle.ft_matrix.specs.Units.{shown_units};
 
 use crate::grid::Grid;
 use crate::messages::more;
+use crate::moves::push_behind;
 use crate::seen::LOCAL;
 use crate::splices::{insert_own_units, remove_own_units, seen_count};
 use crate::stages::GridStage;
 use ft_arena::NodeId;
 use ft_base::{Datum, OutOfMemory, Steps};
+use ft_cells::Cells;
 use ft_json::ValText;
 use ft_op::{CellOp, GridOp, Target};
 use ft_perm::Vector;
+use std::collections::VecDeque;
 use std::sync::ledger::Ledger;
 
 /// The first leaf of a vector; the contract tells how deep a search for a unit goes at most.
@@ -192,12 +196,15 @@ impl Grid {
         if !insert_own_units(self.units_mut(target), pos, count, stage, steps)? {
             return Ok(Some(seen_count(self.units(target), LOCAL)));
         }
-        self.stages.push_back(GridStage {
-            stage,
-            op: CellOp::SpliceIn { target, pos, count },
-            row: None,
-            col: None,
-        })?;
+        push_behind(
+            &mut self.stages,
+            GridStage {
+                stage,
+                op: CellOp::SpliceIn { target, pos, count },
+                row: None,
+                col: None,
+            },
+        )?;
         Ok(None)
     }
 
@@ -226,12 +233,15 @@ impl Grid {
         if !remove_own_units(self.units_mut(target), pos1, pos2, stage, steps)? {
             return Ok(Some(seen_count(self.units(target), LOCAL)));
         }
-        self.stages.push_back(GridStage {
-            stage,
-            op: CellOp::SpliceOut { target, pos1, pos2 },
-            row: None,
-            col: None,
-        })?;
+        push_behind(
+            &mut self.stages,
+            GridStage {
+                stage,
+                op: CellOp::SpliceOut { target, pos1, pos2 },
+                row: None,
+                col: None,
+            },
+        )?;
         Ok(None)
     }
 
@@ -260,22 +270,60 @@ impl Grid {
             Some(row) => match self.cols.handle_at(LOCAL, j) {
                 None => Ok(Some(seen_count(&self.cols, LOCAL))),
                 Some(col) => {
-                    self.cells.set_pending(row, col, stage, value.copy()?)?;
-                    self.stages.push_back(GridStage {
-                        stage,
-                        op: CellOp::Set {
-                            row: i,
-                            col: j,
-                            value: value.copy()?,
-                        },
-                        row: Some(row),
-                        col: Some(col),
-                    })?;
+                    write_pending(&mut self.cells, row, col, stage, value)?;
+                    push_write_stage(&mut self.stages, stage, i, j, value, row, col)?;
                     Ok(None)
                 }
             },
         }
     }
+}
+
+// Writes a copy of the value to a cell, on top of its pending writes. The stage is above all that are pending in any cell.
+//
+// Returns `OutOfMemory` where there is no room for it.
+fn write_pending(
+    cells: &mut Cells,
+    row: u64,
+    col: u64,
+    stage: u64,
+    value: &ValText,
+) -> Result<(), OutOfMemory>
+    requires { (r c : ℕ) → All (λ write. write.0 < stage) (cell_at cells.old r c).pending }
+    ensures { OnOk result ((r c : ℕ) → cell_at cells.new r c ≡ changed_cell row col (with_write stage value.now) (cell_at cells.old) r c) }
+{
+    let value = value.copy()?;
+    cells.set_pending(row, col, stage, value)
+}
+
+// Adds the stage of a write of the value at row `i` and column `j` behind the others. These have the handles `row` and `col`.
+//
+// Returns `OutOfMemory` where there is no room for it.
+fn push_write_stage(
+    stages: &mut VecDeque<GridStage>,
+    stage: u64,
+    i: u64,
+    j: u64,
+    value: &ValText,
+    row: u64,
+    col: u64,
+) -> Result<(), OutOfMemory>
+    ensures { OnOk result (stages.new.items ≡ stages.old.items ++ write_stage stage i j value.now row col ∷ []) }
+{
+    let value = value.copy()?;
+    push_behind(
+        stages,
+        GridStage {
+            stage,
+            op: CellOp::Set {
+                row: i,
+                col: j,
+                value,
+            },
+            row: Some(row),
+            col: Some(col),
+        },
+    )
 }
 
 // How many rows and columns are seen after an operation where so many were before, or the length of the list concerned where it

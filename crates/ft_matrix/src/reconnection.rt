@@ -26,27 +26,16 @@ use std::alloc::Global;
 use std::collections::VecDeque;
 
 // The operation that pieces make: one alone, several as a group, none for none.
-fn op_of(alloc: Global, mut pieces: Vec<CellOp>) -> Result<Option<GridOp>, OutOfMemory>
-    ensures { IfOk result (λ op. option_map ChannelOp.Grid op ≡ op_of (map (λ p. OnGrid p) pieces.items)) }
+fn op_of(mut pieces: Vec<CellOp>) -> Option<GridOp>
+    ensures { option_map ChannelOp.Grid result ≡ op_of (map (λ p. OnGrid p) pieces.items) }
 {
     if pieces.len() == 1 {
-        return Ok(pieces.pop().map(GridOp::One));
+        return pieces.pop().map(GridOp::One);
     }
     if pieces.is_empty() {
-        return Ok(None);
+        return None;
     }
-    Ok(Some(GridOp::Group(group_of(alloc, pieces)?)))
-}
-
-// The same operations as a group.
-fn group_of(alloc: Global, ops: Vec<CellOp>) -> Result<CellOps, OutOfMemory>
-    ensures { IfOk result (λ group. group ≡ ops.items) }
-{
-    let mut group = CellOps::new(alloc);
-    for op in ops {
-        group.push(op)?;
-    }
-    Ok(group)
+    Some(GridOp::Group(CellOps::of(pieces)))
 }
 
 // Puts the pending units of a vector in afresh. Those of each stage stand side by side in its view.
@@ -88,7 +77,7 @@ impl Grid {
         ensures { IfOk result (λ op. SendsAgain first count self.old self.new op) }
     {
         let pieces = self.resubmit(alloc, first, count)?;
-        op_of(alloc, pieces)
+        Ok(op_of(pieces))
     }
 
     // The pieces of those of the `count` stages from `first` on that are pending here. A stage without a piece is gone then.

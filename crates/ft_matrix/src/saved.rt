@@ -1,16 +1,17 @@
 //! The units of a vector as the runs of a summary: one walk over its leaves.
 
-ghost use Rattle.std.specs.Prelude.{◌≡◌, IfOk, IsTrue, List, OnOk, Some};
+ghost use Rattle.std.specs.Prelude.{◌≡◌, [], IfOk, IsTrue, List, OnOk, Some};
 ghost use Rattle.ft_block.specs.Leaves.{IsLeafIn, value_at};
 ghost use Rattle.ft_tree_leaves.specs.declared.leaves.TreeLeaf.{TreeLeaf};
 ghost use Rattle.ft_perm.specs.Handles.{HandleRun};
 ghost use Rattle.ft_perm.specs.Vectors.{vector_elements};
 ghost use Rattle.ft_sumdoc.specs.declared.summary.RunRec.{RunRec};
 ghost use Rattle.ft_msg.specs.JoinedRuns.{with_run};
-ghost use Rattle.ft_matrix.specs.SavedUnits.{AddsLeaf, continued, saved_runs, unit_run};
+ghost use Rattle.ft_matrix.specs.SavedUnits.{AddsLeaf, Joins, continued, saved_runs, unit_run};
 ghost use Rattle.ft_matrix.specs.Units.{units_of};
 
 use crate::messages::more;
+use crate::moves::{push_unless, when_done};
 use ft_arena::NodeId;
 use ft_base::{Element, OutOfMemory};
 use ft_msg::marks::{insertion_of, is_collectable, marks_of, same_stamps};
@@ -35,22 +36,22 @@ fn run_of(alloc: Global, stamps: &Element, count: u64, min: u64) -> Result<RunRe
 fn push_run(runs: &mut Vec<RunRec>, run: RunRec) -> Result<(), OutOfMemory>
     ensures { OnOk result ((rest : List RunRec) → continued runs.new.items rest ≡ continued runs.old.items (with_run run rest)) }
 {
-    let Some(last) = runs.pop() else {
-        runs.push(run)?;
-        return Ok(());
+    let joined = join_last(runs, &run);
+    push_unless(joined, runs, run)
+}
+
+// Counts the units of a run with those of the last one of others, if their stamps are equal. Returns whether they are.
+fn join_last(runs: &mut Vec<RunRec>, run: &RunRec) -> Result<bool, OutOfMemory>
+    ensures { IfOk result (Joins run.now runs.old.items runs.new.items) }
+{
+    let Some(last) = runs.last_mut() else {
+        return Ok(false);
     };
-    if same_stamps(last.ins, &last.dels, run.ins, &run.dels) {
-        let count = more(run.count, last.count)?;
-        runs.push(RunRec {
-            count,
-            ins: run.ins,
-            dels: run.dels,
-        })?;
-        return Ok(());
+    if !same_stamps(last.ins, &last.dels, run.ins, &run.dels) {
+        return Ok(false);
     }
-    runs.push(last)?;
-    runs.push(run)?;
-    Ok(())
+    last.count = more(run.count, last.count)?;
+    Ok(true)
 }
 
 // Adds the units of a leaf behind the others, unless they were removed at or below the minimum.
@@ -73,17 +74,6 @@ fn add_leaf(
     push_run(runs, run)
 }
 
-// The runs as a list.
-fn listed(alloc: Global, runs: Vec<RunRec>) -> Result<RunRecs, OutOfMemory>
-    ensures { IfOk result (λ list. list ≡ runs.items) }
-{
-    let mut list = RunRecs::new(alloc);
-    for run in runs {
-        list.push(run)?;
-    }
-    Ok(list)
-}
-
 /// The runs of units of a summary at this minimum.
 pub fn saved_units(units: &Vector, min: u64) -> Result<RunRecs, OutOfMemory>
     requires { IsTrue units.now.tree.usable }
@@ -97,12 +87,21 @@ fn saved_elements(tree: &Tree<Handles>, min: u64) -> Result<RunRecs, OutOfMemory
     requires { IsTrue tree.now.usable }
     ensures { IfOk result (λ runs. runs ≡ saved_runs min (vector_elements tree.now)) }
 {
-    let alloc = tree.allocator();
-    let mut runs = Vec::new(alloc);
+    let mut runs = Vec::new(tree.allocator());
+    let added = add_leaves(tree, min, &mut runs);
+    when_done(added, RunRecs::of(runs))
+}
+
+// Adds the units of all leaves, unless they were removed at or below the minimum.
+fn add_leaves(tree: &Tree<Handles>, min: u64, runs: &mut Vec<RunRec>) -> Result<(), OutOfMemory>
+    requires usable { IsTrue tree.now.usable }
+    requires none { runs.old.items ≡ [] }
+    ensures { OnOk result (runs.new.items ≡ saved_runs min (vector_elements tree.now)) }
+{
     let mut next = tree.first_leaf();
     while let Some(leaf) = next {
-        add_leaf(tree, leaf, min, &mut runs)?;
+        add_leaf(tree, leaf, min, runs)?;
         next = tree.next_leaf(leaf);
     }
-    listed(alloc, runs)
+    Ok(())
 }

@@ -5,6 +5,7 @@ ghost use Rattle.std.specs.List.{list_all};
 ghost use Rattle.ft_block.specs.declared.leaves.LenView.TheVariants.{Stage};
 ghost use Rattle.ft_perm.specs.Vectors.{seen_handles};
 ghost use Rattle.ft_sumdoc.specs.Valid.{IsValidSummary};
+ghost use Rattle.ft_matrix.specs.Empty.{IsEmptyGrid};
 ghost use Rattle.ft_matrix.specs.Loaded.{LoadsCell, LoadsCells, LoadsGrid, LoadsRun, LoadsUnits};
 ghost use Rattle.ft_matrix.specs.Sound.{IsSoundVector};
 ghost use Rattle.ft_matrix.specs.Units.{units_of};
@@ -19,19 +20,19 @@ use ft_msg::marks::element_of;
 use ft_perm::Vector;
 use ft_props::Props;
 use ft_sumdoc::{CellRec, RunRec, SumDoc};
-use std::alloc::Global;
 
 impl Grid {
-    /// The grid of a summary, with nothing pending.
-    pub fn load(alloc: Global, doc: &SumDoc) -> Result<Grid, OutOfMemory>
-        requires { IsValidSummary doc.now }
-        ensures { IfOk result (LoadsGrid doc.now) }
+    /// Fills an empty grid with what a summary has.
+    ///
+    /// Returns `OutOfMemory` where there is no room for it, and then the grid may be used no more.
+    pub fn load(&mut self, doc: &SumDoc) -> Result<(), OutOfMemory>
+        requires valid { IsValidSummary doc.now }
+        requires empty { IsEmptyGrid self.old }
+        ensures { OnOk result (LoadsGrid doc.now self.new) }
     {
-        let mut grid = Grid::new(alloc);
-        grid.rows_made = load_units(&mut grid.rows, doc.rows.as_slice())?;
-        grid.cols_made = load_units(&mut grid.cols, doc.cols.as_slice())?;
-        grid.load_cells(doc.cells.as_slice())?;
-        Ok(grid)
+        self.rows_made = load_units(&mut self.rows, doc.rows.as_slice())?;
+        self.cols_made = load_units(&mut self.cols, doc.cols.as_slice())?;
+        self.load_cells(doc.cells.as_slice())
     }
 
     // Writes the cells of a summary, each on the unremoved row and column at its places.

@@ -1,11 +1,12 @@
 //! What is shown of a table.
 
-ghost use Rattle.std.specs.Prelude.{◌≡◌, ◌<◌, ℕ, List, IfOk, OnOk, map};
+ghost use Rattle.std.specs.Prelude.{◌≡◌, ◌<◌, [], ℕ, List, IfOk, OnOk, map};
 ghost use Rattle.std.specs.BTreeMap as tree;
 ghost use Rattle.ft_matrix.specs.Seen.{ArePlaced, HoldsRuns, PlacesCell, cell_of, place_cmp, shown_at, shown_cells};
 ghost use Rattle.ft_matrix.specs.Sound.{IsSound};
 
 use crate::grid::Grid;
+use crate::moves::{put_at, when_done};
 use crate::seen::{SeenRuns, seen_runs};
 use ft_base::{Datum, OutOfMemory};
 use ft_cells::{CellKey, Cells};
@@ -47,8 +48,7 @@ fn place_cell(
         return Ok(());
     };
     let value = value.copy()?;
-    placed.insert((row, col), value)?;
-    Ok(())
+    put_at(placed, (row, col), value)
 }
 
 // The shown values of cells by their places.
@@ -60,12 +60,26 @@ fn placed_cells(
 ) -> Result<BTreeMap<(u64, u64), ValText>, OutOfMemory>
     ensures { IfOk result (λ placed. (hs gs : List ℕ) → HoldsRuns hs rows.now → HoldsRuns gs cols.now → ArePlaced (shown_at cells.now) hs gs placed) }
 {
-    let keys = cells.keys()?;
     let mut placed = BTreeMap::new(alloc);
+    let done = place_cells(cells, rows, cols, &mut placed);
+    when_done(done, placed)
+}
+
+// Puts the shown values of cells at their places.
+fn place_cells(
+    cells: &Cells,
+    rows: &SeenRuns,
+    cols: &SeenRuns,
+    placed: &mut BTreeMap<(u64, u64), ValText>,
+) -> Result<(), OutOfMemory>
+    requires { placed.old.entries ≡ [] }
+    ensures { OnOk result ((hs gs : List ℕ) → HoldsRuns hs rows.now → HoldsRuns gs cols.now → ArePlaced (shown_at cells.now) hs gs placed.new) }
+{
+    let keys = cells.keys()?;
     for key in &keys {
-        place_cell(cells, rows, cols, *key, &mut placed)?;
+        place_cell(cells, rows, cols, *key, placed)?;
     }
-    Ok(placed)
+    Ok(())
 }
 
 // Values at places as cells, by rising row and column.

@@ -1,31 +1,12 @@
-use Rattle.std.proofs.Common.{subst}
-use Rattle.ft_block.specs.Leaves.{IsPlaceIn}
+use Rattle.std.proofs.Common.{◌≡◌, ◌∙◌, List}
 use Rattle.ft_perm.specs.Vectors.{vector_elements}
+use Rattle.ft_sumdoc.specs.declared.summary.RunRec.{RunRec}
 use Rattle.ft_matrix.specs.SavedUnits.{saved_runs}
-use Rattle.ft_named.proofs.LeafWalks.{walk-shorter}
-use Rattle.ft_matrix.proofs.SavedRuns.{list-is, saves-all, saves-begin, saves-next}
+use Rattle.ft_matrix.proofs.MovedValues.{when-done}
 use Rattle.ft_matrix.proofs.saved.saved_elements.Goals as goal
-
-pub loop-next-init : goal.loop-next-init
-loop-next-init c = saves-begin c.args.min c.args.tree.now.leaves c.first_leaf-next.result c.new-runs.result.items c.first_leaf-next.ensures.value c.new-runs.ensures.items
-
-pub loop-next-preserved : goal.loop-next-preserved
-loop-next-preserved c =
-    saves-next c.args.min c.args.tree.now.leaves c.first_leaf-next.ensures.once c.loop-next.next c.next_leaf-next.result c.in-Some.leaf c.loop-next.runs.items c.add_leaf.new.runs.items
-    c.loop-next.invariant c.in-Some.is c.in_ok-add_leaf.ensures c.next_leaf-next.ensures
-
-pub loop-next-smaller : goal.loop-next-smaller
-loop-next-smaller c =
-    walk-shorter c.args.tree.now.leaves c.first_leaf-next.ensures.once c.loop-next.next c.next_leaf-next.result c.in-Some.leaf c.loop-next.invariant.place
-    c.in-Some.is c.next_leaf-next.ensures
-
-pub add_leaf-requires-clause-live : goal.add_leaf-requires-clause-live
-add_leaf-requires-clause-live c = subst (λ n. IsPlaceIn c.args.tree.now.leaves n) c.in-Some.is c.loop-next.invariant.place
-
-pub next_leaf-next-requires-clause-live : goal.next_leaf-next-requires-clause-live
-next_leaf-next-requires-clause-live c = subst (λ n. IsPlaceIn c.args.tree.now.leaves n) c.in-Some.is c.loop-next.invariant.place
 
 pub returns : goal.returns
 returns c =
-    list-is c.listed.result c.loop-next.runs.items (saved_runs c.args.min (vector_elements c.args.tree.now)) c.listed.ensures
-    (saves-all c.args.min c.args.tree.now.leaves c.loop-next.next c.loop-next.runs.items c.loop-next.invariant c.in_default.is)
+    when-done (λ (runs : List RunRec). runs ≡ saved_runs c.args.min (vector_elements c.args.tree.now)) c.when_done.result c.of.result
+    c.add_leaves-added.result
+    c.when_done.ensures.value c.when_done.ensures.done c.add_leaves-added.ensures (λ a. c.of.ensures ∙ a)

@@ -38,3 +38,6 @@ returns-in-Ok-clause-inserts g c =
       vector-puts c.args.units.now (the_view c.units.inside) _ c.requires.sound c.in_ok-content.content c.args.count t (last_stage) no_run (Local c.args.stage) c.args.p (later c.args.stage c.requires.some) _
           c.new-props.result c.new-props.ensures refl c.in-Ok.ensures.elements c.in-Ok.ensures.refs c.in-Ok.ensures.rest c.in-Ok.ensures.made,
     )
+
+pub returns-then-seen_count-p-clause-inserts : goal.returns-then-seen_count-p-clause-inserts
+returns-then-seen_count-p-clause-inserts g c = (omega (arith, c.if-seen_count-p.true, c.seen_count.ensures), refl)

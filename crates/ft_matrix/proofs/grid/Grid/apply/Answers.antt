@@ -1,4 +1,4 @@
-use Rattle.std.proofs.Common.{IfOk, Bool, sym, subst}
+use Rattle.std.proofs.Common.{◌≤◌, IfOk, Bool, ap, sym, subst}
 use Rattle.ft_base.specs.declared.stamps.Stamp.TheVariants.{Acked}
 use Rattle.ft_block.specs.declared.leaves.LenView.TheVariants.{At}
 use Rattle.ft_op.specs.declared.operations.CellOp.TheVariants.{SpliceIn}
@@ -7,10 +7,10 @@ use Rattle.ft_tree_leaves.specs.Elements.{is_pending}
 use Rattle.ft_perm.specs.Vectors.{VectorState}
 use Rattle.ft_matrix.specs.Applied.{Passes, skips}
 use Rattle.ft_matrix.specs.Sides.{units_at, with_units_at}
-use Rattle.ft_matrix.specs.Sound.{IsSound}
+use Rattle.ft_matrix.specs.Sound.{IsSound, IsSoundVector}
 use Rattle.ft_matrix.specs.Splices.{Inserts, Removes}
 use Rattle.ft_matrix.proofs.Effects.{insert-refused, insert-taken, remove-done}
-use Rattle.ft_matrix.proofs.SideLaws.{made-sound, over, puts-used, same-sound, side-sound}
+use Rattle.ft_matrix.proofs.SideLaws.{floor-at, made-sound, over, puts-used, same-sound, side-floor, side-sound, sound-at}
 use Rattle.ft_matrix.proofs.SoundVectors.{if-ok}
 use Rattle.ft_matrix.proofs.grid.Grid.apply.Goals as goal
 
@@ -21,13 +21,15 @@ returns-in-Set-clause-applied g c = λ last doc stages h.
 
 pub returns-then-not-branch-clause-sound : goal.returns-then-not-branch-clause-sound
 returns-then-not-branch-clause-sound g c =
-    let i = over (λ (u : VectorState). Inserts (At c.args.at) is_pending (Acked c.args.seq c.args.at.c) c.in-SpliceIn.pos c.in-SpliceIn.count u c.insert_units.new.units)
+    let i = over (λ (u : VectorState). Inserts (At c.args.at) is_pending (Acked c.args.seq c.args.at.c) c.in-SpliceIn.pos c.in-SpliceIn.count u
+    c.insert_units.new.units)
     c.units_mut.ensures.value c.if-not-branch.true c.in_ok-insert_units-in-SpliceIn.ensures.inserts in
     same-sound c.in-SpliceIn.target c.args.self.now c.insert_units.new.units i.1 c.requires.sound
 
 pub returns-then-not-branch-clause-applied : goal.returns-then-not-branch-clause-applied
 returns-then-not-branch-clause-applied g c = λ last doc stages h.
-    let i = over (λ (u : VectorState). Inserts (At c.args.at) is_pending (Acked c.args.seq c.args.at.c) c.in-SpliceIn.pos c.in-SpliceIn.count u c.insert_units.new.units)
+    let i = over (λ (u : VectorState). Inserts (At c.args.at) is_pending (Acked c.args.seq c.args.at.c) c.in-SpliceIn.pos c.in-SpliceIn.count u
+    c.insert_units.new.units)
     c.units_mut.ensures.value c.if-not-branch.true c.in_ok-insert_units-in-SpliceIn.ensures.inserts in
     subst (λ o. Passes last (with_units_at c.in-SpliceIn.target c.args.self.now c.insert_units.new.units) doc (grid_effect doc c.args.seq c.args.at.c c.args.at.r o) stages 1)
     (sym c.in-SpliceIn.is)
@@ -35,7 +37,8 @@ returns-then-not-branch-clause-applied g c = λ last doc stages h.
 
 pub returns-in_ok-count_made-in-SpliceIn-clause-sound : goal.returns-in_ok-count_made-in-SpliceIn-clause-sound
 returns-in_ok-count_made-in-SpliceIn-clause-sound g c =
-    let i = over (λ (u : VectorState). Inserts (At c.args.at) is_pending (Acked c.args.seq c.args.at.c) c.in-SpliceIn.pos c.in-SpliceIn.count u c.insert_units.new.units)
+    let i = over (λ (u : VectorState). Inserts (At c.args.at) is_pending (Acked c.args.seq c.args.at.c) c.in-SpliceIn.pos c.in-SpliceIn.count u
+    c.insert_units.new.units)
     c.units_mut.ensures.value c.if-not-branch.false c.in_ok-insert_units-in-SpliceIn.ensures.inserts in
     let t = c.in-SpliceIn.target in
     let v = c.insert_units.new.units in
@@ -45,7 +48,8 @@ returns-in_ok-count_made-in-SpliceIn-clause-sound g c =
 
 pub returns-in_ok-count_made-in-SpliceIn-clause-applied : goal.returns-in_ok-count_made-in-SpliceIn-clause-applied
 returns-in_ok-count_made-in-SpliceIn-clause-applied g c = λ last doc stages h.
-    let i = over (λ (u : VectorState). Inserts (At c.args.at) is_pending (Acked c.args.seq c.args.at.c) c.in-SpliceIn.pos c.in-SpliceIn.count u c.insert_units.new.units)
+    let i = over (λ (u : VectorState). Inserts (At c.args.at) is_pending (Acked c.args.seq c.args.at.c) c.in-SpliceIn.pos c.in-SpliceIn.count u
+    c.insert_units.new.units)
     c.units_mut.ensures.value c.if-not-branch.false c.in_ok-insert_units-in-SpliceIn.ensures.inserts in
     subst (λ o. Passes last c.count_made.new.self doc (grid_effect doc c.args.seq c.args.at.c c.args.at.r o) stages 0) (sym c.in-SpliceIn.is)
     (subst (λ x. Passes last x doc (grid_effect doc c.args.seq c.args.at.c c.args.at.r (SpliceIn c.in-SpliceIn.target c.in-SpliceIn.pos c.in-SpliceIn.count)) stages 0)
@@ -64,3 +68,34 @@ returns-in-SpliceOut-clause-applied g c = λ last doc stages h.
     (λ taken r. subst (λ o. Passes last (with_units_at t c.args.self.now v) doc (grid_effect doc c.args.seq c.args.at.c c.args.at.r o) stages (skips taken)) (sym c.in-SpliceOut.is)
     (remove-done last c.args.seq c.args.at c.args.self.now doc stages c.requires.sound h t p q v taken
     (subst (λ (u : VectorState). Removes (At c.args.at) (Acked c.args.seq c.args.at.c) p q u v taken) c.units_mut-in-SpliceOut.ensures.value r)))
+
+pub returns-in-Set-clause-sound : goal.returns-in-Set-clause-sound
+returns-in-Set-clause-sound g c = c.set.ensures.sound
+
+pub returns-in-Set-clause-floor : goal.returns-in-Set-clause-floor
+returns-in-Set-clause-floor g c = c.set.ensures.floor
+
+pub insert_units-requires-clause-sound : goal.insert_units-requires-clause-sound
+insert_units-requires-clause-sound g c = subst IsSoundVector (sym c.units_mut.ensures.value)
+    (sound-at c.in-SpliceIn.target c.args.self.now c.requires.sound)
+
+pub insert_units-requires-clause-floor : goal.insert_units-requires-clause-floor
+insert_units-requires-clause-floor g c =
+    subst (λ (u : VectorState). u.tree.floor ≤ c.args.at.r) (sym c.units_mut.ensures.value)
+    (subst (λ n. n ≤ c.args.at.r) (sym (floor-at c.in-SpliceIn.target c.args.self.now c.requires.sound)) c.requires.floor)
+
+pub remove_units-requires-clause-sound : goal.remove_units-requires-clause-sound
+remove_units-requires-clause-sound g c = subst IsSoundVector (sym c.units_mut-in-SpliceOut.ensures.value)
+    (sound-at c.in-SpliceOut.target c.args.self.now c.requires.sound)
+
+pub remove_units-requires-clause-floor : goal.remove_units-requires-clause-floor
+remove_units-requires-clause-floor g c =
+    subst (λ (u : VectorState). u.tree.floor ≤ c.args.at.r) (sym c.units_mut-in-SpliceOut.ensures.value)
+    (subst (λ n. n ≤ c.args.at.r) (sym (floor-at c.in-SpliceOut.target c.args.self.now c.requires.sound)) c.requires.floor)
+
+pub returns-then-not-branch-clause-floor : goal.returns-then-not-branch-clause-floor
+returns-then-not-branch-clause-floor g c =
+    let i = over (λ (u : VectorState). Inserts (At c.args.at) is_pending (Acked c.args.seq c.args.at.c) c.in-SpliceIn.pos c.in-SpliceIn.count u
+    c.insert_units.new.units)
+    c.units_mut.ensures.value c.if-not-branch.true c.in_ok-insert_units-in-SpliceIn.ensures.inserts in
+    side-floor c.in-SpliceIn.target c.args.self.now c.insert_units.new.units (ap (λ (v : VectorState). v.tree.floor) i.1)

@@ -1,10 +1,12 @@
-use Rattle.std.proofs.Common.{◌≡◌, ◌∙◌, Err, ap, arith, refl, sym, subst}
+use Rattle.std.proofs.Common.{◌≡◌, ◌∙◌, Err, ap, arith, map, refl, sym, subst}
 use Rattle.ft_op.specs.declared.operations.ChannelOp.TheVariants.{Grid}
-use Rattle.ft_op.specs.Operation.{sub_operations}
+use Rattle.ft_op.specs.declared.operations.CellOp.TheVariants.{SpliceIn}
+use Rattle.ft_op.specs.declared.operations.GridOp.TheVariants.{Group, One}
+use Rattle.ft_op.specs.Operation.{OnGrid, sub_operations}
 use Rattle.ft_op.specs.WellFormed.{IsWellFormedGrid}
 use Rattle.ft_msg.specs.declared.faults.EditFault.TheVariants.{OutOfRange}
 use Rattle.ft_msg.specs.Client.{local_sub_operations}
-use Rattle.ft_matrix.specs.OwnEdits.{refusal, seen_units}
+use Rattle.ft_matrix.specs.OwnEdits.{TakesStages, refusal, seen_units}
 use Rattle.ft_matrix.proofs.Refusals.{group-refused}
 use Rattle.ft_matrix.proofs.grid.Grid.edit_op.Goals as goal
 
@@ -21,3 +23,36 @@ returns-in-Some-clause-edited g c = λ last doc stages e h. (
       ∙ sym c.in_ok-length-in-Group.ensures ∙ c.in-Some.is)),
   refl,
 )
+
+pub returns-in-One-clause-sound : goal.returns-in-One-clause-sound
+returns-in-One-clause-sound g c = c.edit_one.ensures.sound
+
+pub returns-in-One-clause-floor : goal.returns-in-One-clause-floor
+returns-in-One-clause-floor g c = c.edit_one.ensures.floor
+
+pub returns-in-One-clause-reads : goal.returns-in-One-clause-reads
+returns-in-One-clause-reads g c = λ target p count e.
+    let one : One c.in-One.op ≡ One (SpliceIn target p count) = sym c.in-One.is ∙ e in
+    c.edit_one.ensures.reads target p count (cc)
+
+pub returns-in_ok-edit_all-in-Group-clause-sound : goal.returns-in_ok-edit_all-in-Group-clause-sound
+returns-in_ok-edit_all-in-Group-clause-sound g c = c.in_ok-edit_all-in-Group.ensures.sound
+
+pub returns-in_ok-edit_all-in-Group-clause-floor : goal.returns-in_ok-edit_all-in-Group-clause-floor
+returns-in_ok-edit_all-in-Group-clause-floor g c = c.in_ok-edit_all-in-Group.ensures.floor
+
+pub returns-in_ok-edit_all-in-Group-clause-edited : goal.returns-in_ok-edit_all-in-Group-clause-edited
+returns-in_ok-edit_all-in-Group-clause-edited g c = λ last doc stages e h.
+    subst (λ o. TakesStages last c.args.first c.edit_all.new.self doc stages (sub_operations (Grid o))) (sym c.in-Group.is)
+    (subst (λ ops. TakesStages last c.args.first c.edit_all.new.self doc stages (map (λ op. OnGrid op) ops)) c.as_slice-in-Group.ensures
+    (c.in_ok-edit_all-in-Group.ensures.edited last doc stages e h))
+
+pub returns-in_ok-edit_all-in-Group-clause-reads : goal.returns-in_ok-edit_all-in-Group-clause-reads
+returns-in_ok-edit_all-in-Group-clause-reads g c = λ target p count e.
+    let other : Group c.in-Group.ops ≡ One (SpliceIn target p count) = sym c.in-Group.is ∙ e in
+    (cc)
+
+pub returns-in-Some-clause-reads : goal.returns-in-Some-clause-reads
+returns-in-Some-clause-reads g c = λ target p count e.
+    let other : Group c.in-Group.ops ≡ One (SpliceIn target p count) = sym c.in-Group.is ∙ e in
+    (cc)
