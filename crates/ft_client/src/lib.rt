@@ -3,6 +3,7 @@
 //! A call that can't return `OutOfMemory` takes no memory; one that can returns it where there is no room.
 #![tactic(auto)]
 
+mod moved;
 mod numbers;
 pub mod own;
 pub mod stages;

@@ -15,11 +15,12 @@ ghost use Rattle.ft_client.specs.Holds.{HoldsTree};
 ghost use Rattle.ft_client.specs.Parts.{are_of_one_edit, is_text_part, own_stage};
 ghost use Rattle.ft_client.specs.Rejoins.{AddsPieces, GivesEdit, GivesEdits, GivesFirst, GivesNext, GivesPart, GivesSome, GivesStage, GivesTree, Joins, are_of_one_part, base_ops, cell_ops};
 
+use crate::moved::{alone, beside, joined};
 use crate::own::TreeOwn;
 use crate::stages::{OwnStage, Part};
-use ft_base::{Datum, OutOfMemory};
+use ft_base::OutOfMemory;
 use ft_msg::Entry;
-use ft_op::{BaseOp, BaseOps, CellOp, CellOps, ChannelOp, GridOp, TextOp};
+use ft_op::{BaseOps, CellOps, ChannelOp, GridOp, TextOp};
 use ft_replica::Resent;
 use std::alloc::Global;
 use std::collections::VecDeque;
@@ -81,8 +82,9 @@ impl TreeOwn {
         ensures { (low last : ℕ) (doc : Document) (front mine : List Stage) (t : Stage) (rest : List Stage) → are_of_one_edit (map own_stage (mine ++ t ∷ [])) ≡ true
             → GivesEdit self.old low last doc front mine (t ∷ rest) again → IfOk result (λ v. GivesEdit self.new low last doc front (mine ++ t ∷ []) rest v) }
     {
-        let op = self.give_stage()?;
-        let again = with_pieces(self.text.allocator(), again, op)?;
+        let op = self.give_stage();
+        let (op, so_far) = beside(op, again)?;
+        let again = with_pieces(self.text.allocator(), so_far, op)?;
         Ok(again)
     }
 
@@ -94,8 +96,9 @@ impl TreeOwn {
     {
         let stage = take_next(&mut self.stages);
         let op = self.give_part(stage)?;
-        put_behind(&mut self.stages, stage, op.is_some())?;
-        Ok(op)
+        let put = put_behind(&mut self.stages, stage, op.is_some());
+        let (_put, given) = beside(put, op)?;
+        Ok(given)
     }
 
     // Gives this stage to its part, and returns its pieces as one operation.
@@ -195,20 +198,28 @@ fn join(alloc: Global, first: ChannelOp, second: ChannelOp) -> Result<ChannelOp,
     ensures { IfOk result (λ op. Joins first second op) }
 {
     match (first, second) {
-        (ChannelOp::Text(first), ChannelOp::Text(second)) => {
-            let mut ops = base_ops(alloc, first)?;
-            push_base_ops(&mut ops, second)?;
-            Ok(ChannelOp::Text(TextOp::Group(ops)))
-        }
-        (ChannelOp::Grid(first), ChannelOp::Grid(second)) => {
-            let mut ops = cell_ops(alloc, first)?;
-            push_cell_ops(&mut ops, second)?;
-            Ok(ChannelOp::Grid(GridOp::Group(ops)))
-        }
+        (ChannelOp::Text(first), ChannelOp::Text(second)) => join_texts(alloc, first, second),
+        (ChannelOp::Grid(first), ChannelOp::Grid(second)) => join_grids(alloc, first, second),
         (ChannelOp::Text(_), ChannelOp::Grid(_)) | (ChannelOp::Grid(_), ChannelOp::Text(_)) => {
             unreachable!()
         }
     }
+}
+
+// Both operations on the elements of the text as one.
+fn join_texts(alloc: Global, first: TextOp, second: TextOp) -> Result<ChannelOp, OutOfMemory>
+    ensures { IfOk result (λ op. Joins (Text first) (Text second) op) }
+{
+    let ops = joined(base_ops(alloc, first), base_ops(alloc, second))?;
+    Ok(ChannelOp::Text(TextOp::Group(ops)))
+}
+
+// Both operations on the grid as one.
+fn join_grids(alloc: Global, first: GridOp, second: GridOp) -> Result<ChannelOp, OutOfMemory>
+    ensures { IfOk result (λ op. Joins (Grid first) (Grid second) op) }
+{
+    let ops = joined(cell_ops(alloc, first), cell_ops(alloc, second))?;
+    Ok(ChannelOp::Grid(GridOp::Group(ops)))
 }
 
 // The members of an operation on the elements of the text. A group is handed on as it is.
@@ -216,11 +227,7 @@ fn base_ops(alloc: Global, op: TextOp) -> Result<BaseOps, OutOfMemory>
     ensures { IfOk result (λ ops. ops ≡ base_ops op) }
 {
     match op {
-        TextOp::One(op) => {
-            let mut ops = BaseOps::new(alloc);
-            ops.push(op)?;
-            Ok(ops)
-        }
+        TextOp::One(op) => alone(alloc, op),
         TextOp::Group(ops) => Ok(ops),
         TextOp::IntervalAdd { .. }
         | TextOp::IntervalChange { .. }
@@ -233,56 +240,7 @@ fn cell_ops(alloc: Global, op: GridOp) -> Result<CellOps, OutOfMemory>
     ensures { IfOk result (λ ops. ops ≡ cell_ops op) }
 {
     match op {
-        GridOp::One(op) => {
-            let mut ops = CellOps::new(alloc);
-            ops.push(op)?;
-            Ok(ops)
-        }
+        GridOp::One(op) => alone(alloc, op),
         GridOp::Group(ops) => Ok(ops),
     }
-}
-
-// Adds the members of an operation on the elements of the text.
-fn push_base_ops(ops: &mut BaseOps, op: TextOp) -> Result<(), OutOfMemory>
-    ensures { OnOk result (ops.new ≡ ops.old ++ base_ops op) }
-{
-    match op {
-        TextOp::One(op) => ops.push(op),
-        TextOp::Group(more) => push_each_base(ops, more.as_slice()),
-        TextOp::IntervalAdd { .. }
-        | TextOp::IntervalChange { .. }
-        | TextOp::IntervalDelete { .. } => Ok(()),
-    }
-}
-
-// Adds copies of these.
-fn push_each_base(ops: &mut BaseOps, more: &[BaseOp]) -> Result<(), OutOfMemory>
-    ensures { OnOk result (ops.new ≡ ops.old ++ more.now) }
-{
-    for op in more {
-        let op = op.copy()?;
-        ops.push(op)?;
-    }
-    Ok(())
-}
-
-// Adds the members of an operation on the grid.
-fn push_cell_ops(ops: &mut CellOps, op: GridOp) -> Result<(), OutOfMemory>
-    ensures { OnOk result (ops.new ≡ ops.old ++ cell_ops op) }
-{
-    match op {
-        GridOp::One(op) => ops.push(op),
-        GridOp::Group(more) => push_each_cell(ops, more.as_slice()),
-    }
-}
-
-// Adds copies of these.
-fn push_each_cell(ops: &mut CellOps, more: &[CellOp]) -> Result<(), OutOfMemory>
-    ensures { OnOk result (ops.new ≡ ops.old ++ more.now) }
-{
-    for op in more {
-        let op = op.copy()?;
-        ops.push(op)?;
-    }
-    Ok(())
 }
