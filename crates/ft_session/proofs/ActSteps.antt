@@ -1,6 +1,6 @@
 -- What becomes of an event becomes of what it does.
-use Rattle.std.proofs.Common.{◌≡◌, ◌≤◌, ℕ, nat_le, Bool, true, Result, sym, ◌∙◌, ap, subst, arith}
-use Rattle.std.specs.Prelude.{IsTrue}
+use Rattle.std.proofs.Common.{◌≡◌, ◌≤◌, ℕ, nat_le, Bool, true, Result, Ok, Err, sym, ◌∙◌, ap, subst, arith}
+use Rattle.std.specs.Prelude.{IfOk, IsTrue}
 use Rattle.std.proofs.lemmas.Bool.Decides.{nat_tests}
 use Rattle.ft_base.proofs.Booleans.{both}
 use Rattle.ft_op.specs.WellFormed.{is_count, is_range}
@@ -16,7 +16,7 @@ use Rattle.ft_session.specs.declared.acts.ClientAct.TheVariants as client
 use Rattle.ft_session.specs.declared.acts.SessionAct.{SessionAct}
 use Rattle.ft_session.specs.declared.acts.SessionAct.TheVariants as session
 use Rattle.ft_session.specs.declared.outputs.Out.{Out}
-use Rattle.ft_session.specs.Acts.{ActEffect, IsAct, IsClientAct, IsSessionAct, IsWellFormedAct, IsWellFormedClientAct, NamedActEffect, SessionActEffect, act_load, act_step, client_load, client_step, draft_load, message_load, offered_client, session_load, session_step, submitted_guest}
+use Rattle.ft_session.specs.Acts.{ActEffect, ClientActEffect, IsAct, IsClientAct, IsSessionAct, IsWellFormedAct, IsWellFormedClientAct, NamedActEffect, SessionActEffect, act_load, act_step, client_load, client_step, draft_load, message_load, offered_client, session_load, session_step, submitted_guest}
 use Rattle.ft_session.specs.Effects.{SessionEffect}
 use Rattle.ft_session.specs.Worlds.{AnswersClient, AnswersHappening, AnswersReading, AnswersSession, MemberState, ServiceState, SessionState}
 use Rattle.ft_session.proofs.Happenings.{reading-answers}
@@ -145,6 +145,12 @@ as-client {act} {done} {m} {new} {before} {after} {result} h a = subst (λ x. An
 pub as-asked : {act done : ClientAct} {m : MemberState} {s : ServiceState} {result : Result Out Refusal} → act ≡ done → AnswersReading (client_step done) m s result
     → AnswersClient (client_step act) m m s s result
 as-asked {act} {done} {m} {s} {result} h a = as-client h (reading-answers (client_step done) m s result a)
+
+-- what makes nothing more of a replica than that it stands for its client
+pub without-effect : (compacts : Bool) {act done : ClientAct} (m : MemberState) → act ≡ done → (result : Result Out Refusal)
+    → ((out : Out) → ClientActEffect compacts done m out) → IfOk result (λ out. ClientActEffect compacts act m out)
+without-effect compacts {act} {done} m h (Ok out) e = subst (λ a. ClientActEffect compacts a m out) (sym h) (e out)
+without-effect compacts m h (Err why) e = tt
 
 -- what a session answers to one of the things that happen to it
 pub as-session : {act done : SessionAct} {old new : SessionState} {result : Result Out Refusal} → act ≡ done → AnswersHappening (λ w. session_step w done) old new result

@@ -1,7 +1,7 @@
 -- What a replica is asked, and what it writes.
-use Rattle.std.proofs.Common.{◌≡◌, ◌≤◌, ◌<◌, ℕ, zero, suc, ◌+◌, ◌-◌, Bool, true, false, cond, nat_lt, List, [], ◌∷◌, ◌++◌, add-one, drop, length, map, slice_get, take, Some, None, Result, Ok, Err, refl, sym, ◌∙◌, ap, subst, arith}
+use Rattle.std.proofs.Common.{◌≡◌, ◌≤◌, ◌<◌, ℕ, zero, suc, ◌+◌, ◌-◌, Bool, true, false, cond, nat_lt, List, [], ◌∷◌, ◌++◌, add-one, append_assoc, drop, length, map, slice_get, take, Some, None, Result, Ok, Err, refl, sym, ◌∙◌, ap, subst, arith}
 use Rattle.serde_json.specs.Written.{compact_text}
-use Rattle.std.specs.Prelude.{⊤}
+use Rattle.std.specs.Prelude.{⊤, IfOk}
 use Rattle.std.specs.Result.{IsErr, IsErrAnd}
 use Rattle.std.proofs.lemmas.Bool.Decides.{nat_tests}
 use Rattle.ft_base.proofs.Options.{some-same}
@@ -41,11 +41,12 @@ use Rattle.ft_seqr.specs.World.{NaiveWorld, NamedClient, Stepped, Texts, View, b
 use Rattle.ft_laws_sessions.proofs.MadeWorlds.{made-cut, made-queue}
 use Rattle.ft_session.specs.declared.outputs.Out.{Out}
 use Rattle.ft_session.specs.declared.outputs.Out.TheVariants as out
+use Rattle.ft_session.specs.Outputs.{AddsText, WritesAs}
 use Rattle.ft_session.specs.Asked.{authors_client, overlap_client, queue_client, show_client, summarize_client}
 use Rattle.ft_seqr.specs.RefusalKinds.{MeansOf, refusal_kind}
 use Rattle.ft_session.specs.Worlds.{AnswersReading, Meets, MeetsSome, MemberState, ServiceState}
 use Rattle.ft_session.proofs.Entering.{idle-alike, pending-count, summary-refused, unless-taken}
-use Rattle.ft_session.proofs.OwnEvents.{handed-on, meets-reached}
+use Rattle.ft_session.proofs.OwnEvents.{handed-on, meets-reached, written-known}
 use Rattle.ft_session.proofs.RefusalKinds.{some-none}
 
 -- ---- texts
@@ -68,6 +69,22 @@ none-left zero [] h = refl
 none-left zero (d ∷ ds) h = (cc)
 none-left (suc i) [] h = refl
 none-left (suc i) (d ∷ ds) h = ap (λ es. d ∷ es) (none-left i ds h)
+
+-- a text whose words are known is added
+pub added-known : {E : Type 0} (text : List ℕ) (x : Result (List ℕ) E) (old new : List (List ℕ)) → IfOk x (λ t. t ≡ text) → AddsText x old new
+    → new ≡ old ++ (text ∷ [])
+added-known text (Ok t) old new e h = h ∙ ap (λ u. old ++ (u ∷ [])) e
+added-known text (Err want) old new e h = absurd h
+
+-- the text of one element more
+pub text-added : {A B E : Type 0} (written : A → B) (text : B → List ℕ) (all rest later : List A) (a : A) (x : Result (List ℕ) E)
+    (old new : List (List ℕ)) → rest ≡ a ∷ later → IfOk x (λ t. t ≡ text (written a)) → AddsText x old new
+    → old ++ map text (map written rest) ≡ map text (map written all)
+    → new ++ map text (map written later) ≡ map text (map written all)
+text-added written text all rest later a x old new r e h k =
+    ap (λ ts. ts ++ map text (map written later)) (added-known (text (written a)) x old new e h)
+    ∙ append_assoc old (text (written a) ∷ []) (map text (map written later))
+    ∙ ap (λ l. old ++ map text (map written l)) (sym r) ∙ k
 
 -- ---- refusals
 
@@ -94,6 +111,19 @@ pub reading-view : {event : NaiveWorld → NamedClient → Stepped} {m old : Mem
 reading-view {event} {m} {old} {s} {result} e a = subst (λ o. AnswersReading event o s result) e a
 
 -- ---- answers
+
+-- what is written, if there was memory for it
+pub reading-written : {A E : Type 0} {event : NaiveWorld → NamedClient → Stepped} {m : MemberState} {s : ServiceState} (written : A → Out) (a : A)
+    (x : Result A E) (result : Result Out Refusal) → IfOk x (λ b. b ≡ a) → WritesAs written x result → AnswersReading event m s (Ok (written a))
+    → AnswersReading event m s result
+reading-written {A} {E} {event} {m} {s} written a x result e w h =
+    written-known (λ r. AnswersReading event m s r) written a x result (record { client = λ v c meets. tt }) e h w
+
+-- the same of texts
+pub reading-texts : {E : Type 0} {event : NaiveWorld → NamedClient → Stepped} {m : MemberState} {s : ServiceState} (texts : List (List ℕ))
+    (x : Result (List (List ℕ)) E) (result : Result Out Refusal) → IfOk x (λ ts. ts ≡ texts) → WritesAs (λ ts. out.Texts ts) x result
+    → AnswersReading event m s (Ok (out.Texts texts)) → AnswersReading event m s result
+reading-texts texts x result e w h = reading-written (λ ts. out.Texts ts) texts x result e w h
 
 -- what is read of a replica, of its client
 pub read-of : {A : Type 0} (P : A → NaiveClient → Type 0) (m : MemberState) (s : ServiceState) (a : A) → AnswersRead P m.replica (Ok a)

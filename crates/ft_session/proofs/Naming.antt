@@ -1,7 +1,8 @@
 -- Which names a session gives.
-use Rattle.std.proofs.Common.{◌≡◌, ◌≤◌, ◌<◌, ℕ, ◌+◌, Bool, true, false, cond, ◌||◌, nat_le, List, [], ◌∷◌, length, suc, Option, Some, None, refl, sym, ◌∙◌, ap, arith, le-leb}
+use Rattle.std.proofs.Common.{◌≡◌, ◌≤◌, ◌<◌, ℕ, ◌+◌, Bool, true, false, cond, ◌||◌, nat_le, List, [], ◌∷◌, length, suc, Option, Some, None, is_some, refl, sym, ◌∙◌, ap, arith, le-leb}
 use Rattle.std.proofs.lemmas.Bool.Decides.{nat_tests}
-use Rattle.std.specs.List.{list_any}
+use Rattle.std.specs.List.{list_any, position, position_from}
+use Rattle.std.proofs.lemmas.Iterator.Adapters.{position_from-zero}
 use Rattle.std.specs.Str.{bytes_eq}
 use Rattle.ft_props.specs.Properties.{Characters}
 use Rattle.ft_msg.specs.declared.messages.Entry.{Entry}
@@ -10,6 +11,18 @@ use Rattle.ft_seqr.specs.declared.refusals.Refusal.TheVariants.{ClientLimit, Nam
 use Rattle.ft_seqr.specs.World.{NaiveWorld, NamedClient, is_client, is_guest, name_fault, name_limit}
 use Rattle.ft_seqr.specs.RefusalKinds.{Refused}
 use Rattle.ft_session.specs.Worlds.{MembersStand, MemberState, SessionState, SessionStands, has_name}
+
+-- a place is found exactly where there is one
+found-from : {A : Type 0} (p : A → Bool) (k : ℕ) (xs : List A) → is_some (position_from p k xs) ≡ list_any p xs
+found-from p k [] = refl
+found-from p k (x ∷ xs) = step (p x) (found-from p (k + 1) xs)
+  where
+    step : (b : Bool) → is_some (position_from p (k + 1) xs) ≡ list_any p xs → is_some (cond b (Some k) (position_from p (k + 1) xs)) ≡ b || list_any p xs
+    step true h = refl
+    step false h = h
+
+pub any-found : {A : Type 0} (p : A → Bool) (xs : List A) → is_some (position p xs) ≡ list_any p xs
+any-found p xs = ap is_some (position_from-zero p xs) ∙ found-from p 0 xs
 
 module _ (log : List Entry) (name : Characters) where
   any-stand : (ms : List MemberState) (cs : List NamedClient) → MembersStand log ms cs → list_any (is_client name) cs ≡ list_any (has_name name) ms

@@ -1,6 +1,6 @@
 -- An event that changes one replica alone.
 use Rattle.std.proofs.Common.{◌≡◌, max, List, [], take, Result, Ok, Err, refl, sym, ◌∙◌, ap, subst, arith, append-nil}
-use Rattle.std.specs.Prelude.{⊤}
+use Rattle.std.specs.Prelude.{⊤, IfOk}
 use Rattle.ft_seqr.specs.Refusals.{refusal_of_view}
 use Rattle.ft_laws_summaries.proofs.Lists.{each-found}
 use Rattle.ft_msg.specs.declared.faults.ViewFault.{ViewFault}
@@ -18,6 +18,7 @@ use Rattle.std.specs.Result.{IsErr, IsErrAnd}
 use Rattle.ft_session.specs.declared.outputs.Out.{Out}
 use Rattle.ft_session.specs.declared.outputs.Out.TheVariants as out
 use Rattle.ft_seqr.specs.RefusalKinds.{MeansOf, refusal_kind}
+use Rattle.ft_session.specs.Outputs.{WritesAs}
 use Rattle.ft_session.specs.Worlds.{AnswersClient, LeavesClient, Meets, MeetsSome, MemberStands, MemberState, ServiceState}
 use Rattle.ft_seqr.proofs.RefusalKinds.{means-weaker}
 use Rattle.ft_session.proofs.RefusalKinds.{SayAlike, fault-means, some-none}
@@ -63,6 +64,19 @@ leaves-stepped w c m r s y meets runs o n = record {
 pub handed-on : {A E : Type 0} (P : Result A E → Type 0) (e : E) (result : Result A E) → IsErr result × IsErrAnd result (λ why. why ≡ e) → P (Err e) → P result
 handed-on P e (Ok o) h p = let k = h.0 in (cc)
 handed-on P e (Err why) h p = subst (λ w. P (Err w)) (sym h.1) p
+
+-- what holds of what a value is written as, and of OutOfMemory, holds of the answer
+pub written-as : {A E : Type 0} (P : Result Out Refusal → Type 0) (written : A → Out) (x : Result A E) (result : Result Out Refusal)
+    → P (Err OutOfMemory) → IfOk x (λ a. P (Ok (written a))) → WritesAs written x result → P result
+written-as P written (Ok a) (Ok o) w h e = subst (λ p. P (Ok p)) (sym e) h
+written-as P written (Ok a) (Err why) w h e = subst (λ r. P (Err r)) (sym e) w
+written-as P written (Err want) result w h e = subst P (sym e) w
+
+-- the same where it is known what the value is
+pub written-known : {A E : Type 0} (P : Result Out Refusal → Type 0) (written : A → Out) (a : A) (x : Result A E) (result : Result Out Refusal)
+    → P (Err OutOfMemory) → IfOk x (λ b. b ≡ a) → P (Ok (written a)) → WritesAs written x result → P result
+written-known {A} {E} P written a (Ok b) result w e h k = written-as {E = E} P written (Ok b) result w (subst (λ c. P (Ok (written c))) (sym e) h) k
+written-known P written a (Err want) result w e h k = subst P (sym k) w
 
 module _ {E : Type 0} (kind : E → FaultKind) (refusal : E → Refusal) (step : NaiveClient → Result NaiveClient E) (m : MemberState) (s : ServiceState) (new : ReplicaState) where
   abbrev after_step : NaiveWorld → NamedClient → Result NaiveClient E → Stepped

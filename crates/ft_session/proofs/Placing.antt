@@ -5,12 +5,14 @@ use Rattle.std.specs.List.{find, list_any, position_from, slice_get}
 use Rattle.std.specs.Str.{bytes_eq}
 use Rattle.std.proofs.lemmas.Slice.Eq.{bytes_eq-Decides}
 use Rattle.ft_base.proofs.Booleans.{both}
+use Rattle.ft_base.proofs.Options.{some-same}
 use Rattle.ft_props.specs.Properties.{Characters}
 use Rattle.ft_sumdoc.specs.Counts.{are_distinct_names}
 use Rattle.ft_laws_agreement.specs.Sequencing.{Each}
 use Rattle.ft_msg.specs.declared.messages.Entry.{Entry}
 use Rattle.ft_seqr.specs.World.{NamedClient, greatest_origin, in_place, is_client}
 use Rattle.ft_session.specs.Worlds.{MembersStand, MemberStands, MemberState, has_name}
+use Rattle.ft_session.proofs.RefusalKinds.{some-none}
 
 -- the names of clients
 abbrev pub names_of : List NamedClient → List Characters
@@ -79,20 +81,20 @@ module _ (log : List Entry) where
   -- the place that a search over members finds
   pub found : (name : Characters) (k i : ℕ) (ms : List MemberState) (cs : List NamedClient)
       → MembersStand log ms cs → are_distinct_names (names_of cs) ≡ true → position_from (has_name name) k ms ≡ Some i → (j : ℕ) × (i ≡ k + j) × Found name ms j cs
-  found name k i [] cs s d h = (cc)
+  found name k i [] cs s d h = some-none None i refl h
   found name k i (m ∷ ms) [] s d h = elim s [ ]
   found name k i (m ∷ ms) (c ∷ cs) s d h =
       let b = both (not (list_any (bytes_eq c.name) (names_of cs))) (are_distinct_names (names_of cs)) d in
       step (has_name name m) refl (hidden (list_any (bytes_eq c.name) (names_of cs)) b.0) h (λ p. found name (k + 1) i ms cs s.1 b.1 p)
     where
       later : (j : ℕ) × (i ≡ k + 1 + j) × Found name ms j cs → has_name name m ≡ false → (j : ℕ) × (i ≡ k + j) × Found name (m ∷ ms) j (c ∷ cs)
-      later (j, q, f) e = (suc j, omega arith, found_later name m c ms j cs e s.0 f)
+      later (j, q, f) e = (suc j, omega (arith, q), found_later name m c ms j cs e s.0 f)
 
       step : (b : Bool) → has_name name m ≡ b → list_any (bytes_eq c.name) (names_of cs) ≡ false
           → cond b (Some k) (position_from (has_name name) (k + 1) ms) ≡ Some i
           → (position_from (has_name name) (k + 1) ms ≡ Some i → (j : ℕ) × (i ≡ k + 1 + j) × Found name ms j cs)
           → (j : ℕ) × (i ≡ k + j) × Found name (m ∷ ms) j (c ∷ cs)
-      step true e alone p rest = let q : k ≡ i = (cc) in (0, omega arith, found_here name m c ms cs e s.0 s.1 alone)
+      step true e alone p rest = let q : k ≡ i = some-same k i p in (0, omega (arith, q), found_here name m c ms cs e s.0 s.1 alone)
       step false e alone p rest = later (rest p) e
 
   -- no client has the name where the search finds none
@@ -105,7 +107,7 @@ module _ (log : List Entry) where
     where
       step : (b : Bool) → has_name name m ≡ b → cond b (Some k) (position_from (has_name name) (k + 1) ms) ≡ None
           → (position_from (has_name name) (k + 1) ms ≡ None → find (is_client name) cs ≡ None) → find (is_client name) (c ∷ cs) ≡ None
-      step true e p rest = (cc)
+      step true e p rest = some-none (Some k) k p refl
       step false e p rest = let t : is_client name c ≡ false = ap (λ k. bytes_eq name k) (sym s.0.name) ∙ e in rw t (rest p)
 
   -- a replica that came in stands for its client, beside the others

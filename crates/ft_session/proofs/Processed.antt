@@ -114,8 +114,11 @@ processes-next r entry entries x y formed p =
     )
 
 -- the rest of a list at a place in it, and behind its end
+pub rest-from : {A : Type 0} (es : List A) (i : ℕ) (e : A) → i < length es → drop i es ≡ get_or es i e ∷ drop (i + 1) es
+rest-from es i e l = drop-cons es i e l ∙ (let k : suc i ≡ i + 1 = omega arith in ap (λ n. get_or es i e ∷ drop n es) k)
+
 pub rest-at : {A : Type 0} (es : List A) (i : ℕ) (e : A) → i < length es → e ≡ get_or es i e → drop i es ≡ e ∷ drop (i + 1) es
-rest-at es i e l h = drop-cons es i e l ∙ (ap (λ x. x ∷ drop (suc i) es) (sym h) ∙ (let k : suc i ≡ i + 1 = omega arith in ap (λ n. e ∷ drop n es) k))
+rest-at es i e l h = rest-from es i e l ∙ ap (λ x. x ∷ drop (i + 1) es) (sym h)
 
 pub none-left : {A : Type 0} (es : List A) (i : ℕ) → length es ≤ i → drop i es ≡ []
 none-left es i l = drop_of_length-le es l

@@ -4,6 +4,7 @@ ghost use Rattle.std.specs.Prelude.{◌≡◌, IfOk, encode_utf8_all};
 ghost use Rattle.ft_msg.specs.MessageGrammar.{draft, message};
 ghost use Rattle.ft_session.specs.Acts.{IsAct};
 
+use crate::handing::boxed;
 use ft_base::{OutOfMemory, Text};
 use ft_msg::{Cause, Draft, Message, read_draft, read_message};
 use ft_op::ChannelOp;
@@ -93,7 +94,7 @@ pub(crate) fn act_of(alloc: Global, event: &Event) -> Result<Act<'_>, OutOfMemor
 fn offer<'a>(alloc: Global, client: &'a Text, text: &Text) -> Result<Act<'a>, OutOfMemory>
     ensures { IfOk result (λ act. IsAct act (Event.Offer client.now text.now)) }
 {
-    let read = Box::new(alloc, read_offer(alloc, text)?)?;
+    let read = boxed(alloc, read_offer(alloc, text))?;
     Ok(Act::OfClient(client, ClientAct::Offer(read)))
 }
 
@@ -101,7 +102,7 @@ fn offer<'a>(alloc: Global, client: &'a Text, text: &Text) -> Result<Act<'a>, Ou
 fn submission<'a>(alloc: Global, guest: &'a Text, text: &Text) -> Result<Act<'a>, OutOfMemory>
     ensures { IfOk result (λ act. IsAct act (Event.Submit guest.now text.now)) }
 {
-    let read = Box::new(alloc, read_submission(alloc, text)?)?;
+    let read = boxed(alloc, read_submission(alloc, text))?;
     Ok(Act::OfSession(SessionAct::Submit(guest, read)))
 }
 

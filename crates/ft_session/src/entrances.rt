@@ -2,22 +2,26 @@
 
 ghost use Rattle.std.specs.Prelude.{◌≡◌, ◌∷◌, ◌++◌, [], None, Some, Err, ⊤, IfOk, IfErr, OnOk, find};
 ghost use Rattle.ft_props.specs.Properties.{Characters};
+ghost use Rattle.ft_sumdoc.specs.Valid.{IsValidSummary};
 ghost use Rattle.ft_seqr.specs.World.{NaiveWorld, NamedClient, happen, is_client, name_fault, start_client};
 ghost use Rattle.ft_seqr.specs.declared.events.Event.TheVariants as event;
 ghost use Rattle.ft_laws_sessions.specs.MadeWorlds.{IsMade};
 ghost use Rattle.ft_session.specs.Effects.{KeepsTrimmed, SessionEffect, StartsTrimmed};
-ghost use Rattle.ft_session.specs.Entrances.{AnswersName, IsCopyOf, new_member};
+ghost use Rattle.ft_session.specs.Entrances.{AnswersName, IsCopyOf, StartsFrom, new_member};
 ghost use Rattle.ft_seqr.specs.RefusalKinds.{MeansOf, refusal_kind};
 ghost use Rattle.ft_session.specs.Worlds.{AnswersHappening, SessionStands, StandsForSome};
 
 use crate::asked::summary_of;
 use crate::guests::has_guest;
+use crate::handing::push;
 use crate::members::{Member, has_member, member_place};
 use crate::outputs::BoxedOut;
 use crate::session::Session;
 use ft_base::{Datum, OutOfMemory, Text};
 use ft_msg::Replica;
 use ft_seqr::{NAME_LIMIT, Refusal};
+use ft_sumdoc::SumDoc;
+use std::alloc::Global;
 
 impl<R: Replica + Drop> Session<R> {
     /// A new client, empty, or over the document of the client of the second name.
@@ -82,8 +86,7 @@ impl<R: Replica + Drop> Session<R> {
             return Err(Refusal::UnknownClient);
         };
         let summary = summary_of(&self.members[place], &self.service)?;
-        let replica = R::from_summary(self.service.alloc, &summary)?;
-        Ok(replica)
+        replica_over(self.service.alloc, &summary)
     }
 
     // A replica comes in under a new name.
@@ -91,11 +94,20 @@ impl<R: Replica + Drop> Session<R> {
         ensures { OnOk result (self.new ≡ record self.old { members = self.old.members ++ new_member name.now (R.state replica) ∷ [] }) }
     {
         let name = name.copy()?;
-        self.members.push(Member {
+        let member = Member {
             name,
             replica,
             connects: 0,
-        })?;
-        Ok(())
+        };
+        push(&mut self.members, member)
     }
+}
+
+// A replica over the document of a summary.
+fn replica_over<R: Replica>(alloc: Global, summary: &SumDoc) -> Result<R, Refusal>
+    requires { IsValidSummary summary.now }
+    ensures starts { IfOk result (λ r. StartsFrom summary.now (R.state r)) }
+    ensures err { IfErr result (λ why. why ≡ Refusal.OutOfMemory) }
+{
+    Ok(R::from_summary(alloc, summary)?)
 }

@@ -1,18 +1,19 @@
 //! Guests: names without a client, each with a connection.
 
-ghost use Rattle.std.specs.Prelude.{◌≡◌, ◌∷◌, ◌++◌, [], IfOk, OnOk, map};
+ghost use Rattle.std.specs.Prelude.{◌≡◌, ◌+◌, ◌-◌, ◌<◌, ◌^◌, ◌∷◌, ◌++◌, [], None, IfOk, OnOk, length, map};
 ghost use Rattle.serde_json.specs.Written.{compact_text};
 ghost use Rattle.std.specs.List.{list_any, position};
 ghost use Rattle.ft_laws_agreement.specs.Sequencing.{Each};
 ghost use Rattle.ft_msg.specs.WellFormed.{IsWellFormedMessage};
 ghost use Rattle.ft_msg.specs.Written.{written_message};
-ghost use Rattle.ft_seqr.specs.World.{NaiveWorld, happen, is_guest, of_guest};
+ghost use Rattle.ft_seqr.specs.World.{NaiveWorld, connection_name, happen, is_guest, name_fault, of_guest};
 ghost use Rattle.ft_seqr.specs.declared.events.Event.TheVariants as event;
 ghost use Rattle.ft_session.specs.Acts.{submitted_guest, submitted_or_refused};
 ghost use Rattle.ft_session.specs.Services.{AnswersService};
-ghost use Rattle.ft_session.specs.Worlds.{AnswersHappening, StandsForSome, service_of};
+ghost use Rattle.ft_session.specs.Worlds.{AnswersHappening, SessionStands, StandsForSome, service_of};
 
-use crate::outputs::{BoxedOut, Out, Values};
+use crate::handing::push;
+use crate::outputs::{BoxedOut, Values, push_text};
 use crate::service::Service;
 use crate::session::Session;
 use ft_base::{Datum, OutOfMemory, Text};
@@ -45,7 +46,19 @@ impl<R: Replica + Drop> Session<R> {
         self.free_name(name)?;
         let conn = self.service.next_conn()?;
         let label = connection_name(self.service.alloc, name, 1)?;
-        self.service.join(&label)?;
+        self.enter_as(name, conn, &label)
+    }
+
+    // A new name without a client, with this connection, which joins under this label.
+    fn enter_as(&mut self, name: &Text, conn: u32, label: &Text) -> Result<BoxedOut, Refusal>
+        requires stands { StandsForSome self.old }
+        requires free { (w : NaiveWorld) → SessionStands self.old w → name_fault w name.now ≡ None }
+        requires next { conn ≡ length self.old.service.names + 1 }
+        requires few { length self.old.service.names < 2 ^ 32 - 1 }
+        requires label { label.now ≡ connection_name name.now 1 }
+        ensures { AnswersHappening (λ w. happen w (event.Guest name.now)) self.old self.new result }
+    {
+        self.service.join(label)?;
         self.add_guest(name, conn)?;
         Ok(BoxedOut::nothing())
     }
@@ -83,8 +96,7 @@ impl<R: Replica + Drop> Session<R> {
         ensures { OnOk result (self.new ≡ record self.old { guests = self.old.guests ++ record { name = name.now; conn = conn } ∷ [] }) }
     {
         let name = name.copy()?;
-        self.guests.push(Guest { name, conn })?;
-        Ok(())
+        push(&mut self.guests, Guest { name, conn })
     }
 
     /// The messages of the log.
@@ -92,8 +104,7 @@ impl<R: Replica + Drop> Session<R> {
         requires { StandsForSome self.now }
         ensures { AnswersHappening (λ w. happen w event.History) self.now self.now result }
     {
-        let values = log_texts(&self.service)?;
-        Ok(BoxedOut::of(self.service.alloc, Out::Texts(values))?)
+        BoxedOut::of_texts(self.service.alloc, log_texts(&self.service))
     }
 }
 
@@ -101,7 +112,7 @@ impl<R: Replica + Drop> Session<R> {
 pub(crate) fn has_guest(guests: &[Guest], name: &Text) -> bool
     ensures { result ≡ list_any (is_guest name.now) guests.now }
 {
-    guests.iter().any(|guest| name.same(&guest.name))
+    place_of_guest(guests, name).is_some()
 }
 
 /// The place of the guest of that name.
@@ -126,7 +137,7 @@ fn message_texts(alloc: Global, entries: &[Entry]) -> Result<Values, OutOfMemory
 {
     let mut values = Values::new(alloc);
     for entry in entries {
-        values.push(write_message(alloc, &entry.msg)?)?;
+        push_text(&mut values, write_message(alloc, &entry.msg))?;
     }
     Ok(values)
 }

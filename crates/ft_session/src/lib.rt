@@ -10,6 +10,7 @@ mod deliveries;
 mod edits;
 mod entrances;
 mod guests;
+mod handing;
 mod laws;
 mod links;
 mod loads;

@@ -29,7 +29,7 @@ impl<R: Replica> Model for Member<R> {
 pub(crate) fn has_member<R: Replica>(members: &[Member<R>], name: &Text) -> bool
     ensures { result ≡ list_any (has_name name.now) members.now }
 {
-    members.iter().any(|member| name.same(&member.name))
+    member_place(members, name).is_some()
 }
 
 /// The place of the replica of that name.

@@ -1,11 +1,14 @@
 //! What an event of a session is answered.
 
-ghost use Rattle.std.specs.Prelude.{◌≡◌, IfOk};
+ghost use Rattle.std.specs.Prelude.{◌≡◌, OnOk};
 ghost use Rattle.ft_session.specs.declared.outputs.Out.TheVariants as out;
+ghost use Rattle.ft_session.specs.Outputs.{AddsText, Writes, WritesAs};
 
+use crate::handing::{both, boxed};
 use ft_base::{List, OutOfMemory, Text};
 use ft_json::ValText;
 use ft_msg::View;
+use ft_seqr::Refusal;
 use std::alloc::Global;
 use std::marker::Model;
 
@@ -49,15 +52,40 @@ impl BoxedOut {
         BoxedOut { out: None }
     }
 
-    /// This, on the heap.
-    ///
-    /// Returns `OutOfMemory` where there is no room for it.
-    pub(crate) fn of(alloc: Global, written: Out) -> Result<BoxedOut, OutOfMemory>
-        ensures { IfOk result (λ boxed. boxed ≡ written) }
+    // This, on the heap.
+    //
+    // Returns `OutOfMemory` where there is no room for it.
+    fn of(alloc: Global, written: Out) -> Result<BoxedOut, Refusal>
+        ensures { Writes written result }
     {
-        Ok(BoxedOut {
-            out: Some(Box::new(alloc, written)?),
-        })
+        let out = boxed(alloc, Ok(written))?;
+        Ok(BoxedOut { out: Some(out) })
+    }
+
+    /// The texts, on the heap.
+    ///
+    /// Returns `OutOfMemory` where there was or is no room for them.
+    pub(crate) fn of_texts(
+        alloc: Global,
+        texts: Result<Values, OutOfMemory>,
+    ) -> Result<BoxedOut, Refusal>
+        ensures { WritesAs (λ ts. out.Texts ts) texts result }
+    {
+        BoxedOut::of(alloc, Out::Texts(texts?))
+    }
+
+    /// The view of the client of that name, on the heap.
+    ///
+    /// Returns `OutOfMemory` where there was or is no room for them.
+    pub(crate) fn of_view(
+        alloc: Global,
+        name: Result<Text, OutOfMemory>,
+        view: View,
+    ) -> Result<BoxedOut, Refusal>
+        ensures { WritesAs (λ name. out.View name view) name result }
+    {
+        let (name, view) = both(name, view)?;
+        BoxedOut::of(alloc, Out::View { name, view })
     }
 
     /// What is written, no longer on the heap.
@@ -69,6 +97,18 @@ impl BoxedOut {
             None => Out::Nothing,
         }
     }
+}
+
+/// Adds a text at the end, unless there was no memory for it.
+///
+/// Returns `OutOfMemory` where there was or is no room for it.
+pub(crate) fn push_text(
+    texts: &mut Values,
+    text: Result<ValText, OutOfMemory>,
+) -> Result<(), OutOfMemory>
+    ensures { OnOk result (AddsText text texts.old texts.new) }
+{
+    texts.push(text?)
 }
 
 /// How many sub-operations were skipped, and how many messages were for another address.

@@ -7,6 +7,7 @@ ghost use Rattle.ft_laws_sessions.specs.NewNames.{IsNewName};
 ghost use Rattle.ft_session.specs.Services.{AnswersService, left_or_refused};
 ghost use Rattle.ft_session.specs.Worlds.{service_of};
 
+use crate::handing::push;
 use ft_base::{OutOfMemory, Text};
 use ft_msg::{Draft, Entry, Names};
 use ft_seqr::{Refusal, Sequencer};
@@ -98,7 +99,6 @@ impl Service {
     fn log_entry(&mut self, entry: Entry) -> Result<(), OutOfMemory>
         ensures { OnOk result (self.new ≡ record self.old { log = self.old.log ++ entry ∷ [] }) }
     {
-        self.log.push(entry)?;
-        Ok(())
+        push(&mut self.log, entry)
     }
 }

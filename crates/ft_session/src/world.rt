@@ -4,13 +4,14 @@ ghost use Rattle.std.specs.Prelude.{◌≡◌, ◌+◌, ◌≤◌, ◌^◌, IfOk
 ghost use Rattle.ft_seqr.specs.WellFormedEvent.{IsWellFormedEvent};
 ghost use Rattle.ft_seqr.specs.World.{NaiveWorld, new_world};
 ghost use Rattle.ft_seqr.specs.declared.events.Event.{Event};
-ghost use Rattle.ft_session.specs.Acts.{ActEffect, IsAct, IsWellFormedAct};
+ghost use Rattle.ft_session.specs.Acts.{ActEffect, IsAct, IsWellFormedAct, act_load};
 ghost use Rattle.ft_session.specs.Outputs.{counts_of};
 ghost use Rattle.ft_session.specs.Effects.{SessionEffect};
 ghost use Rattle.ft_session.specs.Steps.{AnswersStep, StandsAtLoad, further_numbers};
 ghost use Rattle.ft_session.specs.Worlds.{AnswersEvent, MembersStand, WorldStands};
 
 use crate::acts::{Act, act_of};
+use crate::handing::both;
 use crate::loads::act_load;
 use crate::members::Member;
 use crate::outputs::{BoxedOut, Counts, Out};
@@ -178,11 +179,22 @@ fn take_act<R: Replica + Drop>(
     ensures answers { (e : Event) → IsWellFormedEvent e → IsAct act.entry e → AnswersStep e session.old session.new load result }
     ensures effect { IfOk result (λ taken. ActEffect R.COMPACTS act.entry session.old session.new taken.out) }
 {
-    let more = act_load(&act)?;
-    let load = raised(load, more)?;
+    let raised = load_after(load, &act);
+    let (load, act) = both(raised, act)?;
     let out = session.happen(act)?;
     let counts = furthest_counts(session.members.as_slice());
     Ok(Taken { out, load, counts })
+}
+
+// A load with that of what an event does.
+//
+// Returns `OutOfMemory` where it would pass the greatest one.
+fn load_after(load: u64, act: &Act<'_>) -> Result<u64, OutOfMemory>
+    ensures sum { IfOk result (λ sum. sum ≡ load + (1 + act_load act.now)) }
+    ensures low { IfOk result (λ sum. sum ≤ 2 ^ 52) }
+{
+    let more = act_load(act)?;
+    raised(load, more)
 }
 
 // A load with so much more.

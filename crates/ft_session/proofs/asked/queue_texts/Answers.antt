@@ -4,12 +4,12 @@ use Rattle.serde_json.specs.Written.{compact_text}
 use Rattle.ft_msg.specs.declared.messages.Draft.{Draft}
 use Rattle.ft_msg.specs.Written.{written_draft}
 use Rattle.std.proofs.lemmas.List.{take_all}
-use Rattle.ft_session.proofs.Asking.{none-left, one-more}
+use Rattle.ft_session.proofs.Asking.{added-known, none-left, one-more}
 use Rattle.ft_session.proofs.asked.queue_texts.Goals as goal
 use Rattle.ft_session.proofs.asked.queue_texts.Goals.{else-loop-i-test, then-loop-i-test+in_default}
 
 pub loop-i-preserved : goal.loop-i-preserved
-loop-i-preserved g c = c.in_ok-push.ensures.ok ∙ ap (λ (t : List ℕ). c.loop-i.values ++ (t ∷ [])) c.in_ok-write_draft.ensures.text
+loop-i-preserved g c = added-known _ c.write_draft.result c.loop-i.values c.push_text.new.texts c.write_draft.ensures.text c.in_ok-push_text.ensures
     ∙ ap (λ (ts : List (List ℕ)). ts ++ (compact_text (written_draft c.in-Some.draft.now) ∷ [])) c.loop-i.invariant
     ∙ sym (one-more c.loop-i.i (g.R.Replica.state c.args.replica.now).client.queue c.in-Some.draft.now (sym c.in-Some.ensures))
 

@@ -1,30 +1,24 @@
--- The replica's answer, and the service's to the connection that joins.
-use Rattle.std.proofs.Common.{◌+◌, ◌∙◌, ap, arith}
-use Rattle.ft_seqr.specs.Refusals.{refusal_of_link}
+-- The connection is the next one.
+use Rattle.std.proofs.Common.{◌+◌, ◌∙◌, ap}
 use Rattle.ft_seqr.specs.World.{connection_name}
 use Rattle.ft_session.specs.Worlds.{MemberState}
-use Rattle.ft_session.proofs.LinkEvents.{connect-refused, connect-taken, join-wanting, new-name}
-use Rattle.ft_session.proofs.OwnEvents.{by-view, client-handed}
 use Rattle.ft_session.proofs.links.connect.Goals as goal
 
-pub join-requires-clause-few : goal.join-requires-clause-few
-join-requires-clause-few g c = c.in_ok-conn.ensures.few
+pub connect_as-requires-clause-meets : goal.connect_as-requires-clause-meets
+connect_as-requires-clause-meets g c = c.requires
 
-pub join-requires-clause-new : goal.join-requires-clause-new
-join-requires-clause-new g c = new-name c.args.member.now c.args.service.now c.in_ok-connects.connects c.in_ok-name.name c.requires (let h = c.in_ok-conn.ensures.few in omega (arith, h))
-    (c.in_ok-connects.ensures ∙ ap (λ (m : MemberState). m.connects + 1) c.member.view_is)
-    (c.in_ok-name.ensures ∙ ap (λ (m : MemberState). connection_name m.name c.in_ok-connects.connects) c.member.view_is)
+pub connect_as-requires-clause-next : goal.connect_as-requires-clause-next
+connect_as-requires-clause-next g c = c.in_ok-conn.ensures.next
 
-pub returns-in_err-connect : goal.returns-in_err-connect
-returns-in_err-connect g c = by-view c.member.view_is
-    (client-handed (refusal_of_link c.in_err-connect.field-0.0) c.from_residual-in_err-connect.result c.from_residual-in_err-connect.ensures
-    (connect-refused _ c.args.service.now _ c.in_ok-conn.conn c.in_err-connect.field-0.0 c.in_ok-conn.ensures.next c.in_err-connect.ensures))
+pub connect_as-requires-clause-few : goal.connect_as-requires-clause-few
+connect_as-requires-clause-few g c = c.in_ok-conn.ensures.few
 
-pub returns-in_err-join : goal.returns-in_err-join
-returns-in_err-join g c = client-handed c.in_err-join.field-0.0 c.from_residual-in_err-join.result c.from_residual-in_err-join.ensures
-    (join-wanting _ _ c.args.service.now c.join.new.self c.in_ok-name.name c.in_err-join.field-0.0 (λ w h. c.in_err-join.ensures w h))
+pub connect_as-requires-clause-connects : goal.connect_as-requires-clause-connects
+connect_as-requires-clause-connects g c = c.in_ok-connects.ensures ∙ ap (λ (m : MemberState). m.connects + 1) c.member.view_is
+
+pub connect_as-requires-clause-name : goal.connect_as-requires-clause-name
+connect_as-requires-clause-name g c = c.in_ok-name.ensures ∙ ap (λ (m : MemberState). connection_name m.name c.in_ok-connects.connects)
+    c.member.view_is
 
 pub returns : goal.returns
-returns g c = rw c.nothing.ensures (by-view c.member.view_is
-    (connect-taken _ c.args.service.now _ c.join.new.self c.in_ok-conn.conn c.in_ok-connects.connects c.in_ok-name.name c.in_ok-conn.ensures.next c.in_ok-connects.ensures
-    c.in_ok-name.ensures c.in_ok-connect.ensures (λ w h. c.in_ok-join.ensures w h)))
+returns g c = c.connect_as.ensures

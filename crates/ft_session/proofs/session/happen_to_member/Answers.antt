@@ -2,7 +2,7 @@
 use Rattle.std.proofs.Common.{subst}
 use Rattle.ft_session.specs.Acts.{IsWellFormedClientAct, offered_client}
 use Rattle.ft_session.specs.Worlds.{AnswersClient}
-use Rattle.ft_session.proofs.ActSteps.{as-asked, as-client}
+use Rattle.ft_session.proofs.ActSteps.{as-asked, as-client, without-effect}
 use Rattle.ft_session.proofs.session.happen_to_member.Goals as goal
 
 pub returns-in-Connect-clause-answers : goal.returns-in-Connect-clause-answers
@@ -48,6 +48,42 @@ returns-in-Blame-clause-answers g c = as-asked c.in-Blame.is c.blame.ensures
 
 pub returns-in-Authors-clause-answers : goal.returns-in-Authors-clause-answers
 returns-in-Authors-clause-answers g c = as-asked c.in-Authors.is c.authors.ensures
+
+pub returns-in-Connect-clause-effect : goal.returns-in-Connect-clause-effect
+returns-in-Connect-clause-effect g c = without-effect g.R.Replica.COMPACTS _ c.in-Connect.is c.connect.result (λ out. tt)
+
+pub returns-in-Drop-clause-effect : goal.returns-in-Drop-clause-effect
+returns-in-Drop-clause-effect g c = without-effect g.R.Replica.COMPACTS _ c.in-Drop.is c.drop_link.result (λ out. tt)
+
+pub returns-in-Edit-clause-effect : goal.returns-in-Edit-clause-effect
+returns-in-Edit-clause-effect g c = without-effect g.R.Replica.COMPACTS _ c.in-Edit.is c.edit.result (λ out. tt)
+
+pub returns-in-Ticket-clause-effect : goal.returns-in-Ticket-clause-effect
+returns-in-Ticket-clause-effect g c = without-effect g.R.Replica.COMPACTS _ c.in-Ticket.is c.ticket.result (λ out. tt)
+
+pub returns-in-Deliver-clause-effect : goal.returns-in-Deliver-clause-effect
+returns-in-Deliver-clause-effect g c = without-effect g.R.Replica.COMPACTS _ c.in-Deliver.is c.deliver.result (λ out. tt)
+
+pub returns-in-Noop-clause-effect : goal.returns-in-Noop-clause-effect
+returns-in-Noop-clause-effect g c = without-effect g.R.Replica.COMPACTS _ c.in-Noop.is c.noop.result (λ out. tt)
+
+pub returns-in-Queue-clause-effect : goal.returns-in-Queue-clause-effect
+returns-in-Queue-clause-effect g c = without-effect g.R.Replica.COMPACTS _ c.in-Queue.is c.queue.result (λ out. tt)
+
+pub returns-in-Summary-clause-effect : goal.returns-in-Summary-clause-effect
+returns-in-Summary-clause-effect g c = without-effect g.R.Replica.COMPACTS _ c.in-Summary.is c.summarize.result (λ out. tt)
+
+pub returns-in-Offer-clause-effect : goal.returns-in-Offer-clause-effect
+returns-in-Offer-clause-effect g c = without-effect g.R.Replica.COMPACTS _ c.in-Offer.is c.offer.result (λ out. tt)
+
+pub returns-in-Overlap-clause-effect : goal.returns-in-Overlap-clause-effect
+returns-in-Overlap-clause-effect g c = without-effect g.R.Replica.COMPACTS _ c.in-Overlap.is c.overlap.result (λ out. tt)
+
+pub returns-in-Blame-clause-effect : goal.returns-in-Blame-clause-effect
+returns-in-Blame-clause-effect g c = without-effect g.R.Replica.COMPACTS _ c.in-Blame.is c.blame.result (λ out. tt)
+
+pub returns-in-Authors-clause-effect : goal.returns-in-Authors-clause-effect
+returns-in-Authors-clause-effect g c = without-effect g.R.Replica.COMPACTS _ c.in-Authors.is c.authors.result (λ out. tt)
 
 pub edit-requires-clause-formed : goal.edit-requires-clause-formed
 edit-requires-clause-formed g c = subst IsWellFormedClientAct c.in-Edit.is c.requires.formed

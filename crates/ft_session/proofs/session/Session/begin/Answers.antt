@@ -16,3 +16,8 @@ pub returns-in-Some-clause-effect : goal.returns-in-Some-clause-effect
 returns-in-Some-clause-effect g c =
     subst (λ (o : Option Characters). IfOk c.start_from.result (λ out. SessionEffect g.R.Replica.COMPACTS (event.Start c.args.name.now o) c.args.self.now c.start_from.new.self out)) (sym c.in-Some.is)
     c.start_from.ensures.trimmed
+
+pub returns-in-None-clause-answers : goal.returns-in-None-clause-answers
+returns-in-None-clause-answers g c =
+    subst (λ (o : Option Characters). AnswersHappening (λ w. happen w (event.Start c.args.name.now o)) c.args.self.now c.start.new.self
+    c.start.result) (sym c.in-None.is) c.start.ensures

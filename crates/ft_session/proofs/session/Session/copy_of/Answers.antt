@@ -2,6 +2,7 @@
 use Rattle.std.proofs.Common.{◌≡◌, ◌∙◌, Some, Err, ap, sym, subst}
 use Rattle.std.specs.Prelude.{⊤, IfErr}
 use Rattle.std.specs.List.{position}
+use Rattle.std.proofs.lemmas.Result.{IfOk-weaker}
 use Rattle.ft_props.specs.Properties.{Characters}
 use Rattle.ft_seqr.specs.Refusals.{refusal_of_summary}
 use Rattle.ft_seqr.specs.World.{NaiveWorld, start_client}
@@ -31,12 +32,13 @@ returns-in_err-summary-clause-err g c =
     (sym (c.in-Some.ensures ∙ ap (position (has_name c.args.from.now)) c.as_slice.ensures.value)) c.index.ensures c.in_err-summary.ensures n)
 
 pub returns-clause-ok : goal.returns-clause-ok
-returns-clause-ok g c = λ w made stands n free.
+returns-clause-ok g c = IfOk-weaker c.replica_over.result _ _ (λ r starts w made stands n free.
     copy-taken _ c.args.from.now w made (subst (λ (s : SessionState). SessionStands s w) (sym c.self.view_is) stands) c.in-Some.place c.index.result.now c.in_ok-summary.summary _
-    (sym (c.in-Some.ensures ∙ ap (position (has_name c.args.from.now)) c.as_slice.ensures.value)) c.index.ensures c.in_ok-summary.ensures c.in_ok-replica.ensures.starts
-    c.in_ok-replica.ensures.stands n free
+    (sym (c.in-Some.ensures ∙ ap (position (has_name c.args.from.now)) c.as_slice.ensures.value)) c.index.ensures c.in_ok-summary.ensures starts.over
+    starts.stands n free) c.replica_over.ensures.starts
 
 pub returns-clause-trimmed : goal.returns-clause-trimmed
-returns-clause-trimmed g c = λ w made stands d found.
+returns-clause-trimmed g c = IfOk-weaker c.replica_over.result _ _ (λ r starts w made stands d found.
     copy-trimmed _ c.args.from.now w made (subst (λ (s : SessionState). SessionStands s w) (sym c.self.view_is) stands) c.in-Some.place c.index.result.now c.in_ok-summary.summary _
-    (sym (c.in-Some.ensures ∙ ap (position (has_name c.args.from.now)) c.as_slice.ensures.value)) c.index.ensures c.in_ok-summary.ensures c.in_ok-replica.ensures.starts d found
+    (sym (c.in-Some.ensures ∙ ap (position (has_name c.args.from.now)) c.as_slice.ensures.value)) c.index.ensures c.in_ok-summary.ensures
+    starts.over d found) c.replica_over.ensures.starts
