@@ -42,6 +42,28 @@ fn addition(alloc: Global, number: u64, position: u64) -> Result<TextOp, OutOfMe
     })
 }
 
+// Takes an operation on an interval, which is of that stage.
+fn take(
+    tree: &mut Tree<TextContent>,
+    intervals: &mut Store,
+    op: &TextOp,
+    stage: u64,
+) -> Result<(), StepFault>
+    requires usable { IsTrue tree.old.usable }
+    requires live { IsLive tree.old.refs intervals.old }
+    requires some { 1 ≤ stage }
+    requires above { IsAboveAll stage intervals.old }
+    requires operation { is_interval_operation op.now ≡ true }
+    ensures usable { OnOk result (IsTrue tree.new.usable) }
+    ensures live { OnOk result (IsLive tree.new.refs intervals.new) }
+    ensures above { OnOk result (IsAboveAll (stage + 1) intervals.new) }
+{
+    match intervals.edit_local(tree, op, stage) {
+        Ok(()) => Ok(()),
+        Err(_) => Err(StepFault::OutOfRange),
+    }
+}
+
 // Adds an interval on a character that the client sees, by an operation of that stage.
 fn add(
     alloc: Global,
@@ -60,10 +82,7 @@ fn add(
 {
     let position = numbers.next() % tree.length(LOCAL).max(1);
     let op = addition(alloc, stage, position)?;
-    match intervals.edit_local(tree, &op, stage) {
-        Ok(()) => Ok(()),
-        Err(_) => Err(StepFault::OutOfRange),
-    }
+    take(tree, intervals, &op, stage)
 }
 
 // Puts a character in, by that stage, and removes one by the next one, if it is to.
@@ -101,6 +120,29 @@ fn shown(tree: &Tree<TextContent>, intervals: &Store, views: u32) -> Result<u64,
     Ok(count)
 }
 
+// The same as `comment`, beside intervals that are there.
+fn comment_beside<G: Ledger>(
+    alloc: Global,
+    tree: &mut Tree<TextContent>,
+    intervals: &mut Store,
+    last: u32,
+    counts: &CommentCounts,
+    numbers: &mut Numbers,
+    steps: &mut Steps<G>,
+) -> Result<u64, StepFault>
+    requires usable { IsTrue tree.old.usable }
+    requires live { IsLive tree.old.refs intervals.old }
+    requires above { IsAboveAll (last + 1) intervals.old }
+    ensures { OnOk result (IsTrue tree.new.usable) }
+{
+    for i in 0..counts.added {
+        let stage = u64::from(last) + 3 * u64::from(i) + 1;
+        edit(alloc, tree, i < counts.edited, stage, numbers, steps)?;
+        add(alloc, tree, intervals, stage + 2, numbers)?;
+    }
+    Ok(shown(tree, intervals, counts.views)?)
+}
+
 /// Adds so many intervals behind the stages up to `last`, with a character put in and one removed before each of the first
 /// `edited` of them. Then it shows all so many times, and returns how many there were, all together.
 ///
@@ -117,10 +159,5 @@ pub fn comment<G: Ledger>(
     ensures { OnOk result (IsTrue tree.new.usable) }
 {
     let mut intervals = Store::new(alloc);
-    for i in 0..counts.added {
-        let stage = u64::from(last) + 3 * u64::from(i) + 1;
-        edit(alloc, tree, i < counts.edited, stage, numbers, steps)?;
-        add(alloc, tree, &mut intervals, stage + 2, numbers)?;
-    }
-    Ok(shown(tree, &intervals, counts.views)?)
+    comment_beside(alloc, tree, &mut intervals, last, counts, numbers, steps)
 }

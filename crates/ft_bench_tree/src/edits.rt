@@ -1,6 +1,6 @@
 //! Edits of a tree of text.
 
-ghost use Rattle.std.specs.Prelude.{◌≡◌, ◌+◌, ◌-◌, ◌<◌, ◌≤◌, IsTrue, IfOk, OnOk};
+ghost use Rattle.std.specs.Prelude.{◌≡◌, ◌+◌, ◌-◌, ◌<◌, ◌≤◌, IsTrue, OnOk};
 ghost use Rattle.ft_tests_steps.specs.Passing.{HasNoChanges};
 
 use crate::comments::{CommentCounts, comment};
@@ -51,28 +51,31 @@ pub struct Answer {
 // The view of the client.
 const LOCAL: LenView = LenView::Stage(u64::MAX);
 
-// So many elements, each put in at a pseudo-random place.
-fn filled<G: Ledger>(
+// Puts so many elements into a new tree, each at a pseudo-random place.
+fn fill<G: Ledger>(
     alloc: Global,
+    tree: &mut Tree<TextContent>,
     elements: u32,
     window: u32,
     numbers: &mut Numbers,
     steps: &mut Steps<G>,
-) -> Result<Tree<TextContent>, StepFault>
-    requires { 1 ≤ window }
-    ensures usable { IfOk result (λ tree. IsTrue tree.usable) }
-    ensures floor { IfOk result (λ tree. tree.floor ≤ elements - window) }
-    ensures calm { IfOk result HasNoChanges }
+) -> Result<(), StepFault>
+    requires window { 1 ≤ window }
+    requires usable { IsTrue tree.old.usable }
+    requires floor { tree.old.floor ≡ 0 }
+    requires calm { HasNoChanges tree.old }
+    ensures usable { OnOk result (IsTrue tree.new.usable) }
+    ensures floor { OnOk result (tree.new.floor ≤ elements - window) }
+    ensures calm { OnOk result (HasNoChanges tree.new) }
 {
-    let mut tree = Tree::new(alloc);
     for n in 0..elements {
         let n = u64::from(n);
         let at = sender(n, window, 2);
         let p = numbers.next_up_to(tree.length(LenView::At(at)));
-        hear(alloc, &mut tree, p, "x", n + 1, at, steps)?;
+        hear(alloc, tree, p, "x", n + 1, at, steps)?;
         tree.raise_floor((n + 1).saturating_sub(u64::from(window)));
     }
-    Ok(tree)
+    Ok(())
 }
 
 // Puts so many references on elements that the client sees, and settles them.
@@ -177,6 +180,37 @@ fn acknowledged(
     Ok(())
 }
 
+// Makes the edits of a new tree, one kind after another.
+fn edit_all<G: Ledger>(
+    alloc: Global,
+    tree: &mut Tree<TextContent>,
+    counts: &Counts,
+    steps: &mut Steps<G>,
+) -> Result<Answer, StepFault>
+    requires window { 1 ≤ counts.now.window }
+    requires usable { IsTrue tree.old.usable }
+    requires floor { tree.old.floor ≡ 0 }
+    requires calm { HasNoChanges tree.old }
+{
+    let mut numbers = Numbers::after(1);
+    let elements = counts.elements;
+    let window = counts.window;
+    fill(alloc, tree, elements, window, &mut numbers, steps)?;
+    refer(tree, counts.references, &mut numbers)?;
+    removed(tree, elements, counts.removals, &mut numbers, steps)?;
+    let last = counts.insertions;
+    written(alloc, tree, last, &mut numbers, steps)?;
+    let pieces = regenerated(tree, counts.regenerations)?;
+    acknowledged(tree, counts.acknowledgements, elements, window)?;
+    let shown = comment(alloc, tree, last, &counts.comments, &mut numbers, steps)?;
+    Ok(Answer {
+        length: tree.length(LOCAL),
+        made: tree.made(),
+        pieces,
+        shown,
+    })
+}
+
 // The same as `run`, on a counter of its own.
 fn run_on<G: Ledger>(alloc: Global, counts: &Counts, blank: Blank) -> Result<Answer, StepFault>
     requires window { 1 ≤ counts.now.window }
@@ -185,50 +219,7 @@ fn run_on<G: Ledger>(alloc: Global, counts: &Counts, blank: Blank) -> Result<Ans
     requires some { 0 < blank.parts }
 {
     let mut steps = Steps::<G>::new(blank);
-    let mut numbers = Numbers::after(1);
-    let mut tree = filled(
-        alloc,
-        counts.elements,
-        counts.window,
-        &mut numbers,
-        &mut steps,
-    )?;
-    refer(&mut tree, counts.references, &mut numbers)?;
-    removed(
-        &mut tree,
-        counts.elements,
-        counts.removals,
-        &mut numbers,
-        &mut steps,
-    )?;
-    written(
-        alloc,
-        &mut tree,
-        counts.insertions,
-        &mut numbers,
-        &mut steps,
-    )?;
-    let pieces = regenerated(&tree, counts.regenerations)?;
-    acknowledged(
-        &mut tree,
-        counts.acknowledgements,
-        counts.elements,
-        counts.window,
-    )?;
-    let shown = comment(
-        alloc,
-        &mut tree,
-        counts.insertions,
-        &counts.comments,
-        &mut numbers,
-        &mut steps,
-    )?;
-    Ok(Answer {
-        length: tree.length(LOCAL),
-        made: tree.made(),
-        pieces,
-        shown,
-    })
+    edit_all(alloc, &mut Tree::new(alloc), counts, &mut steps)
 }
 
 /// Makes so many edits of each kind, one kind after another.

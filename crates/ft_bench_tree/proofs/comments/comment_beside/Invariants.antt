@@ -1,6 +1,6 @@
 use Rattle.std.proofs.Common.{◌+◌, ◌*◌, IsTrue}
 use Rattle.ft_interval_store.specs.State.{IsAboveAll, IsLive}
-use Rattle.ft_bench_tree.proofs.comments.comment.Given as goal
+use Rattle.ft_bench_tree.proofs.comments.comment_beside.Given as goal
 
 abbrev pub invariant-loop-i : goal.invariant-loop-i
 invariant-loop-i g l = record {

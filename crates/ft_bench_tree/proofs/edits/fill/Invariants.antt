@@ -1,6 +1,6 @@
 use Rattle.std.proofs.Common.{◌≡◌, ◌-◌, IsTrue}
 use Rattle.ft_tests_steps.specs.Passing.{HasNoChanges}
-use Rattle.ft_bench_tree.proofs.edits.filled.Given as goal
+use Rattle.ft_bench_tree.proofs.edits.fill.Given as goal
 
 abbrev pub invariant-loop-n : goal.invariant-loop-n
 invariant-loop-n g l = record {
