@@ -138,3 +138,11 @@ spelled x min seq start after end new low few is_start is_after is_end is_new =
     ∙ ap (λ t. start ++ (pairs_text x.state.acked ++ t)) (is_end ∙ ap (λ n. codes "],\"seq\":" ++ (decimal n ++ codes ",\"version\":1}")) few)
     ∙ ap (λ t. t ++ rest) (is_start ∙ ap (λ n. codes "{\"min\":" ++ (decimal n ++ codes ",\"pairs\":[")) low)
     ∙ ap (λ t. codes "{\"min\":" ++ t) (append_assoc (decimal x.minimum) (codes ",\"pairs\":[") rest)
+
+-- one entry more of those behind the first one
+pub later-added : (rest later : FiniteMap) (e : Characters × ValueBytes) (before comma after all : List ℕ)
+    → rest ≡ e ∷ later → before ++ later_pairs rest ≡ all → comma ≡ before ++ codes "," → after ≡ comma ++ pair_text e → after ++ later_pairs later ≡ all
+later-added rest later e before comma after all is so_far is_comma is_after =
+    ap (λ t. t ++ later_pairs later) (is_after ∙ ap (λ t. t ++ pair_text e) is_comma ∙ append_assoc before (codes ",") (pair_text e))
+    ∙ append_assoc before (codes "," ++ pair_text e) (later_pairs later)
+    ∙ ap (λ (m : FiniteMap). before ++ later_pairs m) (sym is) ∙ so_far

@@ -8,6 +8,7 @@ pub mod laws;
 pub mod log;
 mod marks;
 mod members;
+mod moved;
 pub mod ops;
 pub mod reading;
 mod replica;

@@ -232,7 +232,8 @@ impl MapReplica {
         ensures { OnOk result (self.new ≡ online conn self.old) }
     {
         let next = self.state.pending().checked_add(1).ok_or(OutOfMemory)?;
-        self.queue = drafts_of(self.alloc, &self.state, self.seq)?;
+        self.queue.clear();
+        queue_drafts(&mut self.queue, self.alloc, &self.state, self.seq)?;
         self.link = Link::Online { conn };
         self.next = next;
         Ok(())
@@ -286,23 +287,23 @@ fn draft_of(alloc: Global, n: u64, ref_seq: u64, op: &MapOp) -> Result<MapDraft,
     Ok(MapDraft { draft, op })
 }
 
-// The messages of all pending operations, numbered from 1.
+// The messages with those of all pending operations behind them, numbered from 1.
 //
 // Returns `OutOfMemory` where there is no room for them.
-fn drafts_of(
+fn queue_drafts(
+    drafts: &mut VecDeque<MapDraft>,
     alloc: Global,
     state: &SharedMap,
     ref_seq: u64,
-) -> Result<VecDeque<MapDraft>, OutOfMemory>
-    ensures { IfOk result (λ ds. ds.items ≡ drafts_from 1 ref_seq state.now.pending) }
+) -> Result<(), OutOfMemory>
+    ensures { OnOk result (drafts.new.items ≡ drafts.old.items ++ drafts_from 1 ref_seq state.now.pending) }
 {
-    let mut drafts = VecDeque::new(alloc);
     let mut next: u64 = 1;
     for op in state.operations() {
-        queue_draft(&mut drafts, alloc, next, ref_seq, op)?;
+        queue_draft(drafts, alloc, next, ref_seq, op)?;
         next = next.checked_add(1).ok_or(OutOfMemory)?;
     }
-    Ok(drafts)
+    Ok(())
 }
 
 // The messages with the one of an operation behind them.
@@ -317,6 +318,8 @@ fn queue_draft(
 ) -> Result<(), OutOfMemory>
     ensures { OnOk result (drafts.new.items ≡ drafts.old.items ++ draft_of n ref_seq op.now ∷ []) }
 {
-    drafts.push_back(draft_of(alloc, n, ref_seq, op)?)?;
+    drafts.reserve(1)?;
+    let draft = draft_of(alloc, n, ref_seq, op)?;
+    drafts.push_back_reserved(draft);
     Ok(())
 }

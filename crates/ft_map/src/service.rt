@@ -5,6 +5,7 @@ ghost use Rattle.ft_map.specs.MapSession.{joined, new_service, next_conn, submit
 ghost use Rattle.ft_map.specs.MapWorlds.{AnswersLeave, HasNoNack};
 
 use crate::log::MapEntry;
+use crate::moved::push;
 use crate::ops::MapOp;
 use ft_base::{OutOfMemory, Text};
 use ft_msg::{Draft, Entry};
@@ -88,7 +89,6 @@ impl Service {
     fn log_entry(&mut self, entry: Entry, op: Option<MapOp>) -> Result<(), OutOfMemory>
         ensures { OnOk result (self.new ≡ record self.old { log = self.old.log ++ record { entry = entry; op = op } ∷ [] }) }
     {
-        self.log.push(MapEntry { entry, op })?;
-        Ok(())
+        push(&mut self.log, MapEntry { entry, op })
     }
 }

@@ -5,6 +5,7 @@ ghost use Rattle.ft_props.specs.Keys.{KeysRise};
 ghost use Rattle.ft_map.specs.Maps.{acknowledged, map_of, pair_of, pairs_of, put, shown_map, value_of};
 
 use crate::marks::KeyMarks;
+use crate::moved::push_reserved;
 use crate::ops::{MapOp, MapPair, put, set, written};
 use ft_base::{Datum, OutOfMemory, Text};
 use ft_json::ValText;
@@ -113,8 +114,8 @@ impl SharedMap {
         let number = next_number(self.first, self.pending.len())?;
         self.pending.reserve(1)?;
         let own = op.copy()?;
-        self.marks.note(number, op)?;
-        self.pending.push_back_reserved(own);
+        let noted = self.marks.note(number, op);
+        push_reserved(noted, &mut self.pending, own)?;
         Ok(())
     }
 

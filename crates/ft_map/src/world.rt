@@ -10,6 +10,7 @@ use crate::events::{MapEvent, MapOut};
 use crate::members::{
     Member, connect, deliver, drop_link, edit, has_member, member_place, show, summarize, ticket,
 };
+use crate::moved::push;
 use crate::ops::MapOp;
 use crate::replica::MapReplica;
 use crate::service::Service;
@@ -174,12 +175,12 @@ impl Session {
     fn admit(&mut self, name: Text, client: MapReplica) -> Result<(), OutOfMemory>
         ensures { OnOk result (self.new ≡ record self.old { clients = self.old.clients ++ record { name = name; connects = 0; client = client } ∷ [] }) }
     {
-        self.members.push(Member {
+        let member = Member {
             name,
             connects: 0,
             client,
-        })?;
-        Ok(())
+        };
+        push(&mut self.members, member)
     }
 }
 
