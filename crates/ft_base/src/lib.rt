@@ -1,5 +1,5 @@
 //! What every other crate stands on: lists, texts, stamps and elements, who sees an element, scans
-//! of a list of elements, `OutOfMemory`, and a counter of steps.
+//! of a list of elements, `OutOfMemory`, moves of large values, and a counter of steps.
 //!
 //! A call that can't return `OutOfMemory` takes no memory; one that can returns it where there is no room.
 #![tactic(auto)]
@@ -8,6 +8,7 @@ pub mod counting;
 pub mod elements;
 pub mod lists;
 pub mod memory;
+pub mod moved;
 pub mod scans;
 pub mod small_strings;
 pub mod stamps;

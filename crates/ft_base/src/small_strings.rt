@@ -16,13 +16,13 @@ const IN_PLACE: usize = 16;
 /// so. Contracts see its bytes.
 #[derive(Drop)]
 pub struct SmallString {
-    held: Held,
+    storage: Storage,
     alloc: Global,
 }
 
 // The bytes, where they stand.
 #[derive(Drop)]
-enum Held {
+enum Storage {
     Few(ArrayString<IN_PLACE>),
     Many(String),
 }
@@ -33,27 +33,27 @@ impl Model for SmallString {
 
     ghost Value = { List ℕ };
 
-    ghost view = { λ a. bytes_of a.held };
+    ghost view = { λ a. bytes_of a.storage };
 }
 
-impl Held {
+impl Storage {
     // A copy of `text`.
-    fn new(alloc: Global, text: &str) -> Result<Held, OutOfMemory>
-        ensures { IfOk result (λ held. bytes_of held ≡ text.now) }
+    fn new(alloc: Global, text: &str) -> Result<Storage, OutOfMemory>
+        ensures { IfOk result (λ storage. bytes_of storage ≡ text.now) }
     {
         match ArrayString::from(text) {
-            Ok(few) => Ok(Held::Few(few)),
-            Err(_) => Ok(Held::Many(String::from_str(alloc, text)?)),
+            Ok(few) => Ok(Storage::Few(few)),
+            Err(_) => Ok(Storage::Many(String::from_str(alloc, text)?)),
         }
     }
 
     // The string itself, or a copy in place where it has few bytes.
-    fn of(text: String) -> Held
+    fn of(text: String) -> Storage
         ensures { bytes_of result ≡ string_bytes text }
     {
         match ArrayString::from(text.as_str()) {
-            Ok(few) => Held::Few(few),
-            Err(_) => Held::Many(text),
+            Ok(few) => Storage::Few(few),
+            Err(_) => Storage::Many(text),
         }
     }
 
@@ -62,8 +62,8 @@ impl Held {
         ensures { result.now ≡ bytes_of self.now }
     {
         match self {
-            Held::Few(few) => few.as_str(),
-            Held::Many(many) => many.as_str(),
+            Storage::Few(few) => few.as_str(),
+            Storage::Many(many) => many.as_str(),
         }
     }
 }
@@ -75,8 +75,8 @@ impl SmallString {
     pub fn new(alloc: Global, text: &str) -> Result<SmallString, OutOfMemory>
         ensures { IfOk result (λ copy. copy ≡ text.now) }
     {
-        let held = Held::new(alloc, text)?;
-        Ok(SmallString { held, alloc })
+        let storage = Storage::new(alloc, text)?;
+        Ok(SmallString { storage, alloc })
     }
 
     /// The bytes of `text`.
@@ -85,7 +85,7 @@ impl SmallString {
     {
         let alloc = *text.allocator();
         SmallString {
-            held: Held::of(text),
+            storage: Storage::of(text),
             alloc,
         }
     }
@@ -94,7 +94,7 @@ impl SmallString {
     pub fn as_str(&self) -> &str
         ensures { result.now ≡ self.now }
     {
-        self.held.as_str()
+        self.storage.as_str()
     }
 
     /// Where it takes its memory.
