@@ -12,10 +12,10 @@ ghost use Rattle.ft_interval_store.specs.Standing.{AreOnTree, HasNoRemoval, HasP
 ghost use Rattle.ft_interval_store.specs.State.{AreLiveIntervals, AreLiveOperations, StagesRise, placed_intervals, placed_operations, text_elements, with_mapped_ends};
 
 use crate::intervals::{Held, Interval, Intervals};
-use crate::moved::{all_made, push};
 use crate::pages::Pages;
 use crate::pending::Operation;
 use crate::standing::{carried, removal_until, settled, shown_numbers};
+use ft_base::moved::{all_three, push};
 use ft_base::{Datum, OutOfMemory, Text};
 use ft_op::TextOp;
 use ft_refs::{Place, RefId};
@@ -30,7 +30,7 @@ fn placed(tree: &Tree<TextContent>, i: &Interval<RefId>) -> Result<Interval<Plac
     ensures { let xs = text_elements tree.now in
         IfOk result (ShowsInterval tree.now 0 (settled_interval xs 0 (with_mapped_ends (places_of_ends tree.now.refs) i.now))) }
 {
-    let (label, id, props) = all_made(i.label.copy(), i.id.copy(), i.props.copy())?;
+    let (label, id, props) = all_three(i.label.copy(), i.id.copy(), i.props.copy())?;
     Ok(Interval {
         label,
         id,

@@ -9,9 +9,9 @@ ghost use Rattle.ft_interval_store.specs.Intervals.{Name, added_interval, after_
 ghost use Rattle.ft_interval_store.specs.Pages.{AreFilled, from_pages};
 ghost use Rattle.ft_interval_store.specs.State.{AreOwnEnds, IsEndsAfter, ends_changed, ends_missing};
 
-use crate::moved::all_made;
 use crate::pages::Pages;
 use crate::search::search_in;
+use ft_base::moved::all_three;
 use ft_base::{Datum, OutOfMemory, Text};
 use ft_op::{Ends, TextOp};
 use ft_props::{PropSet, Props};
@@ -218,7 +218,7 @@ fn added<T: Copy + Drop>(
     ensures { IfOk result (λ held. held ≡ added_interval label.now id.now ends props.now) }
 {
     let props = Props::new(alloc).applied(props);
-    let (label, id, props) = all_made(label.copy(), id.copy(), props)?;
+    let (label, id, props) = all_three(label.copy(), id.copy(), props)?;
     Held::new(
         alloc,
         Interval {

@@ -9,7 +9,6 @@ mod effects;
 mod ends;
 pub mod faults;
 pub mod intervals;
-mod moved;
 mod numbers;
 mod pages;
 mod pending;

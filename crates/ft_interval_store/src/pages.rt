@@ -5,8 +5,8 @@ ghost use Rattle.std.specs.Borrow.{sem};
 ghost use Rattle.std.specs.List.{insert, remove, slice_index_or};
 ghost use Rattle.ft_interval_store.specs.Pages.{AreFilled, IsPageGap, IsPagePlace, count_before, from_pages};
 
-use crate::moved::push;
 use ft_base::OutOfMemory;
+use ft_base::moved::push;
 use std::alloc::Global;
 use std::marker::Model;
 use std::ops::{Index, IndexMut};

@@ -9,7 +9,7 @@ ghost use Rattle.ft_interval_store.specs.Shown.{last};
 ghost use Rattle.ft_interval_store.specs.State.{is_add, is_at_stage};
 
 use crate::intervals::{EndPair, is_same_name};
-use crate::moved::push;
+use ft_base::moved::push;
 use ft_base::{Datum, OutOfMemory, Text};
 use ft_op::{Ends, TextOp};
 use ft_refs::RefId;
