@@ -8,7 +8,6 @@ pub mod document;
 pub mod linked;
 pub mod outbox;
 pub mod pending;
-mod queues;
 pub mod replica;
 pub mod stopping;
 

@@ -5,7 +5,7 @@ ghost use Rattle.std.specs.VecDeque.{deque_capacity, deque_len};
 ghost use Rattle.ft_replica.specs.Unsent.{with_sent};
 
 use crate::pending::Sent;
-use crate::queues::push_behind;
+use ft_base::moved::push_reserved;
 use ft_base::{Datum, OutOfMemory};
 use ft_msg::{Body, Draft};
 use std::alloc::Global;
@@ -68,7 +68,7 @@ impl Outbox {
         ensures err { OnErr result (self.new ≡ self.old) }
     {
         let counted = count_one(&mut self.next, &mut self.drafts);
-        push_behind(counted, &mut self.drafts, draft)
+        push_reserved(counted, &mut self.drafts, draft)
     }
 
     /// Adds the message of an edit behind the others, if it is sent.

@@ -6,8 +6,8 @@ ghost use Rattle.ft_replica.specs.Linked.{PendingPart, oldest_count, oldest_ref}
 ghost use Rattle.ft_replica.specs.Unsent.{with_sent};
 
 use crate::outbox::Outbox;
-use crate::queues::{drop_first, push_behind};
 use ft_base::OutOfMemory;
+use ft_base::moved::{drop_first, push_reserved};
 use ft_op::ChannelOp;
 use std::alloc::Global;
 use std::collections::VecDeque;
@@ -179,7 +179,7 @@ impl PendingEdits {
         ensures err { OnErr result ((self.new ≡ self.old) × (outbox.new ≡ outbox.old)) }
     {
         let sent = send(&mut self.edits, &edit, outbox);
-        push_behind(sent, &mut self.edits, edit)
+        push_reserved(sent, &mut self.edits, edit)
     }
 
     /// The lesser of a number and the reference number of the oldest one, if there is one.
