@@ -1,2 +1,3 @@
 mod MarkerLists
+mod PassingLaws
 mod PlayingLaws

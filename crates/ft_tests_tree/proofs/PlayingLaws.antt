@@ -3,7 +3,7 @@ use Rattle.std.proofs.Common.{◌≡◌, Bool, true, false, IsTrue, option_map, 
 use Rattle.ft_tree_leaves.specs.declared.references.Reference.{Reference}
 use Rattle.ft_tree_leaves.specs.declared.text.TextContent.{TextContent}
 use Rattle.ft_tree_leaves.specs.References.{ChangesReferences, KeepsReferences}
-use Rattle.ft_tests_steps.specs.Passing.{Passes}
+use Rattle.ft_tests_tree.specs.Passing.{Passes}
 use Rattle.ft_tests_tree.specs.Playing.{Stays, Together}
 use Rattle.ft_tree.specs.State.{KeepsRest, TreeState}
 

@@ -1,2 +1,3 @@
 pub mod Markers
+pub mod Passing
 pub mod Playing

@@ -2,7 +2,7 @@
 use Rattle.std.specs.Prelude.{◌≡◌, Bool, true, IsTrue}
 use Rattle.ft_tree_leaves.specs.declared.text.TextContent.{TextContent}
 use Rattle.ft_tests_tree.specs.declared.progress.Progress.{Progress}
-use Rattle.ft_tests_steps.specs.Passing.{HasNoChanges, HasNoReferences}
+use Rattle.ft_tests_tree.specs.Passing.{HasNoChanges, HasNoReferences}
 use Rattle.ft_tree.specs.State.{TreeState}
 
 -- a tree that may be used and has no references; where it is known, no changes of properties are pending

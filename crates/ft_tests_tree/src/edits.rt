@@ -2,13 +2,13 @@
 
 ghost use Rattle.std.specs.Prelude.{◌≡◌, ◌<◌, ◌≤◌, IsTrue, OnOk};
 ghost use Rattle.ft_tests_tree.specs.Playing.{Goes};
-ghost use Rattle.ft_tests_steps.specs.Passing.{Passes};
+ghost use Rattle.ft_tests_tree.specs.Passing.{Passes};
 
+use crate::faults::StepFault;
 use crate::progress::Progress;
+use crate::texts::{erase, hear, strike, write};
 use ft_base::{Perspective, Steps};
 use ft_block::LenView;
-use ft_tests_steps::StepFault;
-use ft_tests_steps::texts::{erase, hear, strike, write};
 use ft_tree::{TextContent, Tree};
 use std::alloc::Global;
 use std::marker::Brand;

@@ -22,12 +22,15 @@
 
 pub mod bounds;
 mod edits;
+mod faults;
 mod lines;
 mod normalising;
+mod numbers;
 mod progress;
 mod random;
 mod script;
 mod sights;
+mod texts;
 mod upkeep;
 
 use crate::script::Scripts;

@@ -5,11 +5,11 @@ ghost use Rattle.ft_base.specs.declared.stamps.Stamp.TheVariants.{Acked, Local};
 ghost use Rattle.ft_tests_tree.specs.Markers.{elements_of, marker_element, two_stages};
 ghost use Rattle.ft_rebase.specs.StageLists.{StandSideBySide};
 
+use crate::faults::StepFault;
 use crate::sights::{push_insertions, push_leaves};
 use ft_base::{Element, OutOfMemory, Stamp, Stamps};
 use ft_props::Props;
 use ft_rebase::normalise;
-use ft_tests_steps::StepFault;
 use ft_tree::{TextContent, Tree};
 use std::alloc::Global;
 

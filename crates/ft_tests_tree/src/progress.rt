@@ -2,7 +2,7 @@
 
 ghost use Rattle.std.specs.Prelude.{◌≡◌, OnOk};
 
-use ft_tests_steps::StepFault;
+use crate::faults::StepFault;
 
 /// How far the client is, and what is known of its tree.
 #[derive(Clone, Copy)]

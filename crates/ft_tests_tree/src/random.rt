@@ -4,14 +4,15 @@ ghost use Rattle.std.specs.Prelude.{IsTrue, OnOk};
 ghost use Rattle.ft_tests_tree.specs.Playing.{Goes};
 
 use crate::edits::{Edit, Kind, make_edit};
+use crate::faults::StepFault;
+use crate::numbers::Numbers;
 use crate::progress::Progress;
+use crate::texts::shown;
 use crate::upkeep::acknowledge_next;
 use ft_base::{OutOfMemory, Perspective};
 use ft_block::LenView;
 use ft_plain_lists::{Before, Content as Unit, PlainList, characters};
 use ft_props::Props;
-use ft_tests_steps::texts::shown;
-use ft_tests_steps::{Numbers, StepFault};
 use ft_tree::{TextContent, Tree};
 use std::alloc::Global;
 

@@ -4,6 +4,7 @@ ghost use Rattle.std.specs.Prelude.{OnOk};
 ghost use Rattle.ft_tests_tree.specs.Playing.{Goes};
 
 use crate::edits::{Edit, Kind, make_edit};
+use crate::faults::StepFault;
 use crate::lines::{Line, Verb};
 use crate::normalising::push_normalised;
 use crate::progress::Progress;
@@ -12,7 +13,6 @@ use crate::sights::push_leaves;
 use crate::upkeep::{acknowledge_next, compact, unmark};
 use ft_base::OutOfMemory;
 use ft_tests_input::Program;
-use ft_tests_steps::StepFault;
 use ft_tree::{TextContent, Tree};
 use std::alloc::Global;
 

@@ -3,10 +3,10 @@
 ghost use Rattle.std.specs.Prelude.{IsTrue};
 ghost use Rattle.ft_block.specs.Leaves.{IsLeafIn};
 
+use crate::faults::StepFault;
 use ft_arena::NodeId;
 use ft_base::{Element, OutOfMemory, Stamp};
 use ft_rebase::{Piece, regenerate};
-use ft_tests_steps::StepFault;
 use ft_tree::{TextContent, Tree};
 use std::alloc::Global;
 

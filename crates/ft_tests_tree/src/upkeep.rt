@@ -2,12 +2,12 @@
 
 ghost use Rattle.std.specs.Prelude.{◌≤◌, IsTrue, OnOk};
 ghost use Rattle.ft_tests_tree.specs.Playing.{Goes, Stays};
-ghost use Rattle.ft_tests_steps.specs.Passing.{HasNoReferences};
+ghost use Rattle.ft_tests_tree.specs.Passing.{HasNoReferences};
 
+use crate::faults::StepFault;
 use crate::progress::Progress;
 use crate::sights::push_count;
-use ft_tests_steps::StepFault;
-use ft_tests_steps::texts::acknowledge;
+use crate::texts::acknowledge;
 use ft_tree::{TextContent, Tree};
 use ft_zamboni::{scour, scour_all};
 use std::alloc::Global;
