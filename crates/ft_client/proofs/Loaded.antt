@@ -6,7 +6,8 @@ use Rattle.ft_base.specs.Scan.{len, one_more_if}
 use Rattle.ft_props.specs.Element.{ElementContent, GridUnit, is_pending, new_elements}
 use Rattle.ft_sumdoc.specs.declared.summary.RunRec.{RunRec}
 use Rattle.ft_sumdoc.specs.declared.summary.SumDoc.{SumDoc}
-use Rattle.ft_msg.specs.Summary.{doc_of, run_items, stamp_of}
+use Rattle.ft_marks.specs.Marks.{stamp_of}
+use Rattle.ft_msg.specs.Summary.{doc_of, run_items}
 use Rattle.ft_string.specs.Holds.{HoldsText}
 use Rattle.ft_matrix.specs.HoldsGrid.{HoldsGrid}
 use Rattle.ft_props.specs.Element.{ListElement}

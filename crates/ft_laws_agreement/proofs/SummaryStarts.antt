@@ -20,7 +20,8 @@ use Rattle.ft_op.specs.Document.{Document}
 use Rattle.ft_op.specs.Intervals.{element_at_end}
 use Rattle.ft_msg.specs.Client.{NaiveClient}
 use Rattle.ft_msg.specs.Reached.{IsReached, IsStart, from_nothing, from_summary}
-use Rattle.ft_msg.specs.Summary.{cell_at, cells_of, doc_of, interval_of, list_of, run_items, segment_bodies, segment_items, stamp_of}
+use Rattle.ft_marks.specs.Marks.{stamp_of}
+use Rattle.ft_msg.specs.Summary.{cell_at, cells_of, doc_of, interval_of, list_of, run_items, segment_bodies, segment_items}
 use Rattle.ft_sumdoc.specs.Stamps.{Bounds, are_removals, is_recent, is_universal, removals_rise}
 use Rattle.ft_sumdoc.specs.Valid.{AreRuns, IsCell, IsSegment, IsValidSummary, IsValue, are_stamps, bounds, is_run}
 use Rattle.ft_laws_agreement.specs.Sequencing.{is_cell_below, is_name_below}

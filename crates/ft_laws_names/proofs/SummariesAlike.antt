@@ -21,7 +21,8 @@ use Rattle.ft_msg.specs.Compacted.{IsCompacted, KeepsDocument}
 use Rattle.ft_msg.specs.Content.{interval_record, stage_view}
 use Rattle.ft_msg.specs.Indexed.{IndexedDocument, indexed, indexed_interval}
 use Rattle.ft_msg.specs.Summary.{trim}
-use Rattle.ft_msg.specs.SummaryOf.{extended_unit_runs, extended_segments, mark_of, segment_of, segments_from, summary_of, unit_runs}
+use Rattle.ft_marks.specs.Marks.{mark_of}
+use Rattle.ft_msg.specs.SummaryOf.{extended_unit_runs, extended_segments, segment_of, segments_from, summary_of, unit_runs}
 use Rattle.ft_laws_agreement.proofs.CompactedScans.{id-universal}
 use Rattle.ft_laws_agreement.proofs.OwnNames.{other-named}
 use Rattle.ft_laws_agreement.proofs.TrimmedDocument.{is_removed}

@@ -16,7 +16,8 @@ use Rattle.ft_sumdoc.specs.Segments.{body_length}
 use Rattle.ft_sumdoc.specs.WellFormed.{are_alike, are_characters, are_cut_from, differ, ends_before, same_props, same_stamps}
 use Rattle.ft_sumdoc.specs.Stamps.{same_mark}
 use Rattle.ft_props.specs.Element.{Character, ElementContent, GridUnit, ListElement, MarkerOf}
-use Rattle.ft_msg.specs.SummaryOf.{element_body, extended_unit_runs, extended_segments, joined_bodies, mark_of, segment_of, segments_from, unit_runs}
+use Rattle.ft_marks.specs.Marks.{mark_of}
+use Rattle.ft_msg.specs.SummaryOf.{element_body, extended_unit_runs, extended_segments, joined_bodies, segment_of, segments_from, unit_runs}
 use Rattle.ft_laws_summaries.proofs.SummaryLists.{is_authored, is_of_text, is_plain, is_settled}
 
 -- ---- places in chunks

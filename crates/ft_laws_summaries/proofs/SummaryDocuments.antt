@@ -23,9 +23,10 @@ use Rattle.ft_sumdoc.specs.Intervals.{are_shown_ends}
 use Rattle.ft_sumdoc.specs.Segments.{body_length, unless_removed, unremoved_text}
 use Rattle.ft_sumdoc.specs.Stamps.{Bounds, are_removals, is_old, is_recent, is_universal, removals_rise, same_mark, universal}
 use Rattle.ft_sumdoc.specs.Valid.{IsCell, IsInterval, IsSegment, IsValidSummary, IsValue, are_stamps, bounds, is_author, is_interval_before, is_run, is_segment_body}
-use Rattle.ft_msg.specs.Summary.{cell_at, cells_of, doc_of, interval_of, run_items, segment_bodies, segment_items, stamp_of}
-use Rattle.ft_msg.specs.SummaryOf.{element_body, mark_of}
-use Rattle.ft_msg.proofs.SameStamps.{same_mark-Decides}
+use Rattle.ft_marks.specs.Marks.{mark_of, stamp_of}
+use Rattle.ft_msg.specs.Summary.{cell_at, cells_of, doc_of, interval_of, run_items, segment_bodies, segment_items}
+use Rattle.ft_msg.specs.SummaryOf.{element_body}
+use Rattle.ft_marks.proofs.SameStamps.{same_mark-Decides}
 use Rattle.ft_laws_agreement.specs.Sequencing.{Each, are_ends_in}
 use Rattle.ft_laws_agreement.specs.Trimming.{are_distinct_elements}
 use Rattle.ft_laws_agreement.proofs.SummaryStarts.{summary-sound}

@@ -15,7 +15,8 @@ use Rattle.ft_props.specs.Slide.{end_number}
 use Rattle.ft_op.specs.Intervals.{Interval, element_at_end}
 use Rattle.ft_msg.specs.Content.{interval_record}
 use Rattle.ft_msg.specs.Indexed.{indexed_interval, place_in_list}
-use Rattle.ft_msg.specs.Summary.{interval_of, run_items, segment_bodies, segment_items, stamp_of}
+use Rattle.ft_marks.specs.Marks.{stamp_of}
+use Rattle.ft_msg.specs.Summary.{interval_of, run_items, segment_bodies, segment_items}
 use Rattle.ft_laws_agreement.specs.Trimming.{are_distinct_elements, has_ends_on, is_end_on}
 use Rattle.ft_laws_agreement.proofs.SettledNames.{at-rank}
 use Rattle.ft_laws_agreement.proofs.SlidEnds.{same_id-eq, same_id-refl}

@@ -31,12 +31,13 @@ use Rattle.ft_msg.specs.declared.messages.Entry.{Entry}
 use Rattle.ft_msg.specs.Agreed.{agreed, body_effect, reference_number, take_entries, take_entry}
 use Rattle.ft_msg.specs.Summary.{trim}
 use Rattle.ft_laws_agreement.proofs.HeldNames.{all-append, all-put, all-range}
-use Rattle.ft_msg.specs.Summary.{run_items, segment_bodies, segment_items, stamp_of}
+use Rattle.ft_marks.specs.Marks.{author_mark, mark_of, stamp_of}
+use Rattle.ft_msg.specs.Summary.{run_items, segment_bodies, segment_items}
 use Rattle.ft_sumdoc.specs.Chunks.{chunk_length}
 use Rattle.ft_sumdoc.specs.Stamps.{same_mark}
 use Rattle.ft_sumdoc.specs.WellFormed.{same_props, same_stamps}
-use Rattle.ft_msg.specs.SummaryOf.{author_mark, element_body, extended_unit_runs, extended_segments, mark_of, segment_of, segments_from, unit_runs}
-use Rattle.ft_msg.proofs.SameStamps.{same_mark-Decides, same_props-Decides, stamps_are_same}
+use Rattle.ft_msg.specs.SummaryOf.{element_body, extended_unit_runs, extended_segments, segment_of, segments_from, unit_runs}
+use Rattle.ft_marks.proofs.SameStamps.{same_mark-Decides, same_props-Decides, stamps_are_same}
 
 -- ---- what segments hold
 

@@ -10,7 +10,7 @@ use Rattle.ft_base.specs.Visibility.{has_occurred, is_acked}
 use Rattle.ft_props.specs.Properties.{PropertyList}
 use Rattle.ft_props.specs.Element.{ElementContent, ListElement, new_elements, removal_stamp, seen_by, with_removal}
 use Rattle.ft_sumdoc.specs.Stamps.{is_universal, removals_rise}
-use Rattle.ft_msg.specs.SummaryOf.{mark_of}
+use Rattle.ft_marks.specs.Marks.{mark_of}
 use Rattle.ft_laws_agreement.specs.Sequencing.{Each}
 use Rattle.ft_laws_agreement.proofs.Booleans.{hidden}
 use Rattle.ft_laws_agreement.proofs.HeldNames.{all-append}

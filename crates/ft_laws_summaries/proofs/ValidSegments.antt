@@ -21,8 +21,9 @@ use Rattle.ft_sumdoc.specs.Segments.{body_length, text_length, unless_removed, u
 use Rattle.ft_sumdoc.specs.Stamps.{Bounds, is_old, is_recent, is_universal, removals_rise, same_mark}
 use Rattle.ft_sumdoc.specs.Valid.{HasValues, IsSegment, are_stamps, is_author, is_segment_body, is_run}
 use Rattle.ft_sumdoc.specs.WellFormed.{are_alike, are_characters, same_props, same_stamps}
-use Rattle.ft_msg.specs.SummaryOf.{author_mark, element_body, extended_unit_runs, extended_segments, joined_bodies, mark_of, segment_of, segments_from, unit_runs}
-use Rattle.ft_msg.proofs.SameStamps.{same_mark-Decides, stamps_are_same}
+use Rattle.ft_marks.specs.Marks.{author_mark, mark_of}
+use Rattle.ft_msg.specs.SummaryOf.{element_body, extended_unit_runs, extended_segments, joined_bodies, segment_of, segments_from, unit_runs}
+use Rattle.ft_marks.proofs.SameStamps.{same_mark-Decides, stamps_are_same}
 use Rattle.ft_laws_agreement.specs.Sequencing.{Each}
 use Rattle.ft_laws_summaries.proofs.SummaryCuts.{one-element}
 use Rattle.ft_laws_summaries.proofs.SummaryLists.{is_authored, is_empty, is_none, is_of_text, is_plain, is_plain_unit, is_settled}

@@ -16,7 +16,8 @@ use Rattle.ft_sumdoc.specs.Segments.{text_length, unremoved_text}
 use Rattle.ft_sumdoc.specs.Valid.{AreRuns, IsCell, IsInterval, IsSegment, IsValidSummary, are_stamps, is_cell_before, is_interval_before}
 use Rattle.ft_msg.specs.Content.{ViewContent, shown, stage_view}
 use Rattle.ft_msg.specs.Summary.{trim}
-use Rattle.ft_msg.specs.SummaryOf.{mark_of, segment_of, segments_from, summary_of, unit_runs}
+use Rattle.ft_marks.specs.Marks.{mark_of}
+use Rattle.ft_msg.specs.SummaryOf.{segment_of, segments_from, summary_of, unit_runs}
 use Rattle.ft_laws_agreement.specs.Sequencing.{Each}
 use Rattle.ft_laws_agreement.proofs.TrimmedFromNow.{trim-shows}
 use Rattle.ft_laws_summaries.specs.Summaries.{IsSmall}

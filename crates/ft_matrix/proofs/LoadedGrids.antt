@@ -13,7 +13,8 @@ use Rattle.ft_props.specs.Element.{ElementContent, GridUnit, ListElement, is_unr
 use Rattle.ft_op.specs.Document.{Document}
 use Rattle.ft_op.specs.Cells.{is_null}
 use Rattle.ft_laws_agreement.proofs.SummaryStarts.{summary-sound}
-use Rattle.ft_msg.specs.Summary.{doc_of, run_items, stamp_of}
+use Rattle.ft_marks.specs.Marks.{stamp_of}
+use Rattle.ft_msg.specs.Summary.{doc_of, run_items}
 use Rattle.ft_laws_names.specs.WellNamed.{AreWellNamed}
 use Rattle.ft_laws_names.proofs.Beside.{beside-both, beside-each, beside-more}
 use Rattle.ft_laws_names.proofs.NamedStarts.{start-named}

@@ -10,7 +10,8 @@ use Rattle.ft_base.proofs.Booleans.{both}
 use Rattle.ft_tree_leaves.specs.Elements.{TreeElement, element_with, elements_with}
 use Rattle.ft_tree_leaves.specs.References.{KeepsReferences, reference_at}
 use Rattle.ft_laws_agreement.proofs.SlidEnds.{true-false}
-use Rattle.ft_msg.specs.Summary.{run_items, stamp_of}
+use Rattle.ft_marks.specs.Marks.{stamp_of}
+use Rattle.ft_msg.specs.Summary.{run_items}
 use Rattle.ft_named.proofs.Lists.{map-append}
 use Rattle.ft_perm.specs.Handles.{HandleRun, handles_of, in_run, numbers_from}
 use Rattle.ft_perm.specs.HandleLaws.{length-numbers_from}

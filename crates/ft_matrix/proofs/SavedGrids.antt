@@ -20,7 +20,8 @@ use Rattle.ft_op.specs.Document.{Document}
 use Rattle.ft_msg.specs.Content.{all_cells, shown, stage_view}
 use Rattle.ft_msg.specs.Summary.{trim}
 use Rattle.ft_msg.specs.JoinedRuns.{with_run}
-use Rattle.ft_msg.specs.SummaryOf.{mark_of, unit_runs}
+use Rattle.ft_marks.specs.Marks.{insertion_mark, mark_of}
+use Rattle.ft_msg.specs.SummaryOf.{unit_runs}
 use Rattle.ft_msg.proofs.JoinedRuns.{extended-with}
 use Rattle.ft_sumdoc.specs.declared.summary.RunRec.{RunRec}
 use Rattle.ft_sumdoc.specs.declared.summary.CellRec.{CellRec}
@@ -38,7 +39,6 @@ use Rattle.ft_matrix.specs.declared.stages.GridStage.{GridStage}
 use Rattle.ft_matrix.specs.Conditions.{IsAboveAll}
 use Rattle.ft_matrix.specs.GridStates.{grid_state, shown_stage}
 use Rattle.ft_matrix.specs.HoldsGrid.{HoldsGrid}
-use Rattle.ft_msg.specs.SavedStamps.{insertion_mark}
 use Rattle.ft_matrix.specs.SavedUnits.{saved_runs, unit_run}
 use Rattle.ft_matrix.specs.Seen.{shown_at, shown_cells}
 use Rattle.ft_matrix.specs.Shown.{with_units}

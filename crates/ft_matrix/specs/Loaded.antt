@@ -4,7 +4,7 @@ use Rattle.ft_base.specs.declared.elements.Element.{Element as ElementStamps}
 use Rattle.ft_block.specs.declared.leaves.LenView.TheVariants.{Stage}
 use Rattle.ft_tree_leaves.specs.Elements.{elements_with}
 use Rattle.ft_msg.specs.Summary.{doc_of, run_items}
-use Rattle.ft_msg.specs.SavedStamps.{marked_stamps}
+use Rattle.ft_marks.specs.Marks.{marked_stamps}
 use Rattle.ft_perm.specs.Handles.{HandleRun, handles_of}
 use Rattle.ft_perm.specs.Vectors.{VectorState, seen_handles}
 use Rattle.ft_props.specs.Element.{nameless}

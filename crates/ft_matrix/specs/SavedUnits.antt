@@ -4,8 +4,7 @@ use Rattle.ft_base.specs.declared.elements.Element.{Element as ElementStamps}
 use Rattle.ft_tree_leaves.specs.declared.leaves.TreeLeaf.{TreeLeaf}
 use Rattle.ft_tree_leaves.specs.Elements.{TreeElement}
 use Rattle.ft_msg.specs.JoinedRuns.{with_run}
-use Rattle.ft_msg.specs.SavedStamps.{insertion_mark}
-use Rattle.ft_msg.specs.SummaryOf.{mark_of}
+use Rattle.ft_marks.specs.Marks.{insertion_mark, mark_of}
 use Rattle.ft_perm.specs.Handles.{HandleRun, handles_of}
 use Rattle.ft_props.specs.Compaction.{has_collectable_removal}
 use Rattle.ft_sumdoc.specs.declared.summary.RunRec.{RunRec}

@@ -14,7 +14,7 @@ use crate::messages::more;
 use crate::moves::{push_unless, when_done};
 use ft_arena::NodeId;
 use ft_base::{Element, OutOfMemory};
-use ft_msg::marks::{insertion_of, is_collectable, marks_of, same_stamps};
+use ft_marks::{insertion_of, is_collectable, marks_of, same_stamps};
 use ft_perm::{Handles, Vector};
 use ft_sumdoc::{RunRec, RunRecs};
 use ft_tree::Tree;

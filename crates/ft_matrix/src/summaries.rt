@@ -16,7 +16,7 @@ use crate::splices::fresh_handles;
 use ft_base::{Datum, OutOfMemory};
 use ft_block::LenView;
 use ft_cells::Cells;
-use ft_msg::marks::element_of;
+use ft_marks::element_of;
 use ft_perm::Vector;
 use ft_props::Props;
 use ft_sumdoc::{CellRec, RunRec, SumDoc};

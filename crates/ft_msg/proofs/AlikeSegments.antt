@@ -7,7 +7,7 @@ use Rattle.ft_sumdoc.specs.declared.summary.SegRec.{SegRec}
 use Rattle.ft_sumdoc.specs.Stamps.{same_mark}
 use Rattle.ft_sumdoc.specs.WellFormed.{are_alike, are_characters, same_props, same_stamps}
 use Rattle.ft_msg.specs.SummaryOf.{joined, joined_bodies}
-use Rattle.ft_msg.proofs.SameStamps.{same_mark-Decides, same_props-Decides, stamps_are_same}
+use Rattle.ft_marks.proofs.SameStamps.{same_mark-Decides, same_props-Decides, stamps_are_same}
 
 -- two segments that differ in their characters at most
 pub record Alike (a b : SegRec) : Type 0 where

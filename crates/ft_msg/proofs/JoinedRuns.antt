@@ -5,7 +5,7 @@ use Rattle.ft_sumdoc.specs.declared.summary.RunRec.{RunRec}
 use Rattle.ft_sumdoc.specs.WellFormed.{same_stamps}
 use Rattle.ft_msg.specs.JoinedRuns.{with_run}
 use Rattle.ft_msg.specs.SummaryOf.{extended_unit_runs}
-use Rattle.ft_msg.proofs.SameStamps.{same_mark-Decides, same_marks-Decides, stamps_are_same}
+use Rattle.ft_marks.proofs.SameStamps.{same_mark-Decides, same_marks-Decides, stamps_are_same}
 
 -- so many units with these stamps
 abbrev pub run_of : ℕ → Mark → List Mark → RunRec

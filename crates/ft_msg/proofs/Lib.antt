@@ -8,7 +8,6 @@ pub mod ReplicaSteps
 pub mod ReachedSteps
 pub mod LinkSteps
 pub mod ReplicaStarts
-pub mod SameStamps
 pub mod AlikeSegments
 pub mod FrontSegments
 pub mod JoinedRuns

@@ -10,7 +10,6 @@ pub mod Indexed
 pub mod Compacted
 pub mod Summary
 pub mod SummaryOf
-pub mod SavedStamps
 pub mod OpenSegments
 pub mod JoinedRuns
 pub mod ClientSteps

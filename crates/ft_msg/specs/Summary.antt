@@ -1,8 +1,5 @@
 -- The document that a summary gives, and what of a document goes into its summary.
 use Rattle.std.specs.Prelude.{◌≡◌, ℕ, ◌+◌, not, ◌&&◌, List, [], ◌∷◌, ◌++◌, Option, Some, None, map, filter, length, replicate}
-use Rattle.ft_base.specs.declared.stamps.Stamp.{Stamp}
-use Rattle.ft_base.specs.declared.stamps.Stamp.TheVariants.{Acked}
-use Rattle.ft_sumdoc.specs.declared.summary.Mark.{Mark}
 use Rattle.ft_sumdoc.specs.declared.summary.Seg.{Seg}
 use Rattle.ft_sumdoc.specs.declared.summary.Seg.TheVariants.{Chars, Marker}
 use Rattle.ft_sumdoc.specs.declared.summary.SegRec.{SegRec}
@@ -17,11 +14,8 @@ use Rattle.ft_props.specs.Steps.{Sequence}
 use Rattle.ft_op.specs.Intervals.{Interval, element_at_end}
 use Rattle.ft_op.specs.Cells.{Cell, is_null}
 use Rattle.ft_op.specs.Document.{Document}
+use Rattle.ft_marks.specs.Marks.{stamp_of}
 use Rattle.ft_msg.specs.Indexed.{indexed}
-
--- a mark as a stamp
-abbrev pub stamp_of : Mark → Stamp
-stamp_of m = Acked m.seq m.conn
 
 -- the contents of the elements of a summary's segment
 abbrev pub segment_bodies : Seg → List ElementContent

@@ -1,7 +1,5 @@
 -- The summary of a document of messages alone: the one that is written for it.
-use Rattle.std.specs.Prelude.{◌≡◌, ℕ, ◌+◌, ◌%◌, Bool, cond, not, ◌&&◌, ◌==◌, List, [], ◌∷◌, ◌++◌, Option, Some, None, map, take}
-use Rattle.ft_base.specs.declared.stamps.Stamp.{Stamp}
-use Rattle.ft_base.specs.declared.stamps.Stamp.TheVariants.{Acked, Local}
+use Rattle.std.specs.Prelude.{◌≡◌, ℕ, ◌+◌, ◌%◌, Bool, cond, not, ◌&&◌, ◌==◌, List, [], ◌∷◌, ◌++◌, map, take}
 use Rattle.ft_sumdoc.specs.declared.summary.Mark.{Mark}
 use Rattle.ft_sumdoc.specs.declared.summary.Seg.{Seg}
 use Rattle.ft_sumdoc.specs.declared.summary.Seg.TheVariants.{Chars, Marker}
@@ -9,23 +7,13 @@ use Rattle.ft_sumdoc.specs.declared.summary.SegRec.{SegRec}
 use Rattle.ft_sumdoc.specs.declared.summary.RunRec.{RunRec}
 use Rattle.ft_sumdoc.specs.declared.summary.SumDoc.{SumDoc}
 use Rattle.ft_sumdoc.specs.Chunks.{chunk_length}
-use Rattle.ft_sumdoc.specs.Stamps.{universal}
 use Rattle.ft_sumdoc.specs.WellFormed.{are_alike, same_stamps}
 use Rattle.ft_props.specs.Properties.{Characters}
 use Rattle.ft_props.specs.Element.{Character, ElementContent, GridUnit, ListElement, MarkerOf}
 use Rattle.ft_op.specs.Document.{Document}
+use Rattle.ft_marks.specs.Marks.{author_mark, mark_of}
 use Rattle.ft_msg.specs.Content.{shown}
 use Rattle.ft_msg.specs.Summary.{GivesDocument, trim}
-
--- a sequenced stamp as a mark
-abbrev pub mark_of : Stamp → Mark
-mark_of (Acked s c) = record { seq = s; conn = c }
-mark_of (Local k) = universal
-
--- the author of an element, (0, 0) where it isn't known
-abbrev pub author_mark : Option Stamp → Mark
-author_mark None = universal
-author_mark (Some stamp) = mark_of stamp
 
 -- the content of an element as a segment
 abbrev pub element_body : ElementContent → Seg

@@ -7,7 +7,6 @@ mod contents;
 mod copies;
 pub mod faults;
 pub mod laws;
-pub mod marks;
 pub mod messages;
 pub mod names;
 pub mod reading;

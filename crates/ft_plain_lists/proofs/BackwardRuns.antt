@@ -4,7 +4,7 @@ use Rattle.std.proofs.Common.{◌∷◌, ◌++◌, IsTrue, ◌↔◌, length, re
 use Rattle.std.proofs.lemmas.List.{reverse-append}
 use Rattle.ft_msg.specs.declared.views.Run.{Run}
 use Rattle.ft_msg.specs.Content.{extended_property_runs, property_runs_from}
-use Rattle.ft_msg.proofs.SameStamps.{same_props-Decides}
+use Rattle.ft_marks.proofs.SameStamps.{same_props-Decides}
 use Rattle.ft_sumdoc.specs.WellFormed.{same_props}
 use Rattle.ft_props.specs.Element.{ListElement}
 use Rattle.ft_props.specs.Properties.{PropertyList, shown_props}

@@ -6,7 +6,8 @@ use Rattle.ft_sumdoc.specs.declared.summary.RunRec.{RunRec}
 use Rattle.ft_sumdoc.specs.WellFormed.{same_stamps}
 use Rattle.ft_props.specs.Element.{ListElement}
 use Rattle.ft_msg.specs.JoinedRuns.{with_run}
-use Rattle.ft_msg.specs.SummaryOf.{mark_of, unit_runs}
+use Rattle.ft_marks.specs.Marks.{mark_of}
+use Rattle.ft_msg.specs.SummaryOf.{unit_runs}
 use Rattle.ft_msg.proofs.JoinedRuns.{extended-with, run-alike, run_of, with_run-apart, with_run-joined}
 use Rattle.ft_plain_summary.specs.OpenRuns.{ended_runs, open_run, runs_behind}
 

@@ -7,7 +7,8 @@ use Rattle.ft_props.specs.Element.{ListElement}
 use Rattle.ft_props.specs.Properties.{PropertyList}
 use Rattle.ft_msg.specs.Content.{content_characters}
 use Rattle.ft_msg.specs.OpenSegments.{body_of_parts}
-use Rattle.ft_msg.specs.SummaryOf.{author_mark, element_body, mark_of, segment_of}
+use Rattle.ft_marks.specs.Marks.{author_mark, mark_of}
+use Rattle.ft_msg.specs.SummaryOf.{element_body, segment_of}
 use Rattle.ft_plain_lists.specs.declared.elements.Content.{Content}
 use Rattle.ft_plain_lists.specs.declared.elements.Content.TheVariants.{Character, Marker, Unit}
 use Rattle.ft_plain_lists.specs.Contents.{content_of}

@@ -6,7 +6,8 @@ use Rattle.ft_sumdoc.specs.declared.summary.RunRec.{RunRec}
 use Rattle.ft_sumdoc.specs.declared.summary.SegRec.{SegRec}
 use Rattle.ft_props.specs.Element.{ElementContent, GridUnit, ListElement, new_elements}
 use Rattle.ft_props.specs.Properties.{PropertyList}
-use Rattle.ft_msg.specs.Summary.{run_items, segment_bodies, segment_items, stamp_of}
+use Rattle.ft_marks.specs.Marks.{stamp_of}
+use Rattle.ft_msg.specs.Summary.{run_items, segment_bodies, segment_items}
 
 -- there is an element for each content
 length-new_elements : (n : ℕ) (ins : Stamp) (dels : List Stamp) (by : Option Stamp) (props : PropertyList) (bs : List ElementContent)

@@ -2,11 +2,12 @@
 
 ghost use Rattle.std.specs.Prelude.{◌≡◌, ◌+◌, ◌++◌, [], None, Some, IfOk, OnOk, length, map, replicate};
 ghost use Rattle.ft_props.specs.Element.{GridUnit, new_elements};
-ghost use Rattle.ft_msg.specs.Summary.{list_of, run_items, segment_bodies, segment_items, stamp_of};
+ghost use Rattle.ft_marks.specs.Marks.{stamp_of};
+ghost use Rattle.ft_msg.specs.Summary.{list_of, run_items, segment_bodies, segment_items};
 ghost use Rattle.ft_plain_lists.specs.Contents.{content_of};
 
 use ft_base::OutOfMemory;
-use ft_msg::marks::{stamp_of, stamps_of};
+use ft_marks::{stamp_of, stamps_of};
 use ft_plain_lists::{Content, PlainList, characters, units};
 use ft_props::Props;
 use ft_sumdoc::{RunRec, Seg, SegRec};

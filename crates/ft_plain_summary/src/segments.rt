@@ -3,13 +3,14 @@
 
 ghost use Rattle.std.specs.Prelude.{◌≡◌, ◌++◌, true, IfOk, OnOk, map};
 ghost use Rattle.ft_msg.specs.OpenSegments.{ended_segments, open_segment};
-ghost use Rattle.ft_msg.specs.SummaryOf.{element_body, joined_bodies, mark_of, segment_of, segments_from};
+ghost use Rattle.ft_marks.specs.Marks.{mark_of};
+ghost use Rattle.ft_msg.specs.SummaryOf.{element_body, joined_bodies, segment_of, segments_from};
 ghost use Rattle.ft_sumdoc.specs.WellFormed.{are_alike, are_characters};
 ghost use Rattle.ft_plain_lists.specs.Contents.{content_of};
 ghost use Rattle.ft_plain_summary.specs.OpenSegments.{reference_type};
 
 use ft_base::{Datum, OutOfMemory, Text};
-use ft_msg::marks::{author_of, mark_of, marks_of, same_mark, same_props, same_stamps};
+use ft_marks::{author_of, mark_of, marks_of, same_mark, same_props, same_stamps};
 use ft_plain_lists::{Content, PlainElement, push_character};
 use ft_props::Props;
 use ft_sumdoc::{CHUNK_LENGTH, Mark, Marks, Seg, SegRec, SegRecs};

@@ -2,11 +2,12 @@
 //! or ends it.
 
 ghost use Rattle.std.specs.Prelude.{◌≡◌, ◌++◌, IfOk, OnOk, map};
-ghost use Rattle.ft_msg.specs.SummaryOf.{mark_of, unit_runs};
+ghost use Rattle.ft_marks.specs.Marks.{mark_of};
+ghost use Rattle.ft_msg.specs.SummaryOf.{unit_runs};
 ghost use Rattle.ft_plain_summary.specs.OpenRuns.{ended_runs, open_run};
 
 use ft_base::OutOfMemory;
-use ft_msg::marks::{mark_of, marks_of, same_stamps};
+use ft_marks::{mark_of, marks_of, same_stamps};
 use ft_plain_lists::PlainElement;
 use ft_sumdoc::{RunRec, RunRecs};
 use std::alloc::Global;

@@ -25,7 +25,8 @@ use Rattle.ft_msg.specs.Client.{client_over}
 use Rattle.ft_msg.specs.Compacted.{KeepsCells, KeepsDocument}
 use Rattle.ft_msg.specs.Content.{all_cells, cell_record, row_cells}
 use Rattle.ft_msg.specs.Indexed.{IndexedClient, IndexedDocument, indexed}
-use Rattle.ft_msg.specs.Summary.{GivesDocument, cell_at, cells_of, doc_of, run_items, segment_bodies, segment_items, stamp_of, trim}
+use Rattle.ft_marks.specs.Marks.{stamp_of}
+use Rattle.ft_msg.specs.Summary.{GivesDocument, cell_at, cells_of, doc_of, run_items, segment_bodies, segment_items, trim}
 use Rattle.ft_laws_agreement.proofs.SlidEnds.{same_id-eq}
 use Rattle.ft_laws_summaries.proofs.SummaryIntervals.{AreNumbered, runs-numbered}
 use Rattle.ft_session.specs.Effects.{KeepsTrimmed, elements_in}

@@ -5,7 +5,8 @@ use Rattle.std.proofs.lemmas.List.{drop_more}
 use Rattle.ft_tree_leaves.specs.declared.text.TextContent.{TextContent}
 use Rattle.ft_tree_leaves.specs.Elements.{element_with}
 use Rattle.ft_tree_leaves.specs.TextLeaves.{text_units}
-use Rattle.ft_msg.specs.Summary.{segment_bodies, stamp_of}
+use Rattle.ft_marks.specs.Marks.{stamp_of}
+use Rattle.ft_msg.specs.Summary.{segment_bodies}
 use Rattle.ft_sumdoc.specs.declared.summary.SegRec.{SegRec}
 use Rattle.ft_named.proofs.Lists.{map-append}
 use Rattle.ft_props.specs.Element.{ElementContent}

@@ -21,7 +21,8 @@ use Rattle.ft_tree_leaves.specs.Elements.{is_unremoved as tree_unremoved}
 use Rattle.ft_tree_leaves.specs.References.{reference_at}
 use Rattle.ft_tree_leaves.proofs.Runs.{len-append}
 use Rattle.ft_msg.specs.Indexed.{indexed_interval, place_in_list}
-use Rattle.ft_msg.specs.Summary.{doc_of, interval_of, segment_bodies, segment_items, stamp_of}
+use Rattle.ft_marks.specs.Marks.{stamp_of}
+use Rattle.ft_msg.specs.Summary.{doc_of, interval_of, segment_bodies, segment_items}
 use Rattle.ft_laws_names.proofs.Beside.{beside-len}
 use Rattle.ft_laws_names.proofs.NamedStarts.{start-named}
 use Rattle.ft_named.specs.Bare.{bare}

@@ -14,13 +14,13 @@ use Rattle.ft_sumdoc.specs.declared.summary.SegRec.{SegRec}
 use Rattle.ft_sumdoc.specs.Chunks.{chunk_length}
 use Rattle.ft_sumdoc.specs.Stamps.{universal}
 use Rattle.ft_laws_agreement.specs.Reconnecting.{has_insertion_of, has_marks_of, has_removal_of, inserts_text, removes_text}
-use Rattle.ft_msg.specs.SummaryOf.{author_mark, element_body, extended_segments, mark_of, segment_of, segments_from}
+use Rattle.ft_marks.specs.Marks.{author_mark, insertion_mark, mark_of}
+use Rattle.ft_msg.specs.SummaryOf.{element_body, extended_segments, segment_of, segments_from}
 use Rattle.ft_laws_names.proofs.Beside.{ends, next}
 use Rattle.ft_named.proofs.Bares.{AreElements, IsElement}
 use Rattle.ft_string.specs.Bare.{text_content}
 use Rattle.ft_string.specs.Parts.{TextElements}
 use Rattle.ft_string.specs.Saved.{element_segment, joined_from, kept_segments}
-use Rattle.ft_msg.specs.SavedStamps.{insertion_mark}
 
 -- whether nothing is pending on the element
 abbrev pub is_settled : ListElement → Bool

@@ -13,7 +13,7 @@ use Rattle.ft_sumdoc.specs.WellFormed.{same_props}
 use Rattle.ft_base.proofs.Booleans.{both}
 use Rattle.ft_string.specs.Parts.{TextElements}
 use Rattle.ft_string.specs.Shows.{continued, runs_of, with_properties, with_run}
-use Rattle.ft_msg.proofs.SameStamps.{same_props-Decides}
+use Rattle.ft_marks.proofs.SameStamps.{same_props-Decides}
 
 -- ---- a run with those behind it
 

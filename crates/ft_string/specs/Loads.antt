@@ -18,7 +18,8 @@ use Rattle.ft_op.specs.Document.{given_ends_fit}
 use Rattle.ft_props.specs.Element.{ElementContent}
 use Rattle.ft_props.specs.Keys.{Characters, put_rising}
 use Rattle.ft_props.specs.Properties.{PropertySet, ValueBytes, apply}
-use Rattle.ft_msg.specs.Summary.{segment_bodies, stamp_of}
+use Rattle.ft_marks.specs.Marks.{stamp_of}
+use Rattle.ft_msg.specs.Summary.{segment_bodies}
 use Rattle.ft_sumdoc.specs.declared.summary.Ends2.{Ends2}
 use Rattle.ft_sumdoc.specs.declared.summary.IntervalRec.{IntervalRec}
 use Rattle.ft_sumdoc.specs.declared.summary.SegRec.{SegRec}

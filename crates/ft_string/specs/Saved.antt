@@ -14,8 +14,8 @@ use Rattle.ft_props.specs.Overlay.{OverlayState}
 use Rattle.ft_sumdoc.specs.declared.summary.Seg.{Seg}
 use Rattle.ft_sumdoc.specs.declared.summary.SegRec.{SegRec}
 use Rattle.ft_sumdoc.specs.Chunks.{chunk_length}
-use Rattle.ft_msg.specs.SavedStamps.{insertion_mark}
-use Rattle.ft_msg.specs.SummaryOf.{author_mark, element_body, extended_segments, mark_of}
+use Rattle.ft_marks.specs.Marks.{author_mark, insertion_mark, mark_of}
+use Rattle.ft_msg.specs.SummaryOf.{element_body, extended_segments}
 use Rattle.ft_string.specs.Parts.{TextElements}
 use Rattle.ft_string.specs.Shows.{TextLeaves}
 use Rattle.ft_string.specs.declared.segments.Head.{Head}

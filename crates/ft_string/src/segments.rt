@@ -19,7 +19,7 @@ use crate::lengths::sum;
 use crate::moved::put;
 use ft_arena::NodeId;
 use ft_base::{Datum, OutOfMemory, Text};
-use ft_msg::marks::{
+use ft_marks::{
     author_of, insertion_of, is_collectable, marks_of, same_mark, same_props, same_stamps,
 };
 use ft_props::Props;

@@ -26,7 +26,7 @@ use crate::strings::SharedString;
 use ft_base::{Datum, List, OutOfMemory, Perspective, Text};
 use ft_interval::Collections;
 use ft_json::ValText;
-use ft_msg::marks::element_of;
+use ft_marks::element_of;
 use ft_op::{Ends, TextOp};
 use ft_props::{PropSet, Props};
 use ft_sumdoc::{Ends2, IntervalRec, Seg, SegRec, SumDoc};

@@ -1,6 +1,7 @@
 use Rattle.std.proofs.Common.{◌+◌, ◌∷◌, ◌∙◌, Some, ap, drop, map, sym}
 use Rattle.std.proofs.lemmas.List.{drop_more}
-use Rattle.ft_msg.specs.Summary.{segment_bodies, segment_items, stamp_of}
+use Rattle.ft_marks.specs.Marks.{stamp_of}
+use Rattle.ft_msg.specs.Summary.{segment_bodies, segment_items}
 use Rattle.ft_plain_summary.proofs.NumberedItems.{counted-with, segment_items-with}
 use Rattle.ft_plain_summary.proofs.lists.text_list.Goals as goal
 

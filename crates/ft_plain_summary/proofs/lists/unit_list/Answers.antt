@@ -1,7 +1,8 @@
 use Rattle.std.proofs.Common.{◌+◌, [], ◌∷◌, ◌∙◌, None, ap, drop, map, replicate, sym}
 use Rattle.std.proofs.lemmas.List.{drop_more, length-replicate}
 use Rattle.ft_props.specs.Element.{GridUnit}
-use Rattle.ft_msg.specs.Summary.{run_items, stamp_of}
+use Rattle.ft_marks.specs.Marks.{stamp_of}
+use Rattle.ft_msg.specs.Summary.{run_items}
 use Rattle.ft_plain_summary.proofs.NumberedItems.{counted-with, run_items-with}
 use Rattle.ft_plain_summary.proofs.lists.unit_list.Goals as goal
 

@@ -2,7 +2,7 @@ use Rattle.std.proofs.Common.{◌≡◌, ◌&&◌, false, nat_eq, [], arith, sym
 use Rattle.std.proofs.lemmas.Bool.Decides.{nat_tests, same_from_decides}
 use Rattle.std.proofs.lemmas.Result.{on_ok_weaker}
 use Rattle.ft_sumdoc.specs.WellFormed.{same_props}
-use Rattle.ft_msg.proofs.SameStamps.{same_props-Decides}
+use Rattle.ft_marks.proofs.SameStamps.{same_props-Decides}
 use Rattle.ft_string.proofs.ShownRuns.{run-apart, run-joined}
 use Rattle.ft_string.proofs.shown.push_run.Goals as goal
 use Rattle.ft_string.proofs.shown.push_run.Goals.{else-last-start-via-then-last-start+else-same, else-last-start-via-else-last-start}

@@ -2,7 +2,8 @@ use Rattle.std.proofs.Common.{◌∙◌, ◌++◌, ap, chars, string_bytes}
 use Rattle.std.proofs.lemmas.Str.{chars-nil}
 use Rattle.ft_msg.specs.Content.{content_characters}
 use Rattle.ft_msg.specs.OpenSegments.{body_of_parts}
-use Rattle.ft_msg.specs.SummaryOf.{author_mark, element_body, mark_of}
+use Rattle.ft_marks.specs.Marks.{author_mark, mark_of}
+use Rattle.ft_msg.specs.SummaryOf.{element_body}
 use Rattle.ft_plain_lists.specs.Contents.{content_of}
 use Rattle.ft_plain_summary.proofs.MadeSegments.{body-of_parts, segment-of_parts}
 use Rattle.ft_plain_summary.proofs.segments.OpenSegment.new.Goals as goal

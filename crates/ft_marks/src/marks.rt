@@ -1,12 +1,10 @@
 //! Stamps as the marks of a summary, and marks as stamps; and the tests by which a summary joins elements.
 
 ghost use Rattle.std.specs.Prelude.{◌≡◌, IfOk, map};
-ghost use Rattle.ft_msg.specs.Summary.{stamp_of};
-ghost use Rattle.ft_msg.specs.SummaryOf.{author_mark, mark_of};
+ghost use Rattle.ft_marks.specs.Marks.{author_mark, insertion_mark, mark_of, marked_stamps, stamp_of};
 ghost use Rattle.ft_props.specs.Compaction.{has_collectable_removal};
 ghost use Rattle.ft_sumdoc.specs.Stamps.{same_mark};
 ghost use Rattle.ft_sumdoc.specs.WellFormed.{same_props, same_stamps};
-ghost use Rattle.ft_msg.specs.SavedStamps.{insertion_mark, marked_stamps};
 
 use ft_base::{Datum, Element, OutOfMemory, Stamp, Stamps};
 use ft_props::Props;

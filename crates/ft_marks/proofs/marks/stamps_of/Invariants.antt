@@ -1,6 +1,6 @@
 use Rattle.std.proofs.Common.{◌≡◌, ◌++◌, drop, map}
-use Rattle.ft_msg.specs.Summary.{stamp_of}
-use Rattle.ft_msg.proofs.marks.stamps_of.Given as goal
+use Rattle.ft_marks.specs.Marks.{stamp_of}
+use Rattle.ft_marks.proofs.marks.stamps_of.Given as goal
 
 -- the stamps so far, and those of the rest, are all
 abbrev pub invariant-loop-mark : goal.invariant-loop-mark

@@ -1,7 +1,7 @@
 use Rattle.std.proofs.lemmas.Bool.Decides.{same_from_decides}
 use Rattle.ft_sumdoc.specs.WellFormed.{same_props}
-use Rattle.ft_msg.proofs.SameStamps.{same_props-Decides}
-use Rattle.ft_msg.proofs.marks.same_props.Goals as goal
+use Rattle.ft_marks.proofs.SameStamps.{same_props-Decides}
+use Rattle.ft_marks.proofs.marks.same_props.Goals as goal
 
 pub returns : goal.returns
 returns c =

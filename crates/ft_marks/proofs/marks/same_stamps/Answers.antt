@@ -2,8 +2,8 @@ use Rattle.std.proofs.Common.{◌≡◌, ◌∙◌, ◌&&◌, true, ap, sym}
 use Rattle.std.proofs.lemmas.Bool.Decides.{same_from_decides}
 use Rattle.ft_op.specs.Same.{same_list}
 use Rattle.ft_sumdoc.specs.Stamps.{same_mark}
-use Rattle.ft_msg.proofs.SameStamps.{same_marks-Decides}
-use Rattle.ft_msg.proofs.marks.same_stamps.Goals as goal
+use Rattle.ft_marks.proofs.SameStamps.{same_marks-Decides}
+use Rattle.ft_marks.proofs.marks.same_stamps.Goals as goal
 
 pub returns-then-same_mark : goal.returns-then-same_mark
 returns-then-same_mark c =

@@ -1,6 +1,6 @@
 use Rattle.std.proofs.Common.{◌≡◌, ◌++◌, drop, map}
-use Rattle.ft_msg.specs.SummaryOf.{mark_of}
-use Rattle.ft_msg.proofs.marks.marks_of.Given as goal
+use Rattle.ft_marks.specs.Marks.{mark_of}
+use Rattle.ft_marks.proofs.marks.marks_of.Given as goal
 
 -- the marks so far, and those of the rest, are all
 abbrev pub invariant-loop-stamp : goal.invariant-loop-stamp
