@@ -8,7 +8,6 @@ pub mod laws;
 pub mod log;
 mod marks;
 mod members;
-mod moved;
 pub mod ops;
 pub mod reading;
 mod replica;

@@ -5,8 +5,8 @@ ghost use Rattle.ft_map.specs.MapSession.{joined, new_service, next_conn, submit
 ghost use Rattle.ft_map.specs.MapWorlds.{AnswersLeave, HasNoNack};
 
 use crate::log::MapEntry;
-use crate::moved::push;
 use crate::ops::MapOp;
+use ft_base::moved::push;
 use ft_base::{OutOfMemory, Text};
 use ft_msg::{Draft, Entry};
 use ft_seqr::{Refusal, Sequencer, SubmitFault};

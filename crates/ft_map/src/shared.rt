@@ -5,8 +5,8 @@ ghost use Rattle.ft_props.specs.Keys.{KeysRise};
 ghost use Rattle.ft_map.specs.Maps.{acknowledged, map_of, pair_of, pairs_of, put, shown_map, value_of};
 
 use crate::marks::KeyMarks;
-use crate::moved::push_reserved;
 use crate::ops::{MapOp, MapPair, put, set, written};
+use ft_base::moved::push_reserved;
 use ft_base::{Datum, OutOfMemory, Text};
 use ft_json::ValText;
 use ft_props::Props;
