@@ -11,7 +11,7 @@ use Rattle.serde_json.specs.Written.{compact_text, items_text}
 use Rattle.ft_json.specs.Canonical.{IsCanonical, IsCanonicalText, ItemsAreCanonical}
 use Rattle.ft_json.proofs.Quoted.{encodes-quoted}
 use Rattle.ft_seqr.specs.ViewLines.{json_string}
-use Rattle.ft_map.specs.Maps.{Characters, FiniteMap, ValueBytes}
+use Rattle.ft_shared_map.specs.Maps.{Characters, FiniteMap, ValueBytes}
 use Rattle.ft_map.specs.MapClient.{MapClient}
 use Rattle.ft_map.specs.MapReport.{later_pairs, pair_text, pairs_text, summary_text}
 use Rattle.ft_map.specs.MapWorlds.{IsWritable}

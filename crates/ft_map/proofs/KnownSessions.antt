@@ -23,8 +23,8 @@ use Rattle.ft_map.specs.declared.events.MapEvent.{MapEvent}
 use Rattle.ft_map.specs.declared.events.MapEvent.TheVariants as event
 use Rattle.ft_map.specs.declared.log.MapDraft.{MapDraft}
 use Rattle.ft_map.specs.declared.log.MapEntry.{MapEntry}
-use Rattle.ft_map.specs.declared.ops.MapOp.{MapOp}
-use Rattle.ft_map.specs.Maps.{Characters, FiniteMap, put_all}
+use Rattle.ft_shared_map.specs.declared.ops.MapOp.{MapOp}
+use Rattle.ft_shared_map.specs.Maps.{Characters, FiniteMap, put_all}
 use Rattle.ft_map.specs.MapClient.{MapClient, after_entries, agreed_map, client_over, dropped, edited, joining}
 use Rattle.ft_map.specs.MapSession.{MapOutput, MapService, MapSession, MapStepped, MapTurned, NamedMapClient, Nothing, Summary, ahead_of, asked, connect_client, deliver_client, drop_client, edit_client, is_client, joined, left, logged, new_session, next_conn, of_client, replaced, session_after, session_of, settled, show_client, start_client, started, step, submit_all, submit_one, summary_client, ticket_client, turned, with_name}
 use Rattle.ft_map.specs.MapWorlds.{HasNoNack}

@@ -1,5 +1,3 @@
-pub mod MapLaws
-pub mod MarkLaws
 pub mod Views
 pub mod Turns
 pub mod Submitting

@@ -13,8 +13,8 @@ use Rattle.ft_msg.specs.Process.{is_own_join}
 use Rattle.ft_seqr.specs.Sequencer.{JoinedConnection, NaiveSequencer, is_joined}
 use Rattle.ft_map.specs.declared.log.MapDraft.{MapDraft}
 use Rattle.ft_map.specs.declared.log.MapEntry.{MapEntry}
-use Rattle.ft_map.specs.declared.ops.MapOp.{MapOp}
-use Rattle.ft_map.specs.Maps.{FiniteMap}
+use Rattle.ft_shared_map.specs.declared.ops.MapOp.{MapOp}
+use Rattle.ft_shared_map.specs.Maps.{FiniteMap}
 use Rattle.ft_map.specs.MapClient.{MapClient, agreed_from, draft_of, drafts_from, put_entry}
 
 -- ---- the log

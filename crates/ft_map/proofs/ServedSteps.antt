@@ -10,8 +10,8 @@ use Rattle.ft_msg.specs.Process.{is_own_join}
 use Rattle.ft_seqr.specs.Sequencer.{JoinedConnection, is_joined, least_ref, next, submitted}
 use Rattle.ft_map.specs.declared.log.MapDraft.{MapDraft}
 use Rattle.ft_map.specs.declared.log.MapEntry.{MapEntry}
-use Rattle.ft_map.specs.declared.ops.MapOp.{MapOp}
-use Rattle.ft_map.specs.Maps.{Characters, FiniteMap, MapState, acknowledged}
+use Rattle.ft_shared_map.specs.declared.ops.MapOp.{MapOp}
+use Rattle.ft_shared_map.specs.Maps.{Characters, FiniteMap, MapState, acknowledged}
 use Rattle.ft_map.specs.MapClient.{MapClient, after_entries, after_entry, after_message, after_op, agreed_map, client_over, draft_of, drafts_from, dropped, edited, is_own, joining, online, put_entry, with_draft}
 use Rattle.ft_map.specs.MapSession.{MapService}
 use Rattle.ft_map.proofs.JoinedConnections.{AreWithin, least_ref-within, same_number, within-later}

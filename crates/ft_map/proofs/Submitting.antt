@@ -12,7 +12,7 @@ use Rattle.ft_seqr.specs.declared.refusals.Refusal.TheVariants.{Nacked, NotConne
 use Rattle.ft_seqr.specs.World.{conn_of, wanted_count}
 use Rattle.ft_msg.specs.declared.messages.Body.TheVariants.{Elsewhere}
 use Rattle.ft_map.specs.declared.log.MapDraft.{MapDraft}
-use Rattle.ft_map.specs.declared.ops.MapOp.{MapOp}
+use Rattle.ft_shared_map.specs.declared.ops.MapOp.{MapOp}
 use Rattle.ft_map.specs.MapClient.{MapClient, draft_of}
 use Rattle.ft_map.specs.MapSession.{MapService, MapTurned, NamedMapClient, logged, submit_all, submit_one, ticket_client, turned}
 use Rattle.ft_map.specs.MapWorlds.{HasNoNack}

@@ -14,9 +14,9 @@ use Rattle.ft_map.specs.declared.events.MapEvent.{MapEvent}
 use Rattle.ft_map.specs.declared.events.MapOut.{MapOut}
 use Rattle.ft_map.specs.declared.events.MapOut.TheVariants as out
 use Rattle.ft_map.specs.MapClient.{MapClient, client_over}
-use Rattle.ft_map.specs.declared.ops.MapOp.{MapOp}
+use Rattle.ft_shared_map.specs.declared.ops.MapOp.{MapOp}
 use Rattle.ft_map.specs.declared.world.MapAct.{MapAct}
-use Rattle.ft_map.specs.Maps.{Characters}
+use Rattle.ft_shared_map.specs.Maps.{Characters}
 use Rattle.ft_map.specs.MapActs.{turn_of}
 use Rattle.ft_map.specs.MapSession.{MapService, MapSession, MapStepped, MapTurned, NamedMapClient, Nothing, Summary, asked, is_client, name_fault, of_client, replaced, settled, start_client, started, step, summary_client, unless_pending}
 use Rattle.ft_seqr.specs.RefusalKinds.{refusal_kind}

@@ -1,7 +1,7 @@
 -- Views of clients of a map session.
 use Rattle.std.proofs.Common.{◌≡◌, ℕ, Bool, true, false, List, None, Option, refl, sym, ◌∙◌, ap, take}
-use Rattle.ft_map.specs.declared.ops.MapOp.{MapOp}
-use Rattle.ft_map.specs.Maps.{MapState, put_all, shown_map}
+use Rattle.ft_shared_map.specs.declared.ops.MapOp.{MapOp}
+use Rattle.ft_shared_map.specs.Maps.{MapState, put_all, shown_map}
 use Rattle.ft_map.specs.MapClient.{MapClient, after_message, after_op, agreed_map, is_own, online, view_of}
 use Rattle.ft_map.specs.MapSession.{new_session, session_of}
 use Rattle.ft_map.specs.MapViews.{IdleClientsAgree, ReconnectionsChangeNothing, ViewsAreAgreedMaps}

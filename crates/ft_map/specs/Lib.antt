@@ -1,5 +1,3 @@
-pub mod Maps
-pub mod Marks
 pub mod MapClient
 pub mod MapSession
 pub mod MapGrammar

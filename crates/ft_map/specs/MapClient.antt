@@ -9,8 +9,8 @@ use Rattle.ft_msg.specs.declared.views.Link.TheVariants.{Offline, Joining, Onlin
 use Rattle.ft_msg.specs.Process.{is_own_join}
 use Rattle.ft_map.specs.declared.log.MapDraft.{MapDraft}
 use Rattle.ft_map.specs.declared.log.MapEntry.{MapEntry}
-use Rattle.ft_map.specs.declared.ops.MapOp.{MapOp}
-use Rattle.ft_map.specs.Maps.{FiniteMap, MapState, acknowledged, put, shown_map}
+use Rattle.ft_shared_map.specs.declared.ops.MapOp.{MapOp}
+use Rattle.ft_shared_map.specs.Maps.{FiniteMap, MapState, acknowledged, put, shown_map}
 
 -- a client: its map, its link, all connections that it used, the next client sequence number of its connection, its unsent messages,
 -- and the number and the minimum of the last message that it processed

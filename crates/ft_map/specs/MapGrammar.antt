@@ -12,9 +12,9 @@ use Rattle.ft_seqr.specs.declared.events.HowMany.{HowMany}
 use Rattle.ft_seqr.specs.EventGrammar.{client_name_field, given_count, given_from}
 use Rattle.ft_map.specs.declared.events.MapEvent.{MapEvent}
 use Rattle.ft_map.specs.declared.events.MapEvent.TheVariants.{Start, Connect, Drop, Edit, Ticket, Deliver, Show, Summary}
-use Rattle.ft_map.specs.declared.ops.MapOp.{MapOp}
-use Rattle.ft_map.specs.declared.ops.MapOp.TheVariants.{Set, Delete, Clear}
-use Rattle.ft_map.specs.Maps.{Characters, ValueBytes}
+use Rattle.ft_shared_map.specs.declared.ops.MapOp.{MapOp}
+use Rattle.ft_shared_map.specs.declared.ops.MapOp.TheVariants.{Set, Delete, Clear}
+use Rattle.ft_shared_map.specs.Maps.{Characters, ValueBytes}
 
 -- ---- operations
 

@@ -7,7 +7,7 @@ use Rattle.ft_seqr.specs.SessionReport.{link_word}
 use Rattle.ft_seqr.specs.ViewLines.{json_string}
 use Rattle.ft_seqr.specs.Walk.{Step, refuses, tells}
 use Rattle.ft_map.specs.declared.events.MapEvent.{MapEvent}
-use Rattle.ft_map.specs.Maps.{Characters, FiniteMap, ValueBytes}
+use Rattle.ft_shared_map.specs.Maps.{Characters, FiniteMap, ValueBytes}
 use Rattle.ft_map.specs.MapClient.{MapClient, view_of}
 use Rattle.ft_map.specs.MapGrammar.{map_event}
 use Rattle.ft_map.specs.MapSession.{MapOutput, MapSession, MapStepped, NamedMapClient, Nothing, Summary, View, step}

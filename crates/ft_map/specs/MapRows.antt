@@ -5,8 +5,8 @@ use Rattle.ft_msg.specs.declared.views.Link.TheVariants.{Online}
 use Rattle.ft_seqr.specs.declared.events.HowMany.TheVariants.{Num, All}
 use Rattle.ft_map.specs.declared.events.MapEvent.{MapEvent}
 use Rattle.ft_map.specs.declared.events.MapEvent.TheVariants.{Start, Connect, Drop, Edit, Ticket, Deliver}
-use Rattle.ft_map.specs.declared.ops.MapOp.TheVariants.{Set, Delete, Clear}
-use Rattle.ft_map.specs.Maps.{Characters, FiniteMap}
+use Rattle.ft_shared_map.specs.declared.ops.MapOp.TheVariants.{Set, Delete, Clear}
+use Rattle.ft_shared_map.specs.Maps.{Characters, FiniteMap}
 use Rattle.ft_map.specs.MapClient.{view_of}
 use Rattle.ft_map.specs.MapSession.{NamedMapClient, is_client, new_session, session_of}
 

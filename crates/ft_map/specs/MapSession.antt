@@ -13,8 +13,8 @@ use Rattle.ft_map.specs.declared.events.MapEvent.{MapEvent}
 use Rattle.ft_map.specs.declared.events.MapEvent.TheVariants as event
 use Rattle.ft_map.specs.declared.log.MapDraft.{MapDraft}
 use Rattle.ft_map.specs.declared.log.MapEntry.{MapEntry}
-use Rattle.ft_map.specs.declared.ops.MapOp.{MapOp}
-use Rattle.ft_map.specs.Maps.{Characters}
+use Rattle.ft_shared_map.specs.declared.ops.MapOp.{MapOp}
+use Rattle.ft_shared_map.specs.Maps.{Characters}
 use Rattle.ft_map.specs.MapClient.{MapClient, after_entries, client_over, dropped, edited, joining}
 
 -- a client of a session, with its name and how many connections it had

@@ -4,7 +4,7 @@ use Rattle.ft_seqr.specs.declared.nacks.Nack.{Nack}
 use Rattle.ft_seqr.specs.declared.refusals.Refusal.TheVariants.{Nacked}
 use Rattle.ft_map.specs.declared.events.MapEvent.{MapEvent}
 use Rattle.ft_map.specs.declared.log.MapEntry.{MapEntry}
-use Rattle.ft_map.specs.Maps.{Characters, put_all}
+use Rattle.ft_shared_map.specs.Maps.{Characters, put_all}
 use Rattle.ft_map.specs.MapClient.{MapClient, after_entry, agreed_map, dropped, joining, view_of}
 use Rattle.ft_map.specs.MapSession.{MapSession, NamedMapClient, is_client, new_session, session_of, step}
 

@@ -10,9 +10,9 @@ use Rattle.ft_seqr.specs.RefusalKinds.{MeansOf, Refused, refusal_kind}
 use Rattle.ft_map.specs.declared.events.MapEvent.{MapEvent}
 use Rattle.ft_map.specs.declared.events.MapOut.{MapOut}
 use Rattle.ft_map.specs.declared.events.MapOut.TheVariants as out
-use Rattle.ft_map.specs.declared.ops.MapOp.{MapOp}
-use Rattle.ft_map.specs.declared.ops.MapPair.{MapPair}
-use Rattle.ft_map.specs.Maps.{Characters, ValueBytes, pairs_of}
+use Rattle.ft_shared_map.specs.declared.ops.MapOp.{MapOp}
+use Rattle.ft_shared_map.specs.declared.ops.MapPair.{MapPair}
+use Rattle.ft_shared_map.specs.Maps.{Characters, ValueBytes, pairs_of}
 use Rattle.ft_map.specs.MapClient.{MapClient, view_of}
 use Rattle.ft_map.specs.MapReport.{summary_text}
 use Rattle.ft_map.specs.MapSession.{MapOutput, MapService, MapSession, MapStepped, MapTurned, NamedMapClient, Nothing, Summary, View, left, start_client, started, step}

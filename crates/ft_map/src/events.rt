@@ -1,10 +1,10 @@
 //! The events of a map session, and what they are answered.
 
-use crate::ops::{MapOp, MapPair};
 use ft_base::Text;
 use ft_json::ValText;
 use ft_msg::Numbers;
 use ft_seqr::HowMany;
+use ft_shared_map::{MapOp, MapPair};
 
 /// What happens in a map session.
 #[derive(Drop)]

@@ -1,4 +1,4 @@
-//! A shared map of keys and values: one client's map, and a session of such clients over one log, which the sequencer orders.
+//! Sessions of clients that share a map of keys and values (`SharedMap`), over one log, which the sequencer orders.
 //!
 //! A call that can't return `OutOfMemory` takes no memory; one that can returns it where there is no room.
 #![tactic(auto)]
@@ -6,18 +6,14 @@
 pub mod events;
 pub mod laws;
 pub mod log;
-mod marks;
 mod members;
-pub mod ops;
 pub mod reading;
 mod replica;
 mod service;
-pub mod shared;
 mod summaries;
 pub mod world;
 
 pub use events::{MapEvent, MapOut};
-pub use ops::{MapOp, MapPair};
+pub use ft_shared_map::{MapOp, MapPair, SharedMap};
 pub use reading::read_map_event;
-pub use shared::SharedMap;
 pub use world::MapWorld;

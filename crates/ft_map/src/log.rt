@@ -1,7 +1,7 @@
 //! Messages with the operations that they tell.
 
-use crate::ops::MapOp;
 use ft_msg::{Draft, Entry};
+use ft_shared_map::MapOp;
 
 /// A client's message that isn't sequenced yet, with its operation.
 #[derive(Drop)]

@@ -9,13 +9,13 @@ ghost use Rattle.ft_map.specs.MapWorlds.{AnswersTurn, HasNoNack};
 
 use crate::events::MapOut;
 use crate::log::{MapDraft, MapEntry};
-use crate::ops::MapOp;
 use crate::replica::MapReplica;
 use crate::service::Service;
 use crate::summaries::summary_text;
 use ft_base::{Datum, OutOfMemory, Text};
 use ft_msg::Link;
 use ft_seqr::{HowMany, Refusal, conn_of, connection_name, wanted_count};
+use ft_shared_map::MapOp;
 use std::alloc::Global;
 use std::marker::Model;
 

@@ -8,13 +8,13 @@ ghost use Rattle.ft_map.specs.MapEventReader.{ReadsMapEvent};
 ghost use Rattle.ft_map.specs.MapGrammar.{counted_event, delete_op, edit_event, edit_op, event_for, event_of, event_of_client, map_event, map_op, set_op, set_value, start_event, typed_op};
 
 use crate::events::MapEvent;
-use crate::ops::MapOp;
 use ft_base::Text;
 use ft_json::{Field, ValText, canonical, count, field, read_line, str_field, text_field};
 use ft_msg::Cause;
 use ft_op::is_object;
 use ft_seqr::Refusal;
 use ft_seqr::reading::{read_client, read_count, read_from};
+use ft_shared_map::MapOp;
 use serde_json::Value;
 use std::alloc::Global;
 

@@ -2,17 +2,16 @@
 
 ghost use Rattle.std.specs.Prelude.{◌≡◌, ◌+◌, ◌<◌, ◌^◌, [], ◌∷◌, ◌++◌, IfOk, OnOk, drop, length, slice_get};
 ghost use Rattle.ft_msg.specs.Process.{is_own_join};
-ghost use Rattle.ft_map.specs.Maps.{acknowledged, pairs_of};
+ghost use Rattle.ft_shared_map.specs.Maps.{acknowledged, pairs_of};
 ghost use Rattle.ft_map.specs.MapClient.{after_entry, after_message, after_op, client_over, draft_of, drafts_from, dropped, edited, is_own, joining, online, view_of};
 ghost use Rattle.ft_map.specs.MapWorlds.{AnswersPending, AreNumbersOf};
 
 use crate::log::{MapDraft, MapEntry};
-use crate::ops::{MapOp, MapPair};
-use crate::shared::SharedMap;
 use ft_base::{OutOfMemory, Text};
 use ft_json::ValText;
 use ft_msg::{Body, Draft, Entry, Link, MsgKind, Numbers};
 use ft_seqr::Refusal;
+use ft_shared_map::{MapOp, MapPair, SharedMap};
 use std::alloc::Global;
 use std::collections::VecDeque;
 use std::marker::Model;

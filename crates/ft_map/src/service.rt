@@ -5,11 +5,11 @@ ghost use Rattle.ft_map.specs.MapSession.{joined, new_service, next_conn, submit
 ghost use Rattle.ft_map.specs.MapWorlds.{AnswersLeave, HasNoNack};
 
 use crate::log::MapEntry;
-use crate::ops::MapOp;
 use ft_base::moved::push;
 use ft_base::{OutOfMemory, Text};
 use ft_msg::{Draft, Entry};
 use ft_seqr::{Refusal, Sequencer, SubmitFault};
+use ft_shared_map::MapOp;
 use std::alloc::Global;
 use std::marker::Model;
 

@@ -10,13 +10,12 @@ use crate::events::{MapEvent, MapOut};
 use crate::members::{
     Member, connect, deliver, drop_link, edit, has_member, member_place, show, summarize, ticket,
 };
-use crate::ops::MapOp;
 use crate::replica::MapReplica;
 use crate::service::Service;
-use crate::shared::SharedMap;
 use ft_base::moved::push;
 use ft_base::{Datum, OutOfMemory, Text};
 use ft_seqr::{HowMany, NAME_LIMIT, Refusal};
+use ft_shared_map::{MapOp, SharedMap};
 use std::alloc::Global;
 use std::marker::Model;
 

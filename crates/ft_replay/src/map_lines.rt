@@ -2,7 +2,7 @@
 
 ghost use Rattle.std.specs.Prelude.{◌≡◌, ◌++◌, None, IfOk, OnOk, map, string_bytes};
 ghost use Rattle.ft_io.specs.Lines.{with_lf};
-ghost use Rattle.ft_map.specs.Maps.{entry_of, map_of};
+ghost use Rattle.ft_shared_map.specs.Maps.{entry_of, map_of};
 ghost use Rattle.ft_map.specs.MapReport.{entry_line, head_line, output_lines, view_lines};
 ghost use Rattle.ft_map.specs.MapSession.{MapOutput, NamedMapClient};
 ghost use Rattle.ft_map.specs.MapWorlds.{AreNumbersOf, IsViewOf, Tells};

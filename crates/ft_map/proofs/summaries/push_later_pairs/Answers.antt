@@ -3,7 +3,7 @@ use Rattle.std.proofs.Common.{◌+◌, ◌++◌, drop, string_bytes, sym, ◌∙
 use Rattle.std.specs.List.{AllByRecursion}
 use Rattle.ft_map.specs.MapWorlds.{IsWritable}
 use Rattle.ft_map.proofs.CanonicalSummary.{later-added}
-use Rattle.ft_map.proofs.MapLaws.{rest-at}
+use Rattle.ft_shared_map.proofs.MapLaws.{rest-at}
 use Rattle.ft_map.proofs.summaries.push_later_pairs.Goals as goal
 
 pub loop-pair-preserved : goal.loop-pair-preserved

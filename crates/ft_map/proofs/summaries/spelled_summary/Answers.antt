@@ -1,6 +1,6 @@
 use Rattle.std.proofs.Common.{◌<◌, ◌^◌, ◌++◌, string_bytes, ◌∙◌, ap, subst}
 use Rattle.std.specs.List.{AllByRecursion}
-use Rattle.ft_map.specs.Maps.{FiniteMap}
+use Rattle.ft_shared_map.specs.Maps.{FiniteMap}
 use Rattle.ft_map.specs.MapReport.{pairs_text}
 use Rattle.ft_map.specs.MapWorlds.{IsWritable}
 use Rattle.ft_map.proofs.CanonicalSummary.{spelled, summary-canonical}

@@ -1,6 +1,6 @@
 use Rattle.std.proofs.Common.{◌≡◌, ◌++◌, drop, map, string_bytes}
 use Rattle.ft_replay.specs.LineForm.{bytes_of}
-use Rattle.ft_map.specs.Maps.{map_of}
+use Rattle.ft_shared_map.specs.Maps.{map_of}
 use Rattle.ft_map.specs.MapReport.{entry_line}
 use Rattle.ft_replay.proofs.map_lines.push_entries.Given as goal
 

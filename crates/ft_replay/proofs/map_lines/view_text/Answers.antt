@@ -1,9 +1,9 @@
 use Rattle.std.proofs.Common.{◌++◌, List, ℕ, ap, map, ◌∙◌}
 use Rattle.ft_io.specs.Lines.{with_lf}
-use Rattle.ft_map.specs.Maps.{FiniteMap, map_of}
+use Rattle.ft_shared_map.specs.Maps.{FiniteMap, map_of}
 use Rattle.ft_map.specs.MapClient.{view_of}
 use Rattle.ft_map.specs.MapReport.{entry_line, head_line}
-use Rattle.ft_map.proofs.MapLaws.{map_of-pairs_of}
+use Rattle.ft_shared_map.proofs.MapLaws.{map_of-pairs_of}
 use Rattle.ft_replay.specs.LineForm.{bytes_of}
 use Rattle.ft_replay.proofs.map_lines.view_text.Goals as goal
 

@@ -1,6 +1,6 @@
 -- A client comes in.
 use Rattle.std.proofs.Common.{◌++◌, ◌∷◌, [], ◌∙◌, ap}
-use Rattle.ft_map.specs.Maps.{Characters}
+use Rattle.ft_shared_map.specs.Maps.{Characters}
 use Rattle.ft_map.specs.MapSession.{MapSession}
 use Rattle.ft_map.proofs.Turns.{start-taken}
 use Rattle.ft_map.proofs.world.Session.start.Goals as goal

@@ -1,9 +1,9 @@
 use Rattle.std.proofs.Common.{◌≡◌, ◌+◌, [], ◌∷◌, ◌++◌, List, length, deque_len, sym, ◌∙◌, ap, subst, rules}
 use Rattle.std.specs.Prelude.{OnOk}
-use Rattle.ft_map.specs.Marks.{noted}
-use Rattle.ft_map.specs.declared.ops.MapOp.{MapOp}
-use Rattle.ft_map.proofs.MarkLaws.{marks-pushed, more-pushed}
-use Rattle.ft_map.proofs.shared.SharedMap.edit.Goals as goal
+use Rattle.ft_shared_map.specs.Marks.{noted}
+use Rattle.ft_shared_map.specs.declared.ops.MapOp.{MapOp}
+use Rattle.ft_shared_map.proofs.MarkLaws.{marks-pushed, more-pushed}
+use Rattle.ft_shared_map.proofs.shared.SharedMap.edit.Goals as goal
 
 pub invariant_of-self-2 : goal.invariant_of-self-2
 invariant_of-self-2 c =

@@ -2,7 +2,7 @@
 
 ghost use Rattle.std.specs.Prelude.{◌≡◌, ◌+◌, ◌<◌, ◌^◌, [], ◌∷◌, ◌++◌, IfOk, OnOk, OnErr, chars, length, option_copied, slice_get};
 ghost use Rattle.ft_props.specs.Keys.{KeysRise};
-ghost use Rattle.ft_map.specs.Maps.{acknowledged, map_of, pair_of, pairs_of, put, shown_map, value_of};
+ghost use Rattle.ft_shared_map.specs.Maps.{acknowledged, map_of, pair_of, pairs_of, put, shown_map, value_of};
 
 use crate::marks::KeyMarks;
 use crate::ops::{MapOp, MapPair, put, set, written};
@@ -31,8 +31,8 @@ pub struct SharedMap {
 impl Model for SharedMap {
     ghost use Rattle.std.specs.Prelude.{◌+◌, ◌<◌, ◌^◌, length};
     ghost use Rattle.ft_props.specs.Keys.{KeysRise};
-    ghost use Rattle.ft_map.specs.Maps.{MapState};
-    ghost use Rattle.ft_map.specs.Marks.{AreMarksOf};
+    ghost use Rattle.ft_shared_map.specs.Maps.{MapState};
+    ghost use Rattle.ft_shared_map.specs.Marks.{AreMarksOf};
 
     ghost Value = { MapState };
 
@@ -70,14 +70,14 @@ impl SharedMap {
     }
 
     /// A map with what was sequenced of this one, and nothing pending.
-    pub(crate) fn acked_copy(&self) -> Result<SharedMap, OutOfMemory>
+    pub fn acked_copy(&self) -> Result<SharedMap, OutOfMemory>
         ensures { IfOk result (λ map. map ≡ record { acked = self.now.acked; pending = [] }) }
     {
         Ok(SharedMap::of(self.acked.allocator(), self.acked.copy()?))
     }
 
     /// What was sequenced, by rising keys.
-    pub(crate) fn acked(&self) -> &[(Text, ValText)]
+    pub fn acked(&self) -> &[(Text, ValText)]
         ensures { result.now ≡ self.now.acked }
     {
         self.acked.as_slice()
@@ -98,7 +98,7 @@ impl SharedMap {
     }
 
     /// All pending operations in order.
-    pub(crate) fn operations(&self) -> &VecDeque<MapOp>
+    pub fn operations(&self) -> &VecDeque<MapOp>
         ensures { result.now.items ≡ self.now.pending }
     {
         &self.pending

@@ -2,7 +2,7 @@
 
 ghost use Rattle.std.specs.Prelude.{◌≡◌, OnOk, OnErr, chars};
 ghost use Rattle.ft_props.specs.Keys.{value_of};
-ghost use Rattle.ft_map.specs.Marks.{forgotten, no_marks, noted, unless_at, without};
+ghost use Rattle.ft_shared_map.specs.Marks.{forgotten, no_marks, noted, unless_at, without};
 
 use crate::ops::MapOp;
 use ft_base::{Datum, OutOfMemory, Text};
@@ -19,7 +19,7 @@ pub(crate) struct KeyMarks {
 }
 
 impl Model for KeyMarks {
-    ghost use Rattle.ft_map.specs.Marks.{KeptMarks};
+    ghost use Rattle.ft_shared_map.specs.Marks.{KeptMarks};
 
     ghost Value = { KeptMarks };
 

@@ -3,9 +3,9 @@ use Rattle.std.specs.Prelude.{◌≡◌, ℕ, suc, cond, nat_eq, List, [], ◌�
 use Rattle.std.specs.declared.cmp.Ordering.{Ordering}
 use Rattle.std.specs.declared.cmp.Ordering.TheVariants.{Less, Equal, Greater}
 use Rattle.ft_props.specs.Keys.{KeysRise, key_cmp, put_rising, remove_rising, text_cmp, value_of}
-use Rattle.ft_map.specs.declared.ops.MapOp.{MapOp}
-use Rattle.ft_map.specs.declared.ops.MapOp.TheVariants.{Set, Delete, Clear}
-use Rattle.ft_map.specs.Maps.{Characters, ValueBytes}
+use Rattle.ft_shared_map.specs.declared.ops.MapOp.{MapOp}
+use Rattle.ft_shared_map.specs.declared.ops.MapOp.TheVariants.{Set, Delete, Clear}
+use Rattle.ft_shared_map.specs.Maps.{Characters, ValueBytes}
 
 -- the first where things that are so ordered are the same, else the second
 abbrev pub when_same : {A : Type 0} → Ordering → A → A → A

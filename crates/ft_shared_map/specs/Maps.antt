@@ -1,8 +1,8 @@
 -- Finite maps as pairs of a key and the text of a value, by rising keys: what operations make of them, and what a client's map is.
 use Rattle.std.specs.Prelude.{List, [], ◌∷◌, Option, Some, None, map}
-use Rattle.ft_map.specs.declared.ops.MapOp.{MapOp}
-use Rattle.ft_map.specs.declared.ops.MapOp.TheVariants.{Set, Delete, Clear}
-use Rattle.ft_map.specs.declared.ops.MapPair.{MapPair}
+use Rattle.ft_shared_map.specs.declared.ops.MapOp.{MapOp}
+use Rattle.ft_shared_map.specs.declared.ops.MapOp.TheVariants.{Set, Delete, Clear}
+use Rattle.ft_shared_map.specs.declared.ops.MapPair.{MapPair}
 pub use Rattle.ft_props.specs.Properties.{Characters, ValueBytes, key_cmp, put_rising, remove_rising, value_of}
 
 -- a finite map: its keys with their values, by rising keys, so that no key stands twice

@@ -1,7 +1,7 @@
 //! Operations on a map, and its entries.
 
 ghost use Rattle.std.specs.Prelude.{◌≡◌, Some, IfOk, OnOk, OnErr, option_copied};
-ghost use Rattle.ft_map.specs.Maps.{key_cmp, put, put_rising, written};
+ghost use Rattle.ft_shared_map.specs.Maps.{key_cmp, put, put_rising, written};
 
 use ft_base::{Datum, OutOfMemory, Text};
 use ft_json::ValText;

@@ -6,11 +6,11 @@ use Rattle.std.specs.declared.cmp.Ordering.TheVariants.{Less, Equal, Greater}
 use Rattle.std.proofs.lemmas.Bool.Decides.{nat_tests}
 use Rattle.ft_props.specs.Keys.{Characters, KeysRise, key_cmp, remove_rising, text_cmp, value_of}
 use Rattle.ft_props.proofs.RisingKeys.{KeysRise-put, KeysRise-remove, same_from_text_cmp}
-use Rattle.ft_map.specs.declared.ops.MapOp.{MapOp}
-use Rattle.ft_map.specs.declared.ops.MapOp.TheVariants.{Set, Delete, Clear}
-use Rattle.ft_map.specs.Maps.{FiniteMap, ValueBytes, put, put_all, written}
-use Rattle.ft_map.specs.Marks.{AreMarksOf, KeptMarks, KeyMark, at_key, clear_after, clear_of, forgotten, mark_after, mark_of, noted, number_of, unless_at, when_same, without}
-use Rattle.ft_map.proofs.MapLaws.{at_key-same, by_order, rising-put, value_of-put, value_of-remove}
+use Rattle.ft_shared_map.specs.declared.ops.MapOp.{MapOp}
+use Rattle.ft_shared_map.specs.declared.ops.MapOp.TheVariants.{Set, Delete, Clear}
+use Rattle.ft_shared_map.specs.Maps.{FiniteMap, ValueBytes, put, put_all, written}
+use Rattle.ft_shared_map.specs.Marks.{AreMarksOf, KeptMarks, KeyMark, at_key, clear_after, clear_of, forgotten, mark_after, mark_of, noted, number_of, unless_at, when_same, without}
+use Rattle.ft_shared_map.proofs.MapLaws.{at_key-same, by_order, rising-put, value_of-put, value_of-remove}
 
 -- ---- an operation more
 

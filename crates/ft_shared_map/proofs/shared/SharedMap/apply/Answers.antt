@@ -1,5 +1,5 @@
-use Rattle.ft_map.proofs.MapLaws.{rising-written}
-use Rattle.ft_map.proofs.shared.SharedMap.apply.Goals as goal
+use Rattle.ft_shared_map.proofs.MapLaws.{rising-written}
+use Rattle.ft_shared_map.proofs.shared.SharedMap.apply.Goals as goal
 
 pub invariant_of-self : goal.invariant_of-self
 invariant_of-self c =

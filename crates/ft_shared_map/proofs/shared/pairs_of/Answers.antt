@@ -1,8 +1,8 @@
 use Rattle.std.proofs.Common.{◌≡◌, ◌++◌, [], drop, sym, ◌∙◌, ap, append-nil}
 use Rattle.std.proofs.Math.ListN.{drop_of_length-le}
-use Rattle.ft_map.specs.Maps.{FiniteMap, pairs_of}
-use Rattle.ft_map.proofs.MapLaws.{rising-pairs}
-use Rattle.ft_map.proofs.shared.pairs_of.Goals as goal
+use Rattle.ft_shared_map.specs.Maps.{FiniteMap, pairs_of}
+use Rattle.ft_shared_map.proofs.MapLaws.{rising-pairs}
+use Rattle.ft_shared_map.proofs.shared.pairs_of.Goals as goal
 
 pub returns-clause-shown : goal.returns-clause-shown
 returns-clause-shown c =

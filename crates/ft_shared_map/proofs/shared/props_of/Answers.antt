@@ -1,6 +1,6 @@
 use Rattle.std.proofs.Common.{◌+◌, drop, refl}
-use Rattle.ft_map.proofs.MapLaws.{loaded-on, rest-at}
-use Rattle.ft_map.proofs.shared.props_of.Goals as goal
+use Rattle.ft_shared_map.proofs.MapLaws.{loaded-on, rest-at}
+use Rattle.ft_shared_map.proofs.shared.props_of.Goals as goal
 
 pub loop-pair-preserved : goal.loop-pair-preserved
 loop-pair-preserved c =

@@ -1,10 +1,10 @@
 use Rattle.std.proofs.Common.{◌<◌, length, sym, subst}
-use Rattle.ft_map.specs.Maps.{MapState}
-use Rattle.ft_map.proofs.MapLaws.{rising-put}
-use Rattle.ft_map.proofs.MarkLaws.{fewer-popped, marks-popped}
-use Rattle.ft_map.specs.Marks.{AreMarksOf}
+use Rattle.ft_shared_map.specs.Maps.{MapState}
+use Rattle.ft_shared_map.proofs.MapLaws.{rising-put}
+use Rattle.ft_shared_map.proofs.MarkLaws.{fewer-popped, marks-popped}
+use Rattle.ft_shared_map.specs.Marks.{AreMarksOf}
 use Rattle.ft_props.specs.Keys.{KeysRise}
-use Rattle.ft_map.proofs.shared.SharedMap.ack.Goals as goal
+use Rattle.ft_shared_map.proofs.shared.SharedMap.ack.Goals as goal
 
 pub invariant_of-self-2 : goal.invariant_of-self-2
 invariant_of-self-2 c =

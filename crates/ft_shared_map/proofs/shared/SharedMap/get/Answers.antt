@@ -1,7 +1,7 @@
 use Rattle.std.proofs.Common.{◌≡◌, ◌-◌, ◌<◌, chars, deque_len, length, sym, ◌∙◌, ap, arith, rules}
-use Rattle.ft_map.specs.Maps.{MapState, shown_map, value_of, written}
-use Rattle.ft_map.proofs.MarkLaws.{shown-acked, shown-cleared, shown-marked, slice_get-index}
-use Rattle.ft_map.proofs.shared.SharedMap.get.Goals as goal
+use Rattle.ft_shared_map.specs.Maps.{MapState, shown_map, value_of, written}
+use Rattle.ft_shared_map.proofs.MarkLaws.{shown-acked, shown-cleared, shown-marked, slice_get-index}
+use Rattle.ft_shared_map.proofs.shared.SharedMap.get.Goals as goal
 
 pub overflow_sub-number : goal.overflow_sub-number
 overflow_sub-number c =

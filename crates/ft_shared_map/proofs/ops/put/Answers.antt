@@ -1,6 +1,6 @@
 use Rattle.std.proofs.Common.{[], ap, sym, ◌∙◌}
-use Rattle.ft_map.specs.Maps.{key_cmp, put, remove_rising}
-use Rattle.ft_map.proofs.ops.put.Goals as goal
+use Rattle.ft_shared_map.specs.Maps.{key_cmp, put, remove_rising}
+use Rattle.ft_shared_map.proofs.ops.put.Goals as goal
 
 pub returns-in-Delete-clause-ok : goal.returns-in-Delete-clause-ok
 returns-in-Delete-clause-ok c =

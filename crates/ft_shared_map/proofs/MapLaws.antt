@@ -6,11 +6,11 @@ use Rattle.std.specs.declared.cmp.Ordering.{Ordering}
 use Rattle.std.specs.declared.cmp.Ordering.TheVariants.{Less, Equal, Greater}
 use Rattle.ft_props.specs.Keys.{Characters, IsBeforeKeys, KeysRise, key_cmp, put_rising, remove_rising, text_cmp, value_of}
 use Rattle.ft_props.proofs.RisingKeys.{IsBeforeKeys-trans, KeysRise-put, KeysRise-remove, same_from_text_cmp, text_cmp-back, text_cmp-same, text_cmp-turned}
-use Rattle.ft_map.specs.declared.ops.MapOp.{MapOp}
-use Rattle.ft_map.specs.declared.ops.MapOp.TheVariants.{Set, Delete, Clear}
-use Rattle.ft_map.specs.declared.ops.MapPair.{MapPair}
-use Rattle.ft_map.specs.Maps.{FiniteMap, map_of, pairs_of, put, put_all}
-use Rattle.ft_map.specs.Marks.{at_key}
+use Rattle.ft_shared_map.specs.declared.ops.MapOp.{MapOp}
+use Rattle.ft_shared_map.specs.declared.ops.MapOp.TheVariants.{Set, Delete, Clear}
+use Rattle.ft_shared_map.specs.declared.ops.MapPair.{MapPair}
+use Rattle.ft_shared_map.specs.Maps.{FiniteMap, map_of, pairs_of, put, put_all}
+use Rattle.ft_shared_map.specs.Marks.{at_key}
 
 pub by_order : {G : Type 0} (o : Ordering) → (o ≡ Less → G) → (o ≡ Equal → G) → (o ≡ Greater → G) → G
 by_order Less f g h = f refl
