@@ -6,7 +6,7 @@ use Rattle.ft_replay.specs.declared.session_replay.SessionReplay.{SessionReplay}
 use Rattle.ft_replay.specs.SessionReplays.{HasHeard, end_bytes, heard_ending, heard_refused, line_bytes, lines_bytes, report_bytes}
 use Rattle.ft_replay.specs.Writing.{Begins}
 use Rattle.ft_door.specs.declared.sessions.HeldSession.{HeldSession}
-use Rattle.ft_door.specs.Reports.{ending_number}
+use Rattle.ft_report.specs.Reports.{ending_number}
 
 -- what of the report wasn't read yet
 abbrev pub unread_of : {R : Type 0} {g : Ghosts R} → HeldSession R g → List ℕ

@@ -8,11 +8,11 @@ ghost use Rattle.ft_door.specs.Editors.{EditorState, IsEditor, NaiveEditor, Tell
 
 use crate::calls::{Call, Told};
 use crate::editors::Editor;
-use crate::reports::{DONE, OUT_OF_MEMORY, SOME_REFUSED, TOO_LONG};
 use crate::sessions::CLOSED;
 use crate::waiting::Waiting;
 use ft_base::OutOfMemory;
 use ft_msg::Replica;
+use ft_report::{DONE, OUT_OF_MEMORY, SOME_REFUSED, TOO_LONG};
 use ft_seqr::Refusal;
 use std::alloc::Global;
 

@@ -4,11 +4,11 @@ ghost use Rattle.std.specs.Prelude.{◌≡◌, ◌+◌, ◌≤◌, [], IfOk, Non
 ghost use Rattle.ft_io.specs.Reader.{input_limit};
 ghost use Rattle.ft_door.specs.Runs.{ClosesSession, HearsLine, ReadsReport, Stands, unread_of};
 
-use crate::reports::{DONE, OUT_OF_MEMORY, SOME_REFUSED, TOO_LONG};
 use crate::waiting::Waiting;
 use ft_base::OutOfMemory;
 use ft_msg::Replica;
 use ft_replay::{Ending, SessionReplay, session_pieces};
+use ft_report::{DONE, OUT_OF_MEMORY, SOME_REFUSED, TOO_LONG};
 use std::alloc::Global;
 
 /// The session isn't open.

@@ -6,7 +6,7 @@
 ghost use Rattle.std.specs.Prelude.{[], IfOk};
 ghost use Rattle.ft_door.specs.Clients.{CallsClient, IsNew, SendsDraft, ShowsClient};
 ghost use Rattle.ft_door.specs.Editors.{call_exceeds, call_step};
-ghost use Rattle.ft_door.specs.Reports.{Tells};
+ghost use Rattle.ft_report.specs.Reports.{Tells};
 ghost use Rattle.ft_door.specs.Runs.{Stands};
 ghost use Rattle.vemiktag_c.specs.Handles.{Calls, Closes, Frees, Hears, Opens, OpensClient, ReadsOn, ReadsOnClient, WaitsOn, held_run};
 
@@ -17,9 +17,9 @@ mod runs;
 
 use ft_base::OutOfMemory;
 use ft_client::Client;
-use ft_door::reports::{DONE, OUT_OF_MEMORY};
 use ft_door::sessions::CLOSED;
-use ft_door::{Call, HeldClient, HeldSession, report_into};
+use ft_door::{Call, HeldClient, HeldSession};
+use ft_report::{DONE, OUT_OF_MEMORY, report_into};
 use handles::Handle;
 use runs::ClientRun;
 use std::alloc::Global;

@@ -4,9 +4,9 @@ use Rattle.ft_io.specs.Reader.{input_limit}
 use Rattle.ft_replay.specs.declared.endings.Ending.{Ending}
 use Rattle.ft_replay.specs.declared.endings.Ending.TheVariants.{Done, SomeRefused}
 use Rattle.ft_replay.specs.Forms.{session_account}
-use Rattle.ft_door.specs.declared.reports.Report.{Report}
-use Rattle.ft_door.specs.declared.reports.ReportFault.{ReportFault}
-use Rattle.ft_door.specs.declared.reports.ReportFault.TheVariants.{OutOfMemory, TooLong}
+use Rattle.ft_report.specs.declared.reports.Report.{Report}
+use Rattle.ft_report.specs.declared.reports.ReportFault.{ReportFault}
+use Rattle.ft_report.specs.declared.reports.ReportFault.TheVariants.{OutOfMemory, TooLong}
 
 -- the report of a session over the input
 abbrev pub session_bytes : List ℕ → List ℕ

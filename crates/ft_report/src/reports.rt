@@ -1,7 +1,7 @@
 //! A whole report at once, over memory.
 
 ghost use Rattle.std.specs.Prelude.{ℕ, List, IfOk, IfErr};
-ghost use Rattle.ft_door.specs.Reports.{IsCause, IsReport, Tells};
+ghost use Rattle.ft_report.specs.Reports.{IsCause, IsReport, Tells};
 
 use crate::streams::{Input, Output};
 use ft_msg::Replica;
@@ -44,7 +44,7 @@ pub enum ReportFault {
 
 impl fmt::Display for ReportFault {
     ghost use Rattle.std.specs.Prelude.{Some};
-    ghost use Rattle.ft_door.specs.Reports.{report_fault_text};
+    ghost use Rattle.ft_report.specs.Reports.{report_fault_text};
 
     ghost output = { λ fault. Some (report_fault_text fault) };
 
