@@ -1,6 +1,7 @@
 pub mod BackwardRuns
 pub mod CharacterContents
 pub mod HeldElements
+mod MadeItems
 pub mod NamedLists
 pub mod NotedAnswers
 pub mod PlacedCell

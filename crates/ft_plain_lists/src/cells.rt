@@ -8,6 +8,7 @@ mod copies;
 pub(crate) mod placed;
 mod trimming;
 
+use crate::moved::{push, replace};
 use crate::names::ElementName;
 use ft_base::{Datum, OutOfMemory};
 use ft_json::ValText;
@@ -100,10 +101,10 @@ impl PlainCells {
     {
         match self.cell_place(cell.row, cell.col) {
             Some(i) => {
-                self.items[i] = cell;
+                replace(&mut self.items, i, cell);
                 Ok(())
             }
-            None => Ok(self.items.push(cell)?),
+            None => push(&mut self.items, cell),
         }
     }
 

@@ -14,7 +14,7 @@ use crate::name_tables::{NameTable, note_ranks};
 use crate::names::ElementName;
 use crate::scans::{rank, seen_count};
 use crate::tables_of_ends::table_of_ends;
-use ft_base::{Datum, OutOfMemory};
+use ft_base::OutOfMemory;
 use ft_sumdoc::{Ends2, IntervalRec, IntervalRecs};
 use std::alloc::Global;
 
@@ -67,15 +67,30 @@ fn shown_interval(
     requires ranks { HasAnswers (λ x. rank (has_id x) (seen stage) items.now) ranks.now }
     ensures { IfOk result (λ shown. shown ≡ interval_record stage items.now i.now) }
 {
+    let ((label, id), props) = i.copied_parts()?;
     Ok(IntervalRec {
-        label: i.label().copy()?,
-        id: i.id().copy()?,
-        ends: Ends2 {
-            start: ranked_number(ranks, items, i.start(), stage),
-            end: ranked_number(ranks, items, i.end(), stage),
-        },
-        props: i.props().copy()?,
+        label,
+        id,
+        ends: ranked_ends(ranks, items, i, stage),
+        props,
     })
+}
+
+// The ends of an interval as they are shown, by the same table.
+fn ranked_ends(
+    ranks: &NameTable<u64>,
+    items: &[PlainElement],
+    i: &PlainInterval,
+    stage: u64,
+) -> Ends2
+    requires countable { length items.now < 2 ^ 53 }
+    requires ranks { HasAnswers (λ x. rank (has_id x) (seen stage) items.now) ranks.now }
+    ensures { result ≡ record { start = end_number stage items.now i.now.start; end = end_number stage items.now i.now.end } }
+{
+    Ends2 {
+        start: ranked_number(ranks, items, i.start(), stage),
+        end: ranked_number(ranks, items, i.end(), stage),
+    }
 }
 
 // The same as `end_number`, by a table of the ranks of elements.

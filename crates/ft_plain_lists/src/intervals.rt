@@ -15,6 +15,7 @@ mod pending;
 
 use crate::element_tests::Unremoved;
 use crate::elements::PlainElement;
+use crate::moved::{insert_at, replace};
 use crate::name_tables::{NameTable, note_settled};
 use crate::names::{ElementName, ElementNames};
 use crate::slides::slide_by;
@@ -196,10 +197,10 @@ impl PlainIntervals {
     {
         match interval_place(self.items.as_slice(), &interval) {
             Ok(i) => {
-                self.items[i] = interval;
+                replace(&mut self.items, i, interval);
                 Ok(())
             }
-            Err(i) => Ok(self.items.insert(i, interval)?),
+            Err(i) => insert_at(&mut self.items, i, interval),
         }
     }
 

@@ -5,6 +5,7 @@
 #![tactic(auto)]
 
 mod cells;
+mod copies;
 mod element_tests;
 mod elements;
 mod ends;
@@ -12,6 +13,7 @@ mod interval_views;
 mod intervals;
 mod lists;
 mod marks;
+mod moved;
 mod name_tables;
 mod named_lists;
 mod names;

@@ -61,15 +61,15 @@ impl ElementMark for PendingRemoval {
 
 /// Pending changes of properties, with their stage.
 #[derive(Drop)]
-pub struct PendingChanges {
+pub struct PendingChanges<'a> {
     pub stage: u64,
-    pub changes: Changes,
+    pub changes: &'a Changes,
 }
 
-impl ElementMark for PendingChanges {
-    ghost marked = { λ c e. with_pending_annotation c.stage c.changes e };
+impl<'a> ElementMark for PendingChanges<'a> {
+    ghost marked = { λ c e. with_pending_annotation c.stage c.changes.now e };
 
     fn put_on(&self, e: &mut PlainElement) -> Result<(), OutOfMemory> {
-        e.annotate_at_stage(self.stage, &self.changes)
+        e.annotate_at_stage(self.stage, self.changes)
     }
 }

@@ -6,6 +6,7 @@ ghost use Rattle.ft_plain_lists.specs.PlacedRuns.{with_place};
 
 use crate::element_tests::ElementTest;
 use crate::elements::PlainElement;
+use crate::moved::{push, push_both};
 use ft_base::OutOfMemory;
 use std::alloc::Global;
 
@@ -37,16 +38,12 @@ fn push_place(runs: &mut Vec<(u64, u64)>, place: u64) -> Result<(), OutOfMemory>
     ensures { OnOk result (runs.new.items ≡ with_place runs.old.items place) }
 {
     let Some((start, end)) = runs.pop() else {
-        runs.push((place, place + 1))?;
-        return Ok(());
+        return push(runs, (place, place + 1));
     };
     if end == place {
-        runs.push((start, place + 1))?;
-        return Ok(());
+        return push(runs, (start, place + 1));
     }
-    runs.push((start, end))?;
-    runs.push((place, place + 1))?;
-    Ok(())
+    push_both(runs, (start, end), (place, place + 1))
 }
 
 /// The runs, each lowered by the lengths of those before it, as after their removal.

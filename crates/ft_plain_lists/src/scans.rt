@@ -1,7 +1,7 @@
 //! Scans of a list of elements: how many are seen, where an insertion goes, and which elements a mark
 //! is for.
 
-ghost use Rattle.std.specs.Prelude.{◌≡◌, ◌≤◌, ◌+◌, ◌<◌, ◌^◌, ◌++◌, [], IfOk, OnOk, OnErr, length, map, option_map, replicate, take, drop};
+ghost use Rattle.std.specs.Prelude.{◌≡◌, ◌≤◌, ◌+◌, ◌<◌, ◌^◌, ◌++◌, [], ◌∷◌, None, IfOk, OnOk, OnErr, length, map, option_map, replicate, take, drop};
 ghost use Rattle.std.specs.List.{prefix_len};
 ghost use Rattle.ft_base.specs.Scan.{at as seen_at, change_range, len, place, rank};
 ghost use Rattle.ft_props.specs.Element.{GridUnit, id, is_pending, new_elements};
@@ -10,6 +10,7 @@ ghost use Rattle.ft_plain_lists.specs.Contents.{content_of};
 use crate::element_tests::ElementTest;
 use crate::elements::{Content, PlainElement};
 use crate::marks::ElementMark;
+use crate::moved::push;
 use crate::names::ElementName;
 use ft_base::{Datum, OutOfMemory, Stamp};
 use ft_props::Props;
@@ -87,21 +88,32 @@ pub fn new_elements(
     let mut elements = Vec::new(alloc);
     let mut nth = first;
     for content in contents {
-        let e = PlainElement::new(alloc, nth, *content, ins, by, props.copy()?);
-        elements.push(e)?;
+        push_new(&mut elements, nth, *content, ins, by, props)?;
         nth += 1;
     }
     Ok(elements)
 }
 
+// Adds a new element with this content and these properties behind the others.
+fn push_new(
+    elements: &mut Vec<PlainElement>,
+    nth: u64,
+    content: Content,
+    ins: Stamp,
+    by: Option<Stamp>,
+    props: &Props,
+) -> Result<(), OutOfMemory>
+    ensures { OnOk result (elements.new.items ≡ elements.old.items ++ record { nth = nth; content = content_of content; ins = ins; dels = []; removal_stage = None; by = by; props = props.now; pending = [] } ∷ []) }
+{
+    let props = props.copy()?;
+    let e = PlainElement::new(*elements.allocator(), nth, content, ins, by, props);
+    push(elements, e)
+}
+
 /// Puts the new elements in at place `i`.
 ///
 /// Returns `OutOfMemory` where there is no room for them, and then the list is as it was.
-pub fn put_at(
-    items: &mut Vec<PlainElement>,
-    i: usize,
-    mut new: Vec<PlainElement>,
-) -> Result<(), OutOfMemory>
+pub fn put_at<T: Drop>(items: &mut Vec<T>, i: usize, mut new: Vec<T>) -> Result<(), OutOfMemory>
     requires { i ≤ length items.old.items }
     ensures ok { OnOk result (items.new.items ≡ take i items.old.items ++ (new.items ++ drop i items.old.items)) }
     ensures count { OnOk result (length items.new.items ≡ length items.old.items + length new.items) }

@@ -1,11 +1,12 @@
 //! What is shown of lists of elements.
 
-ghost use Rattle.std.specs.Prelude.{◌≡◌, ◌+◌, ◌<◌, ◌^◌, ◌++◌, [], ◌∷◌, IfOk, OnOk, chars, reverse, string_bytes};
+ghost use Rattle.std.specs.Prelude.{◌≡◌, ◌+◌, ◌<◌, ◌^◌, ◌++◌, [], IfOk, OnOk, chars, reverse, string_bytes};
 ghost use Rattle.ft_msg.specs.Content.{content_characters, content_markers, extended_property_runs, markers_from, property_runs_from, stage_view, text_characters};
 ghost use Rattle.ft_plain_lists.specs.Contents.{content_of};
 ghost use Rattle.ft_plain_lists.specs.PropertyRuns.{all_shown_props, runs_before};
 
 use crate::elements::{Content, PlainElement};
+use crate::moved::{push, push_both, turned};
 use ft_base::{Datum, OutOfMemory, Text};
 use ft_msg::{Run, Runs, Spot, Spots};
 use ft_props::Props;
@@ -70,7 +71,7 @@ pub fn shown_runs(alloc: Global, items: &[PlainElement], stage: u64) -> Result<R
 {
     let props = shown_props(alloc, items, stage)?;
     let backwards = backward_runs(alloc, props)?;
-    turned(alloc, backwards)
+    Ok(turned(backwards))
 }
 
 // The properties of each element that a client sees at its pending stage.
@@ -80,7 +81,7 @@ fn shown_props(alloc: Global, items: &[PlainElement], stage: u64) -> Result<Vec<
     let mut props = Vec::new(alloc);
     for e in items {
         if e.is_seen_at(stage) {
-            props.push(e.shown_props()?)?;
+            push(&mut props, e.shown_props()?)?;
         }
     }
     Ok(props)
@@ -106,40 +107,33 @@ fn extend_runs(runs: &mut Vec<Run>, place: u64, props: Props) -> Result<(), OutO
         return Ok(());
     }
     let Some(first) = runs.pop() else {
-        return push_run(runs, place, props);
+        return push(runs, one_run(place, props));
     };
     if first.start == place + 1 && first.props.same(&props) {
-        runs.push(Run {
-            start: place,
-            end: first.end,
-            props: first.props,
-        })?;
-        return Ok(());
+        return push(runs, begun_at(first, place));
     }
-    runs.push(first)?;
-    push_run(runs, place, props)
+    push_both(runs, first, one_run(place, props))
 }
 
-// Adds a run of the one element at this place.
-fn push_run(runs: &mut Vec<Run>, place: u64, props: Props) -> Result<(), OutOfMemory>
+// The run of the one element at this place.
+fn one_run(place: u64, props: Props) -> Run
     requires { place + 1 < 2 ^ 64 }
-    ensures { OnOk result (runs.new.items ≡ runs.old.items ++ record { start = place; end = place + 1; props = props } ∷ []) }
+    ensures { result ≡ record { start = place; end = place + 1; props = props } }
 {
-    runs.push(Run {
+    Run {
         start: place,
         end: place + 1,
         props,
-    })?;
-    Ok(())
+    }
 }
 
-// The runs the other way round.
-fn turned(alloc: Global, mut backwards: Vec<Run>) -> Result<Runs, OutOfMemory>
-    ensures { IfOk result (λ runs. runs ≡ reverse backwards.items) }
+// The run, begun at this place.
+fn begun_at(run: Run, place: u64) -> Run
+    ensures { result ≡ record run { start = place } }
 {
-    let mut runs = Runs::new(alloc);
-    while let Some(run) = backwards.pop() {
-        runs.push(run)?;
+    Run {
+        start: place,
+        end: run.end,
+        props: run.props,
     }
-    Ok(runs)
 }

@@ -3,6 +3,7 @@
 ghost use Rattle.std.specs.Prelude.{◌≡◌, ◌++◌, [], ◌∷◌, OnOk, OnErr};
 
 use crate::cells::{PlainCell, PlainCells};
+use crate::moved::push;
 use crate::names::ElementName;
 use ft_base::OutOfMemory;
 use ft_json::ValText;
@@ -20,7 +21,6 @@ impl PlainCells {
         ensures ok { OnOk result (self.new ≡ self.old ++ record { row = row; col = col; value = value } ∷ []) }
         ensures err { OnErr result (self.new ≡ self.old) }
     {
-        self.items.push(PlainCell { row, col, value })?;
-        Ok(())
+        push(&mut self.items, PlainCell { row, col, value })
     }
 }

@@ -3,13 +3,11 @@
 ghost use Rattle.std.specs.Prelude.{◌≡◌, IfOk};
 
 use crate::cells::{PlainCell, PlainCells};
+use crate::copies::{Copied, copied_items};
 use ft_base::{Datum, OutOfMemory};
 
-impl PlainCell {
-    /// An equal cell.
-    pub(crate) fn copy(&self) -> Result<PlainCell, OutOfMemory>
-        ensures { IfOk result (λ copy. copy ≡ self.now) }
-    {
+impl Copied for PlainCell {
+    fn copied(&self) -> Result<PlainCell, OutOfMemory> {
         Ok(PlainCell {
             row: self.row,
             col: self.col,
@@ -23,10 +21,7 @@ impl PlainCells {
     pub fn copy(&self) -> Result<PlainCells, OutOfMemory>
         ensures { IfOk result (λ copy. copy ≡ self.now) }
     {
-        let mut items = Vec::new(*self.items.allocator());
-        for cell in &self.items {
-            items.push(cell.copy()?)?;
-        }
+        let items = copied_items(*self.items.allocator(), self.items.as_slice())?;
         Ok(PlainCells { items })
     }
 }

@@ -6,7 +6,9 @@ ghost use Rattle.ft_op.specs.Cells.{is_null};
 ghost use Rattle.ft_plain_lists.specs.NameTables.{HasAnswers};
 
 use crate::cells::{PlainCell, PlainCells, is_null};
+use crate::copies::Copied;
 use crate::elements::PlainElement;
+use crate::moved::push;
 use crate::name_tables::{NameTable, note_removals};
 use crate::names::ElementName;
 use ft_base::OutOfMemory;
@@ -27,7 +29,7 @@ impl PlainCells {
         let mut items = Vec::new(alloc);
         for cell in &self.items {
             if cell.is_kept(rows, &gone_rows, cols, &gone_cols) {
-                items.push(cell.copy()?)?;
+                push(&mut items, cell.copied()?)?;
             }
         }
         Ok(PlainCells { items })

@@ -1,6 +1,6 @@
 //! What is pending on an element, and what an acknowledgement or a reconnection makes of it.
 
-ghost use Rattle.std.specs.Prelude.{◌≡◌, ◌+◌, ◌++◌, IfOk, OnOk, OnErr, cond, filter, nat_eq, not};
+ghost use Rattle.std.specs.Prelude.{◌≡◌, ◌+◌, ◌++◌, [], ◌∷◌, IfOk, OnOk, OnErr, cond, filter, nat_eq, not};
 ghost use Rattle.std.specs.List.{list_any};
 ghost use Rattle.ft_base.specs.Visibility.{is_acked, is_of_stage};
 ghost use Rattle.ft_props.specs.Element.{with_pending_annotation, with_pending_removal, without_pending};
@@ -8,9 +8,12 @@ ghost use Rattle.ft_props.specs.Steps.{acked_element, acked_props, acked_removal
 ghost use Rattle.ft_props.specs.Steps.{carried_element, is_annotated_by, is_inserted_by, is_removed_by, remaining_removal};
 ghost use Rattle.ft_plain_lists.specs.Contents.{content_of};
 
+use crate::copies::Copied;
 use crate::elements::{Content, PlainElement, has_any_sequenced};
+use crate::moved::{both, push};
 use ft_base::{Datum, OutOfMemory, Stamp};
 use ft_props::{Changes, Props};
+use std::alloc::Global;
 
 impl PlainElement {
     /// Marks it as removed by the pending stage.
@@ -27,9 +30,7 @@ impl PlainElement {
         ensures ok { OnOk result (self.new ≡ with_pending_annotation stage changes.now self.old) }
         ensures err { OnErr result (self.new ≡ self.old) }
     {
-        let changes = changes.copy()?;
-        self.pending.push((stage, changes))?;
-        Ok(())
+        push_changes(&mut self.pending, stage, changes)
     }
 
     /// Whether the pending stage inserted it.
@@ -180,21 +181,55 @@ impl PlainElement {
     pub fn copy(&self) -> Result<PlainElement, OutOfMemory>
         ensures { IfOk result (λ copy. copy ≡ self.now) }
     {
-        let mut pending = Vec::new(*self.pending.allocator());
-        for (stage, changes) in &self.pending {
-            pending.push((*stage, changes.copy()?))?;
-        }
+        let changes = copied_changes(*self.pending.allocator(), self.pending.as_slice());
+        let kept = both(self.dels.copy(), self.props.copy());
+        let ((dels, props), pending) = both(kept, changes)?;
         Ok(PlainElement {
             nth: self.nth,
             content: self.content,
             ins: self.ins,
-            dels: self.dels.copy()?,
+            dels,
             removal_stage: self.removal_stage,
             by: self.by,
-            props: self.props.copy()?,
+            props,
             pending,
         })
     }
+}
+
+impl Copied for PlainElement {
+    fn copied(&self) -> Result<PlainElement, OutOfMemory> {
+        self.copy()
+    }
+}
+
+// Equal pending changes.
+fn copied_changes(
+    alloc: Global,
+    pending: &[(u64, Changes)],
+) -> Result<Vec<(u64, Changes)>, OutOfMemory>
+    ensures { IfOk result (λ copies. copies.items ≡ pending.now) }
+{
+    let mut copies = Vec::new(alloc);
+    for (stage, changes) in pending {
+        push_changes(&mut copies, *stage, changes)?;
+    }
+    Ok(copies)
+}
+
+// Adds changes of the pending stage behind the others.
+//
+// Returns `OutOfMemory` where there is no room for them, and then nothing changed.
+fn push_changes(
+    pending: &mut Vec<(u64, Changes)>,
+    stage: u64,
+    changes: &Changes,
+) -> Result<(), OutOfMemory>
+    ensures ok { OnOk result (pending.new.items ≡ pending.old.items ++ (stage, changes.now) ∷ []) }
+    ensures err { OnErr result (pending.new.items ≡ pending.old.items) }
+{
+    let changes = changes.copy()?;
+    push(pending, (stage, changes))
 }
 
 // Whose message made an element: known for the text, not kept for rows and columns.

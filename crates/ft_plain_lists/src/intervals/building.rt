@@ -3,6 +3,7 @@
 ghost use Rattle.std.specs.Prelude.{◌≡◌, ◌++◌, [], ◌∷◌, OnOk, OnErr};
 
 use crate::intervals::{PlainInterval, PlainIntervals};
+use crate::moved::push;
 use ft_base::OutOfMemory;
 
 impl PlainIntervals {
@@ -13,7 +14,6 @@ impl PlainIntervals {
         ensures ok { OnOk result (self.new ≡ self.old ++ interval ∷ []) }
         ensures err { OnErr result (self.new ≡ self.old) }
     {
-        self.items.push(interval)?;
-        Ok(())
+        push(&mut self.items, interval)
     }
 }

@@ -8,9 +8,11 @@ ghost use Rattle.ft_props.specs.Properties.{apply};
 ghost use Rattle.ft_op.specs.Intervals.{after_interval_operation, has_interval, interval_cmp, settle_ends, settle_interval};
 ghost use Rattle.ft_plain_lists.specs.NameTables.{HasAnswers};
 
+use crate::copies::{Copied, copied_items};
 use crate::element_tests::AtStage;
 use crate::elements::PlainElement;
 use crate::intervals::{PlainInterval, PlainIntervals};
+use crate::moved::both;
 use crate::name_tables::{NameTable, note_settled};
 use crate::names::{ElementName, ElementNames};
 use crate::slides::settle_by;
@@ -18,19 +20,37 @@ use crate::tables_of_ends::table_of_ends;
 use ft_base::{Datum, OutOfMemory, Text};
 use ft_op::TextOp;
 use ft_props::{PropSet, Props};
+use std::alloc::Global;
+
+impl Copied for PlainInterval {
+    fn copied(&self) -> Result<PlainInterval, OutOfMemory> {
+        self.copy()
+    }
+}
 
 impl PlainInterval {
     /// An equal interval.
     pub fn copy(&self) -> Result<PlainInterval, OutOfMemory>
         ensures { IfOk result (λ copy. copy ≡ self.now) }
     {
+        let ((label, id), props) = self.copied_parts()?;
         Ok(PlainInterval {
-            label: self.label.copy()?,
-            id: self.id.copy()?,
+            label,
+            id,
             start: self.start,
             end: self.end,
-            props: self.props.copy()?,
+            props,
         })
+    }
+
+    /// Copies of its label, its id and its properties.
+    pub(crate) fn copied_parts(&self) -> Result<((Text, Text), Props), OutOfMemory>
+        ensures label { IfOk result (λ parts. parts.0.0 ≡ self.now.label) }
+        ensures id { IfOk result (λ parts. parts.0.1 ≡ self.now.id) }
+        ensures props { IfOk result (λ parts. parts.1 ≡ self.now.props) }
+    {
+        let texts = both(self.label.copy(), self.id.copy());
+        both(texts, self.props.copy())
     }
 
     // Settles both ends at the pending stage, by a table of where the ends go.
@@ -48,10 +68,7 @@ impl PlainIntervals {
     pub fn copy(&self) -> Result<PlainIntervals, OutOfMemory>
         ensures { IfOk result (λ copy. copy ≡ self.now) }
     {
-        let mut items = Vec::new(*self.items.allocator());
-        for i in &self.items {
-            items.push(i.copy()?)?;
-        }
+        let items = copied_items(*self.items.allocator(), self.items.as_slice())?;
         Ok(PlainIntervals { items })
     }
 
@@ -115,9 +132,31 @@ impl PlainIntervals {
         if self.has(label, id) {
             return Ok(());
         }
-        let props = Props::new(*self.items.allocator()).applied(props)?;
-        self.put(PlainInterval::new(label.copy()?, id.copy()?, names, props))
+        let interval = new_interval(*self.items.allocator(), label, id, names, props)?;
+        self.put(interval)
     }
+}
+
+// A new interval, whose properties are what the set makes of none.
+fn new_interval(
+    alloc: Global,
+    label: &Text,
+    id: &Text,
+    names: &ElementNames,
+    set: &PropSet,
+) -> Result<PlainInterval, OutOfMemory>
+    ensures { IfOk result (λ i. i ≡ record { label = label.now; id = id.now; start = names.now.first; end = names.now.second; props = apply [] set.now }) }
+{
+    let texts = both(label.copy(), id.copy());
+    let ((own_label, own_id), props) = both(texts, first_props(alloc, set))?;
+    Ok(PlainInterval::new(own_label, own_id, names, props))
+}
+
+// What the set makes of no properties.
+fn first_props(alloc: Global, set: &PropSet) -> Result<Props, OutOfMemory>
+    ensures { IfOk result (λ props. props ≡ apply [] set.now) }
+{
+    Props::new(alloc).applied(set)
 }
 
 // Settles the ends of the intervals at the pending stage, by a table of where the ends go.

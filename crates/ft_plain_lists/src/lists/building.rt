@@ -1,13 +1,15 @@
 //! Lists as a summary gives them.
 
-ghost use Rattle.std.specs.Prelude.{◌≡◌, ◌+◌, ◌++◌, [], ◌∷◌, OnOk, OnErr, length, map};
+ghost use Rattle.std.specs.Prelude.{◌≡◌, ◌+◌, ◌++◌, [], ◌∷◌, None, IfOk, OnOk, OnErr, length, map};
 ghost use Rattle.ft_props.specs.Element.{new_elements};
 ghost use Rattle.ft_plain_lists.specs.Contents.{content_of};
 
 use crate::elements::{Content, PlainElement};
 use crate::lists::{PlainList, check_room};
+use crate::moved::{both, push_made};
 use ft_base::{Datum, OutOfMemory, Stamp, Stamps};
 use ft_props::Props;
+use std::alloc::Global;
 
 impl PlainList {
     /// Adds sequenced elements with these stamps, author and properties behind all others.
@@ -49,9 +51,26 @@ impl PlainList {
     {
         let made = self.made_with(1)?;
         check_room(self.items.len(), 1)?;
-        let e = PlainElement::new(self.alloc(), self.made, content, ins, by, props.copy()?);
-        self.items.push(e.with_removals(dels.copy()?))?;
+        let e = removed_element(self.alloc(), self.made, content, ins, dels, by, props);
+        push_made(&mut self.items, e)?;
         self.made = made;
         Ok(())
     }
+}
+
+// A new element with this content, these removals and these properties.
+fn removed_element(
+    alloc: Global,
+    nth: u64,
+    content: Content,
+    ins: Stamp,
+    dels: &Stamps,
+    by: Option<Stamp>,
+    props: &Props,
+) -> Result<PlainElement, OutOfMemory>
+    ensures { IfOk result (λ e. e ≡ record { nth = nth; content = content_of content; ins = ins; dels = dels.now; removal_stage = None; by = by; props = props.now; pending = [] }) }
+{
+    let (dels, props) = both(dels.copy(), props.copy())?;
+    let e = PlainElement::new(alloc, nth, content, ins, by, props);
+    Ok(e.with_removals(dels))
 }

@@ -7,12 +7,14 @@ ghost use Rattle.ft_props.specs.Steps.{acked_element, acked_list, after_local_in
 ghost use Rattle.ft_props.specs.Steps.{is_inserted_by, put_stage, put_stages, rebuilt_list, stage_position};
 ghost use Rattle.ft_plain_lists.specs.Contents.{content_of};
 
+use crate::copies::copied_items;
 use crate::element_tests::{Before, ElementTest, InsertedBy};
 use crate::elements::{Content, PlainElement};
 use crate::lists::{PlainList, check_room};
 use crate::marks::{PendingChanges, PendingRemoval};
+use crate::moved::push;
 use crate::scans::{insertion_place, mark_range, new_elements, put_at, rank, units};
-use ft_base::{Datum, OutOfMemory, Stamp};
+use ft_base::{OutOfMemory, Stamp};
 use ft_props::{Changes, Props};
 use std::alloc::Global;
 
@@ -21,10 +23,7 @@ impl PlainList {
     pub fn copy(&self) -> Result<PlainList, OutOfMemory>
         ensures { IfOk result (λ copy. copy ≡ self.now) }
     {
-        let mut items = Vec::new(self.alloc());
-        for e in &self.items {
-            items.push(e.copy()?)?;
-        }
+        let items = copied_items(self.alloc(), self.items.as_slice())?;
         Ok(PlainList {
             items,
             made: self.made,
@@ -95,10 +94,7 @@ impl PlainList {
     ) -> Result<(), OutOfMemory>
         ensures { OnOk result (self.new ≡ after_local_mark stage p q (with_pending_annotation stage changes.now) self.old) }
     {
-        let changes = PendingChanges {
-            stage,
-            changes: changes.copy()?,
-        };
+        let changes = PendingChanges { stage, changes };
         let items = self.items.as_mut_slice();
         mark_range(items, p, q, Before(stage), &changes)
     }
@@ -174,7 +170,7 @@ fn carried_elements(alloc: Global, items: &[PlainElement]) -> Result<Vec<PlainEl
     let mut carried = Vec::new(alloc);
     for e in items {
         if e.is_sequenced() {
-            carried.push(carried_element(e)?)?;
+            push(&mut carried, carried_element(e)?)?;
         }
     }
     Ok(carried)
@@ -239,7 +235,7 @@ fn elements_of_stage(
     let mut found = Vec::new(alloc);
     for e in items {
         if e.is_inserted_by(stage) {
-            found.push(e.copy()?)?;
+            push(&mut found, e.copy()?)?;
         }
     }
     Ok(found)

@@ -4,6 +4,7 @@ ghost use Rattle.std.specs.Prelude.{◌≡◌, IfOk};
 ghost use Rattle.ft_props.specs.Compaction.{trim_list};
 
 use crate::lists::PlainList;
+use crate::moved::push;
 use ft_base::OutOfMemory;
 
 impl PlainList {
@@ -15,7 +16,7 @@ impl PlainList {
         let mut items = Vec::new(self.alloc());
         for e in &self.items {
             if !e.is_collectable(min) {
-                items.push(e.trimmed(min)?)?;
+                push(&mut items, e.trimmed(min)?)?;
             }
         }
         Ok(PlainList {

@@ -1,4 +1,4 @@
-use Rattle.std.proofs.Common.{◌≡◌, ◌+◌, false, true, ◌&&◌, nat_eq, [], arith}
+use Rattle.std.proofs.Common.{◌≡◌, ◌+◌, false, true, ◌&&◌, nat_eq, [], ◌∷◌, ◌++◌, ◌∙◌, ap, arith}
 use Rattle.std.proofs.lemmas.Bool.Decides.{nat_tests}
 use Rattle.std.proofs.lemmas.Result.{on_ok_weaker}
 use Rattle.ft_sumdoc.specs.WellFormed.{same_props}
@@ -12,7 +12,12 @@ returns-then-same c =
     let filled : c.args.props ≡ [] → ⊥ = λ e. (let full = c.is_empty.ensures.1 e in absurd cc) in
     let same = same_props-is c.same.result first.props c.args.props c.same.ensures in
     let joins : (nat_eq first.start (c.args.place + 1) && same_props first.props c.args.props) ≡ true = grind (arith, nat_tests) in
-    run-joined c.args.place c.args.props c.pop.new.self.items c.args.runs.now.items c.push.new.self.items first filled c.in-Some.ensures.items joins c.in_ok-push.ensures.items
+    let rest = c.pop.new.self.items in
+    on_ok_weaker c.push-then-same.result
+    (λ made. run-joined c.args.place c.args.props rest c.args.runs.now.items c.push-then-same.new.items.items first
+    filled c.in-Some.ensures.items joins
+    (made ∙ ap (λ run. rest ++ (run ∷ [])) c.begun_at.ensures))
+    c.push-then-same.ensures.items
 
 pub returns : goal.returns
 returns c =
@@ -24,7 +29,8 @@ returns c =
           (let same = same_props-is w.same.result first.props c.args.props w.same.ensures in grind (arith, nat_tests))
       | else-first-place-via-else-first-place w ↦ grind (arith, nat_tests)
     ] in
-    on_ok_weaker c.push_run-2.result (λ made. run-apart c.args.place c.args.props c.pop.new.self.items c.args.runs.now.items c.push_run-2.new.runs.items first
+    let rest = c.pop.new.self.items in
+    on_ok_weaker c.push_both.result (λ made. run-apart c.args.place c.args.props rest c.args.runs.now.items c.push_both.new.items.items first
     filled c.in-Some.ensures.items joins
-    (cc (made, c.in_ok-push-2.ensures.items)))
-    c.push_run-2.ensures
+    (made ∙ ap (λ run. (rest ++ (first ∷ [])) ++ (run ∷ [])) c.one_run-2.ensures))
+    c.push_both.ensures

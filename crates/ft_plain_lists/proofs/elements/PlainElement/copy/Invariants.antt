@@ -1,6 +1,0 @@
-use Rattle.std.proofs.Common.{◌≡◌, ◌++◌, drop}
-use Rattle.ft_plain_lists.proofs.elements.PlainElement.copy.Given as goal
-
--- those that are copied, and the rest, are all
-abbrev pub invariant-loop-stage : goal.invariant-loop-stage
-invariant-loop-stage l = l.pending.items ++ drop l.stage-index l.self.pending ≡ l.self.pending
