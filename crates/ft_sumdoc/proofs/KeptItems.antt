@@ -26,3 +26,8 @@ module _ {V A B F : Type 0} (keeps : A → Result B F) (of : V → A) where
 pub holds_behind : {V A : Type 0} (P : A → Type 0) (of : V → A) (items : List V) (i : ℕ) (item : V) → i < length items → item ≡ get_or items i item
     → AllByRecursion P (map of (drop i items)) → AllByRecursion P (map of (drop (i + 1) items))
 holds_behind P of items i item within is h = (subst (λ (xs : List _). AllByRecursion P (map of xs)) (at_item items i item within is) h).1
+
+-- and of the item there
+pub holds_here : {V A : Type 0} (P : A → Type 0) (of : V → A) (items : List V) (i : ℕ) (item : V) → i < length items → item ≡ get_or items i item
+    → AllByRecursion P (map of (drop i items)) → P (of item)
+holds_here P of items i item within is h = (subst (λ (xs : List _). AllByRecursion P (map of xs)) (at_item items i item within is) h).0

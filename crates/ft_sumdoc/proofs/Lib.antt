@@ -11,6 +11,7 @@ pub mod ValidSummaries
 pub mod CutText
 pub mod ReadOptions
 pub mod KeptItems
+pub mod ReadArrays
 pub mod NarrowStamps
 pub mod NarrowForms
 pub mod NarrowSummaries
@@ -19,3 +20,5 @@ pub mod ReadObjects
 pub mod DistinctNames
 pub mod RisingRemovals
 pub mod PutFields
+pub mod GivenLists
+pub mod PushedValues

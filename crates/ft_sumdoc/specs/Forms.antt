@@ -9,7 +9,7 @@ use Rattle.std.specs.List.{list_all}
 use Rattle.serde_json.specs.Data.{Data}
 use Rattle.serde_json.specs.Find.{as_null, as_str}
 use Rattle.ft_json.specs.Bounds.{number_limit}
-use Rattle.ft_json.specs.Reading.{pairs, whole_within}
+use Rattle.ft_json.specs.Reading.{items, pairs, whole_within}
 use Rattle.ft_props.specs.Properties.{Characters}
 
 infixl 10 ◌>>=◌
@@ -39,6 +39,13 @@ rises is_before (x ∷ xs) = is_before_first is_before x xs && rises is_before x
 -- what is given, where the test holds
 abbrev pub where_true : {A : Type 0} → Bool → A → Option A
 where_true test x = if test then Some x else None
+
+-- the items that an array is, each of this form, if they may stand together
+abbrev pub array_form : {A : Type 0} → (Data → Option A) → (List A → Bool) → Data → Option (List A)
+array_form form together d = do
+  ds ← items d
+  xs ← each_of form ds
+  where_true (together xs) xs
 
 -- the characters of a string
 abbrev pub characters : Data → Option Characters

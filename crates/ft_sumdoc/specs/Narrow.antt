@@ -1,13 +1,13 @@
 -- The forms as the code reads them: a number of a connection is kept in 32 bits, and a greater one as 0, which is no number
 -- of a connection either. The segments of all chunks stand in one list.
-use Rattle.std.specs.Prelude.{ℕ, ◌^◌, ◌++◌, nat_eq, nat_le, nat_lt, List, [], ◌∷◌, Option, Some, None, option_and_then, option_map, unwrap_or, if◌then◌else◌}
+use Rattle.std.specs.Prelude.{◌≡◌, refl, ℕ, ◌^◌, ◌++◌, nat_eq, nat_le, nat_lt, List, [], ◌∷◌, Option, Some, None, option_and_then, option_map, unwrap_or, if◌then◌else◌}
 use Rattle.serde_json.specs.Data.{Data}
 use Rattle.ft_json.specs.declared.fields.Field.TheVariants.{Inserter, Insertion, Removals, RunLength, SegmentMarker, SegmentProps, SegmentText}
 use Rattle.ft_json.specs.Reading.{count, field, items}
 use Rattle.ft_sumdoc.specs.declared.summary.Mark.{Mark}
-use Rattle.ft_sumdoc.specs.Forms.{◌>>=◌, each_of, optional, where_true}
+use Rattle.ft_sumdoc.specs.Forms.{◌>>=◌, array_form, each_of, optional, where_true}
 use Rattle.ft_sumdoc.specs.Runs.{GivenRun, units_in_range}
-use Rattle.ft_sumdoc.specs.Segments.{GivenSegment, given_body, not_empty, segment_props}
+use Rattle.ft_sumdoc.specs.Segments.{GivenSegment, given_body, has_some, not_empty, segment_props}
 use Rattle.ft_sumdoc.specs.Stamps.{GivenStamps, stamp_form}
 use Rattle.ft_sumdoc.specs.Summary.{given_length}
 
@@ -61,6 +61,21 @@ narrow_chunk version d = do
   ds ← items d
   segs ← each_of (narrow_segment version) ds
   not_empty segs
+
+-- it is an array of such segments, at least one
+some_segments : (o : Option (List GivenSegment)) → (o >>= not_empty) ≡ (o >>= λ segs. where_true (has_some segs) segs)
+some_segments None = refl
+some_segments (Some []) = refl
+some_segments (Some (seg ∷ segs)) = refl
+
+listed_segments : (version : ℕ) (o : Option (List Data))
+    → (o >>= λ ds. each_of (narrow_segment version) ds >>= not_empty)
+    ≡ (o >>= λ ds. each_of (narrow_segment version) ds >>= λ segs. where_true (has_some segs) segs)
+listed_segments version None = refl
+listed_segments version (Some ds) = some_segments (each_of (narrow_segment version) ds)
+
+pub chunk_array : (version : ℕ) (d : Data) → narrow_chunk version d ≡ array_form (narrow_segment version) has_some d
+chunk_array version d = listed_segments version (items d)
 
 -- the segments of chunks, and how many elements each chunk has
 pub record TextParts : Type 0 where

@@ -1,5 +1,5 @@
 -- The segments of the text of a summary: their form, and how many elements they have.
-use Rattle.std.specs.Prelude.{ℕ, ◌+◌, List, [], ◌∷◌, Option, Some, None, option_map, length}
+use Rattle.std.specs.Prelude.{ℕ, ◌+◌, Bool, true, false, List, [], ◌∷◌, Option, Some, None, option_map, length}
 use Rattle.serde_json.specs.Data.{Data}
 use Rattle.ft_json.specs.declared.fields.Field.TheVariants.{SegmentMarker, SegmentProps, SegmentText}
 use Rattle.ft_json.specs.Reading.{count, field, items}
@@ -43,6 +43,11 @@ segment_form version d = do
   author ← author_form version d
   stamps ← stamps_with author d
   Some (record { body = body; props = props; stamps = stamps })
+
+-- whether there is an item
+abbrev pub has_some : {A : Type 0} → List A → Bool
+has_some [] = false
+has_some (x ∷ xs) = true
 
 -- a list with at least one item
 abbrev pub not_empty : {A : Type 0} → List A → Option (List A)

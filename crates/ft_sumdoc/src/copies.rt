@@ -1,25 +1,23 @@
 //! Copies of what summaries and views hold, and whether two are equal.
 
-ghost use Rattle.std.specs.Prelude.{◌≡◌, Ok, IfOk};
+ghost use Rattle.std.specs.Prelude.{◌≡◌, IfOk};
 
-use crate::summary::{
-    CellRec, CellRecs, Ends2, IntervalRec, IntervalRecs, Mark, RunRec, RunRecs, Seg, SegRec,
-    SegRecs, SumDoc,
-};
+use crate::moved::both;
+use crate::summary::{CellRec, Ends2, IntervalRec, Mark, RunRec, Seg, SegRec, SumDoc};
 use ft_base::{Datum, OutOfMemory};
 
-// Copies of the segments, the rows and the columns.
-fn copy_elements(sum: &SumDoc) -> Result<(SegRecs, RunRecs, RunRecs), OutOfMemory>
-    ensures { IfOk result (λ copies. copies ≡ (sum.now.text, sum.now.rows, sum.now.cols)) }
+// Copies of three values.
+fn copy_three<A: Datum, B: Datum, C: Datum>(
+    first: &A,
+    second: &B,
+    third: &C,
+) -> Result<(A, B, C), OutOfMemory>
+    ensures { IfOk result (λ copies. copies ≡ (first.now, second.now, third.now)) }
 {
-    Ok((sum.text.copy()?, sum.rows.copy()?, sum.cols.copy()?))
-}
-
-// Copies of the intervals and the cells.
-fn copy_shown(sum: &SumDoc) -> Result<(IntervalRecs, CellRecs), OutOfMemory>
-    ensures { IfOk result (λ copies. copies ≡ (sum.now.intervals, sum.now.cells)) }
-{
-    Ok((sum.intervals.copy()?, sum.cells.copy()?))
+    let first = first.copy()?;
+    let second = second.copy()?;
+    let third = third.copy()?;
+    Ok((first, second, third))
 }
 
 impl Datum for Seg {
@@ -54,9 +52,7 @@ impl Datum for Ends2 {
 
 impl Datum for IntervalRec {
     fn copy(&self) -> Result<IntervalRec, OutOfMemory> {
-        let label = self.label.copy()?;
-        let id = self.id.copy()?;
-        let props = self.props.copy()?;
+        let (label, id, props) = copy_three(&self.label, &self.id, &self.props)?;
         Ok(IntervalRec {
             label,
             id,
@@ -99,9 +95,7 @@ impl Datum for Mark {
 
 impl Datum for SegRec {
     fn copy(&self) -> Result<SegRec, OutOfMemory> {
-        let body = self.body.copy()?;
-        let props = self.props.copy()?;
-        let dels = self.dels.copy()?;
+        let (body, props, dels) = copy_three(&self.body, &self.props, &self.dels)?;
         Ok(SegRec {
             body,
             props,
@@ -136,9 +130,9 @@ impl Datum for RunRec {
 
 impl Datum for SumDoc {
     fn copy(&self) -> Result<SumDoc, OutOfMemory> {
-        let conns = self.conns.copy()?;
-        let (text, rows, cols) = copy_elements(self)?;
-        let (intervals, cells) = copy_shown(self)?;
+        let elements = copy_three(&self.text, &self.rows, &self.cols);
+        let shown = copy_three(&self.conns, &self.intervals, &self.cells);
+        let ((text, rows, cols), (conns, intervals, cells)) = both(elements, shown)?;
         Ok(SumDoc {
             seq: self.seq,
             min: self.min,

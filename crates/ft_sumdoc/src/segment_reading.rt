@@ -1,24 +1,23 @@
 //! Reading the segments of a text and the properties of elements and intervals.
 
-ghost use Rattle.std.specs.Prelude.{◌≡◌, Ok, true, IsTrue, IfOk, chars, map, option_map};
-ghost use Rattle.std.specs.List.{AllByRecursion};
+ghost use Rattle.std.specs.Prelude.{◌≡◌, IsTrue, IfOk, chars, map, option_map};
 ghost use Rattle.serde_json.specs.View.{view};
 ghost use Rattle.ft_json.specs.Readers.{Reads};
 ghost use Rattle.ft_json.specs.Objects.{entry_pairs};
-ghost use Rattle.ft_op.specs.Reading.{read_each};
-ghost use Rattle.ft_sumdoc.specs.Forms.{each_of, has_no_null, props_form};
+ghost use Rattle.ft_sumdoc.specs.Forms.{has_no_null, props_form};
 ghost use Rattle.ft_sumdoc.specs.Items.{body_of, given_pairs, segment_of, text_of};
-ghost use Rattle.ft_sumdoc.specs.Narrow.{narrow_chunk, narrow_chunks, narrow_segment, narrow_text};
+ghost use Rattle.ft_sumdoc.specs.Narrow.{narrow_chunks, narrow_text};
 ghost use Rattle.ft_sumdoc.specs.Segments.{body_length, given_body, segment_props, some_characters};
 ghost use Rattle.ft_sumdoc.specs.Summary.{given_length};
 ghost use Rattle.ft_sumdoc.specs.Valid.{HasValues};
-ghost use Rattle.ft_sumdoc.specs.Values.{kept_props, kept_segment};
+ghost use Rattle.ft_sumdoc.specs.Values.{kept_props};
 
 use crate::chunks::char_count;
+use crate::item_reading::{KeptItem, ListedItem, read_array};
 use crate::items::{BodyItem, SegItem, TextItem};
 use crate::stamp_reading::{author, stamp_item};
 use crate::stamp_tests::{given_author, given_insertion};
-use crate::summary::{Seg, SegRec, SegRecs};
+use crate::summary::{Seg, SegRec};
 use ft_base::{Datum, OutOfMemory, Text};
 use ft_json::{Field, JsonFault, canonical, count, field, items, pairs};
 use ft_props::Props;
@@ -84,72 +83,49 @@ fn optional_props(value: Option<&Value>) -> Option<Option<&Map<String, Value>>>
     }
 }
 
-// The segment that the value is in a summary of this version: None where it has not the form.
-fn segment_item(
-    alloc: Global,
-    version: u64,
-    value: &Value,
-) -> Result<Option<SegItem<'_>>, OutOfMemory>
-    ensures { IfOk result (λ item. option_map segment_of item ≡ narrow_segment version (view value.now)) }
-{
-    let text = field(value, Field::SegmentText);
-    let Some(body) = body_item(text, field(value, Field::SegmentMarker)) else {
-        return Ok(None);
-    };
-    let Some(props) = optional_props(field(value, Field::SegmentProps)) else {
-        return Ok(None);
-    };
-    let Some(author) = author(version, value) else {
-        return Ok(None);
-    };
-    let Some(stamps) = stamp_item(alloc, author, value)? else {
-        return Ok(None);
-    };
-    Ok(Some(SegItem {
-        body,
-        props,
-        stamps,
-    }))
-}
+impl<'a> ListedItem<'a> for SegItem<'a> {
+    ghost use Rattle.ft_sumdoc.specs.Items.{segment_of};
+    ghost use Rattle.ft_sumdoc.specs.Narrow.{narrow_segment};
+    ghost use Rattle.ft_sumdoc.specs.Segments.{GivenSegment, has_some};
 
-// The segments that the values are: None where one has not the form.
-fn segment_items(
-    alloc: Global,
-    version: u64,
-    values: &[Value],
-) -> Result<Option<Vec<SegItem<'_>>>, OutOfMemory>
-    ensures { IfOk result (λ segs. option_map (λ found. map segment_of found.items) segs
-        ≡ each_of (narrow_segment version) (map view values.now)) }
-{
-    let mut segs = Vec::new(alloc);
-    for value in values {
-        let Some(seg) = segment_item(alloc, version, value)? else {
+    // The version of the summary.
+    type Limits = u64;
+
+    ghost Meant = { GivenSegment };
+
+    ghost meaning = { segment_of };
+
+    ghost form = { narrow_segment };
+
+    ghost together = { has_some };
+
+    fn read_item(
+        alloc: Global,
+        limits: u64,
+        value: &'a Value,
+    ) -> Result<Option<SegItem<'a>>, OutOfMemory> {
+        let text = field(value, Field::SegmentText);
+        let Some(body) = body_item(text, field(value, Field::SegmentMarker)) else {
             return Ok(None);
         };
-        segs.push(seg)?;
+        let Some(props) = optional_props(field(value, Field::SegmentProps)) else {
+            return Ok(None);
+        };
+        let Some(author) = author(limits, value) else {
+            return Ok(None);
+        };
+        let Some(stamps) = stamp_item(alloc, author, value)? else {
+            return Ok(None);
+        };
+        Ok(Some(SegItem {
+            body,
+            props,
+            stamps,
+        }))
     }
-    Ok(Some(segs))
-}
 
-// The chunk of segments that the value is: None where it has not the form.
-fn chunk_items(
-    alloc: Global,
-    version: u64,
-    value: &Value,
-) -> Result<Option<Vec<SegItem<'_>>>, OutOfMemory>
-    ensures { IfOk result (λ segs. option_map (λ found. map segment_of found.items) segs
-        ≡ narrow_chunk version (view value.now)) }
-{
-    let Some(values) = items(value) else {
-        return Ok(None);
-    };
-    let Some(segs) = segment_items(alloc, version, values)? else {
-        return Ok(None);
-    };
-    if segs.is_empty() {
-        Ok(None)
-    } else {
-        Ok(Some(segs))
+    fn may_stand(items: &[SegItem<'a>]) -> bool {
+        !items.is_empty()
     }
 }
 
@@ -187,7 +163,7 @@ fn text_items(
     let mut segs = Vec::new(alloc);
     let mut lengths = Vec::new(alloc);
     for value in values {
-        let Some(mut chunk) = chunk_items(alloc, version, value)? else {
+        let Some(mut chunk) = read_array::<SegItem>(alloc, version, value)? else {
             return Ok(None);
         };
         lengths.push(items_len(&chunk)?)?;
@@ -246,29 +222,34 @@ fn keep_body(alloc: Global, body: BodyItem<'_>) -> Result<Seg, OutOfMemory>
     }
 }
 
-// The segment, as it is kept.
-fn keep_segment(alloc: Global, item: &SegItem) -> Result<SegRec, JsonFault>
-    requires { IsTrue (has_no_null (segment_of item.now).props) }
-    ensures { Reads JsonFault.OutOfMemory (kept_segment (segment_of item.now)) (λ seg. HasValues seg.props) result }
-{
-    let props = keep_given(alloc, item.props)?;
-    Ok(SegRec {
-        body: keep_body(alloc, item.body)?,
-        props,
-        by: given_author(&item.stamps),
-        ins: given_insertion(&item.stamps),
-        dels: item.stamps.removals.copy()?,
-    })
-}
+impl<'a> KeptItem for SegItem<'a> {
+    ghost use Rattle.std.specs.Prelude.{◌≡◌, true};
+    ghost use Rattle.ft_sumdoc.specs.Forms.{has_no_null};
+    ghost use Rattle.ft_sumdoc.specs.Items.{segment_of};
+    ghost use Rattle.ft_sumdoc.specs.Segments.{GivenSegment};
+    ghost use Rattle.ft_sumdoc.specs.Valid.{HasValues};
+    ghost use Rattle.ft_sumdoc.specs.Values.{kept_segment};
 
-/// The segments, as they are kept.
-pub(crate) fn keep_segments(alloc: Global, items: &[SegItem]) -> Result<SegRecs, JsonFault>
-    requires { AllByRecursion (λ seg. has_no_null seg.props ≡ true) (map segment_of items.now) }
-    ensures { Reads JsonFault.OutOfMemory (read_each kept_segment (map segment_of items.now)) (AllByRecursion (λ seg. HasValues seg.props)) result }
-{
-    let mut segs = SegRecs::new(alloc);
-    for item in items {
-        segs.push(keep_segment(alloc, item)?)?;
+    type Record = SegRec;
+
+    ghost Meant = { GivenSegment };
+
+    ghost meaning = { segment_of };
+
+    ghost kept = { kept_segment };
+
+    ghost IsGiven = { λ seg. has_no_null seg.props ≡ true };
+
+    ghost IsFormed = { λ seg. HasValues seg.props };
+
+    fn keep(&self, alloc: Global) -> Result<SegRec, JsonFault> {
+        let props = keep_given(alloc, self.props)?;
+        Ok(SegRec {
+            body: keep_body(alloc, self.body)?,
+            props,
+            by: given_author(&self.stamps),
+            ins: given_insertion(&self.stamps),
+            dels: self.stamps.removals.copy()?,
+        })
     }
-    Ok(segs)
 }

@@ -1,28 +1,22 @@
 //! Reading the intervals and the cells of a summary.
 
-ghost use Rattle.std.specs.Prelude.{◌≡◌, ◌≢◌, Ok, Err, true, false, is_some, IfOk, IfErr, chars, map, option_map};
+ghost use Rattle.std.specs.Prelude.{◌≡◌, chars, map, option_map};
 ghost use Rattle.std.specs.List.{AllByRecursion};
-ghost use Rattle.serde_json.specs.Find.{as_null};
 ghost use Rattle.serde_json.specs.View.{view};
 ghost use Rattle.ft_json.specs.Readers.{Reads};
-ghost use Rattle.ft_json.specs.Reading.{needed_field};
-ghost use Rattle.ft_op.specs.Reading.{read_each};
-ghost use Rattle.ft_sumdoc.specs.Cells.{cell_form, cell_of_three, cells_form, is_given_cell_before, is_place_before};
-ghost use Rattle.ft_sumdoc.specs.Faults.{field_of_summary};
-ghost use Rattle.ft_sumdoc.specs.Forms.{each_of, has_no_null, place_number, rises};
-ghost use Rattle.ft_sumdoc.specs.Intervals.{are_shown_ends, interval_behind, interval_form, interval_of_five, intervals_form, is_given_interval_before, is_name_before};
+ghost use Rattle.ft_sumdoc.specs.Cells.{cell_form, cell_of_three, is_given_cell_before, is_place_before};
+ghost use Rattle.ft_sumdoc.specs.Forms.{place_number, rises};
+ghost use Rattle.ft_sumdoc.specs.Intervals.{are_shown_ends, interval_behind, interval_form, interval_of_five, is_given_interval_before, is_name_before};
 ghost use Rattle.ft_sumdoc.specs.Items.{cell_of, interval_of};
 ghost use Rattle.ft_sumdoc.specs.Shown.{cells_of, intervals_of};
 ghost use Rattle.ft_sumdoc.specs.Valid.{HasValues, IsValue};
-ghost use Rattle.ft_sumdoc.specs.Values.{kept_cell, kept_interval};
 
+use crate::item_reading::{KeptItem, ListedItem, keep_each, read_array_field};
 use crate::items::{CellItem, IntervalItem};
 use crate::segment_reading::{keep_props, props_item};
-use crate::summary::{CellRec, CellRecs, Ends2, IntervalRec, IntervalRecs, SumCause, SumFault};
+use crate::summary::{CellRec, CellRecs, Ends2, IntervalRec, IntervalRecs, SumFault};
 use ft_base::{OutOfMemory, Text};
-use ft_json::{
-    Field, FieldFault, GREATEST_NUMBER, JsonFault, canonical, count, field, items, whole_within,
-};
+use ft_json::{Field, GREATEST_NUMBER, JsonFault, canonical, count, items, whole_within};
 use ft_props::keys::compare;
 use serde_json::Value;
 use std::alloc::Global;
@@ -90,30 +84,40 @@ fn interval_behind<'a>(
     })
 }
 
+impl<'a> ListedItem<'a> for IntervalItem<'a> {
+    ghost use Rattle.ft_sumdoc.specs.Forms.{rises};
+    ghost use Rattle.ft_sumdoc.specs.Intervals.{GivenInterval, interval_form, is_given_interval_before};
+    ghost use Rattle.ft_sumdoc.specs.Items.{interval_of};
+
+    // How many elements the text has.
+    type Limits = u64;
+
+    ghost Meant = { GivenInterval };
+
+    ghost meaning = { interval_of };
+
+    ghost form = { interval_form };
+
+    ghost together = { rises is_given_interval_before };
+
+    fn read_item(
+        _alloc: Global,
+        limits: u64,
+        value: &'a Value,
+    ) -> Result<Option<IntervalItem<'a>>, OutOfMemory> {
+        Ok(interval_item(limits, value))
+    }
+
+    fn may_stand(items: &[IntervalItem<'a>]) -> bool {
+        intervals_rise(items)
+    }
+}
+
 // The interval that the value is, on so many elements.
 fn interval_item(elements: u64, value: &Value) -> Option<IntervalItem<'_>>
     ensures { option_map interval_of result ≡ interval_form elements (view value.now) }
 {
     interval_of_five(elements, items(value)?)
-}
-
-// The intervals that the values are: None where one has not the form.
-fn interval_items(
-    alloc: Global,
-    elements: u64,
-    values: &[Value],
-) -> Result<Option<Vec<IntervalItem<'_>>>, OutOfMemory>
-    ensures { IfOk result (λ is. option_map (λ found. map interval_of found.items) is
-        ≡ each_of (interval_form elements) (map view values.now)) }
-{
-    let mut intervals = Vec::new(alloc);
-    for value in values {
-        let Some(interval) = interval_item(elements, value) else {
-            return Ok(None);
-        };
-        intervals.push(interval)?;
-    }
-    Ok(Some(intervals))
 }
 
 // Whether the intervals rise by label and id.
@@ -130,70 +134,34 @@ fn intervals_rise(intervals: &[IntervalItem]) -> bool
     true
 }
 
-// The intervals of an array, on so many elements: None where it has not the form.
-fn whole_intervals(
-    alloc: Global,
-    elements: u64,
-    value: &Value,
-) -> Result<Option<Vec<IntervalItem<'_>>>, OutOfMemory>
-    ensures { IfOk result (λ is. option_map (λ found. map interval_of found.items) is
-        ≡ intervals_form elements (view value.now)) }
-{
-    let Some(values) = items(value) else {
-        return Ok(None);
-    };
-    let Some(intervals) = interval_items(alloc, elements, values)? else {
-        return Ok(None);
-    };
-    if intervals_rise(&intervals) {
-        Ok(Some(intervals))
-    } else {
-        Ok(None)
-    }
-}
+impl<'a> KeptItem for IntervalItem<'a> {
+    ghost use Rattle.std.specs.Prelude.{◌≡◌, true};
+    ghost use Rattle.ft_sumdoc.specs.Forms.{has_no_null};
+    ghost use Rattle.ft_sumdoc.specs.Intervals.{GivenInterval};
+    ghost use Rattle.ft_sumdoc.specs.Items.{interval_of};
+    ghost use Rattle.ft_sumdoc.specs.Valid.{HasValues};
+    ghost use Rattle.ft_sumdoc.specs.Values.{kept_interval};
 
-// The interval, as it is kept.
-fn keep_interval(alloc: Global, item: &IntervalItem) -> Result<IntervalRec, JsonFault>
-    requires { has_no_null (interval_of item.now).props ≡ true }
-    ensures { Reads JsonFault.OutOfMemory (kept_interval (interval_of item.now)) (λ i. HasValues i.props) result }
-{
-    let props = keep_props(alloc, item.props)?;
-    Ok(IntervalRec {
-        label: Text::new(alloc, item.label)?,
-        id: Text::new(alloc, item.id)?,
-        ends: item.ends,
-        props,
-    })
-}
+    type Record = IntervalRec;
 
-// The intervals, as they are kept.
-fn keep_intervals(alloc: Global, items: &[IntervalItem]) -> Result<IntervalRecs, JsonFault>
-    requires { AllByRecursion (λ i. has_no_null i.props ≡ true) (map interval_of items.now) }
-    ensures { Reads JsonFault.OutOfMemory (read_each kept_interval (map interval_of items.now)) (AllByRecursion (λ i. HasValues i.props)) result }
-{
-    let mut intervals = IntervalRecs::new(alloc);
-    for item in items {
-        intervals.push(keep_interval(alloc, item)?)?;
-    }
-    Ok(intervals)
-}
+    ghost Meant = { GivenInterval };
 
-// The items of the field `intervals`, on so many elements.
-fn interval_field(
-    alloc: Global,
-    elements: u64,
-    value: &Value,
-) -> Result<Vec<IntervalItem<'_>>, SumFault>
-    ensures ok { IfOk result (λ is. field_of_summary (needed_field (intervals_form elements) (view value.now) Field.Intervals)
-        ≡ Ok (map interval_of is.items)) }
-    ensures err { IfErr result (λ fault. fault ≢ SumFault.OutOfMemory
-        → field_of_summary (needed_field (intervals_form elements) (view value.now) Field.Intervals) ≡ Err fault) }
-{
-    let f = Field::Intervals;
-    let found = field(value, f).ok_or(FieldFault::Missing(f))?;
-    match whole_intervals(alloc, elements, found)? {
-        Some(intervals) => Ok(intervals),
-        None => Err(SumFault::Malformed(SumCause::WrongKind(f))),
+    ghost meaning = { interval_of };
+
+    ghost kept = { kept_interval };
+
+    ghost IsGiven = { λ i. has_no_null i.props ≡ true };
+
+    ghost IsFormed = { λ i. HasValues i.props };
+
+    fn keep(&self, alloc: Global) -> Result<IntervalRec, JsonFault> {
+        let props = keep_props(alloc, self.props)?;
+        Ok(IntervalRec {
+            label: Text::new(alloc, self.label)?,
+            id: Text::new(alloc, self.id)?,
+            ends: self.ends,
+            props,
+        })
     }
 }
 
@@ -206,8 +174,8 @@ pub(crate) fn read_intervals(
 ) -> Result<IntervalRecs, SumFault>
     ensures { Reads SumFault.OutOfMemory (intervals_of elements (view value.now)) (AllByRecursion (λ i. HasValues i.props)) result }
 {
-    let items = interval_field(alloc, elements, value)?;
-    Ok(keep_intervals(alloc, &items)?)
+    let items: Vec<IntervalItem> = read_array_field(alloc, elements, value, Field::Intervals)?;
+    Ok(keep_each(alloc, &items)?)
 }
 
 // ---- cells
@@ -235,31 +203,40 @@ fn cell_of_three(rows: u64, cols: u64, values: &[Value]) -> Option<CellItem<'_>>
     }
 }
 
+impl<'a> ListedItem<'a> for CellItem<'a> {
+    ghost use Rattle.ft_sumdoc.specs.Cells.{GivenCell, cell_form, is_given_cell_before};
+    ghost use Rattle.ft_sumdoc.specs.Forms.{rises};
+    ghost use Rattle.ft_sumdoc.specs.Items.{cell_of};
+
+    // How many rows and columns there are.
+    type Limits = (u64, u64);
+
+    ghost Meant = { GivenCell };
+
+    ghost meaning = { cell_of };
+
+    ghost form = { λ size. cell_form size.0 size.1 };
+
+    ghost together = { rises is_given_cell_before };
+
+    fn read_item(
+        _alloc: Global,
+        limits: (u64, u64),
+        value: &'a Value,
+    ) -> Result<Option<CellItem<'a>>, OutOfMemory> {
+        Ok(cell_item(limits.0, limits.1, value))
+    }
+
+    fn may_stand(items: &[CellItem<'a>]) -> bool {
+        cells_rise(items)
+    }
+}
+
 // The cell that the value is, of so many rows and columns.
 fn cell_item(rows: u64, cols: u64, value: &Value) -> Option<CellItem<'_>>
     ensures { option_map cell_of result ≡ cell_form rows cols (view value.now) }
 {
     cell_of_three(rows, cols, items(value)?)
-}
-
-// The cells that the values are: None where one has not the form.
-fn cell_items(
-    alloc: Global,
-    rows: u64,
-    cols: u64,
-    values: &[Value],
-) -> Result<Option<Vec<CellItem<'_>>>, OutOfMemory>
-    ensures { IfOk result (λ cs. option_map (λ found. map cell_of found.items) cs
-        ≡ each_of (cell_form rows cols) (map view values.now)) }
-{
-    let mut cells = Vec::new(alloc);
-    for value in values {
-        let Some(cell) = cell_item(rows, cols, value) else {
-            return Ok(None);
-        };
-        cells.push(cell)?;
-    }
-    Ok(Some(cells))
 }
 
 // Whether the cells rise by row and column.
@@ -276,70 +253,32 @@ fn cells_rise(cells: &[CellItem]) -> bool
     true
 }
 
-// The cells of an array, of so many rows and columns: None where it has not the form.
-fn whole_cells(
-    alloc: Global,
-    rows: u64,
-    cols: u64,
-    value: &Value,
-) -> Result<Option<Vec<CellItem<'_>>>, OutOfMemory>
-    ensures { IfOk result (λ cs. option_map (λ found. map cell_of found.items) cs
-        ≡ cells_form rows cols (view value.now)) }
-{
-    let Some(values) = items(value) else {
-        return Ok(None);
-    };
-    let Some(cells) = cell_items(alloc, rows, cols, values)? else {
-        return Ok(None);
-    };
-    if cells_rise(&cells) {
-        Ok(Some(cells))
-    } else {
-        Ok(None)
-    }
-}
+impl<'a> KeptItem for CellItem<'a> {
+    ghost use Rattle.std.specs.Prelude.{◌≡◌, false, is_some};
+    ghost use Rattle.serde_json.specs.Find.{as_null};
+    ghost use Rattle.ft_sumdoc.specs.Cells.{GivenCell};
+    ghost use Rattle.ft_sumdoc.specs.Items.{cell_of};
+    ghost use Rattle.ft_sumdoc.specs.Valid.{IsValue};
+    ghost use Rattle.ft_sumdoc.specs.Values.{kept_cell};
 
-// The cell, as it is kept.
-fn keep_cell(alloc: Global, item: &CellItem) -> Result<CellRec, JsonFault>
-    requires { is_some (as_null (cell_of item.now).value) ≡ false }
-    ensures { Reads JsonFault.OutOfMemory (kept_cell (cell_of item.now)) (λ c. IsValue c.value) result }
-{
-    Ok(CellRec {
-        row: item.row,
-        col: item.col,
-        value: canonical(alloc, item.value)?,
-    })
-}
+    type Record = CellRec;
 
-// The cells, as they are kept.
-fn keep_cells(alloc: Global, items: &[CellItem]) -> Result<CellRecs, JsonFault>
-    requires { AllByRecursion (λ c. is_some (as_null c.value) ≡ false) (map cell_of items.now) }
-    ensures { Reads JsonFault.OutOfMemory (read_each kept_cell (map cell_of items.now)) (AllByRecursion (λ c. IsValue c.value)) result }
-{
-    let mut cells = CellRecs::new(alloc);
-    for item in items {
-        cells.push(keep_cell(alloc, item)?)?;
-    }
-    Ok(cells)
-}
+    ghost Meant = { GivenCell };
 
-// The items of the field `cells`, of so many rows and columns.
-fn cell_field(
-    alloc: Global,
-    rows: u64,
-    cols: u64,
-    value: &Value,
-) -> Result<Vec<CellItem<'_>>, SumFault>
-    ensures ok { IfOk result (λ cs. field_of_summary (needed_field (cells_form rows cols) (view value.now) Field.Cells)
-        ≡ Ok (map cell_of cs.items)) }
-    ensures err { IfErr result (λ fault. fault ≢ SumFault.OutOfMemory
-        → field_of_summary (needed_field (cells_form rows cols) (view value.now) Field.Cells) ≡ Err fault) }
-{
-    let f = Field::Cells;
-    let found = field(value, f).ok_or(FieldFault::Missing(f))?;
-    match whole_cells(alloc, rows, cols, found)? {
-        Some(cells) => Ok(cells),
-        None => Err(SumFault::Malformed(SumCause::WrongKind(f))),
+    ghost meaning = { cell_of };
+
+    ghost kept = { kept_cell };
+
+    ghost IsGiven = { λ c. is_some (as_null c.value) ≡ false };
+
+    ghost IsFormed = { λ c. IsValue c.value };
+
+    fn keep(&self, alloc: Global) -> Result<CellRec, JsonFault> {
+        Ok(CellRec {
+            row: self.row,
+            col: self.col,
+            value: canonical(alloc, self.value)?,
+        })
     }
 }
 
@@ -353,6 +292,6 @@ pub(crate) fn read_cells(
 ) -> Result<CellRecs, SumFault>
     ensures { Reads SumFault.OutOfMemory (cells_of rows cols (view value.now)) (AllByRecursion (λ c. IsValue c.value)) result }
 {
-    let items = cell_field(alloc, rows, cols, value)?;
-    Ok(keep_cells(alloc, &items)?)
+    let items: Vec<CellItem> = read_array_field(alloc, (rows, cols), value, Field::Cells)?;
+    Ok(keep_each(alloc, &items)?)
 }

@@ -22,10 +22,11 @@ ghost use Rattle.ft_sumdoc.specs.Values.{kept_segment, kept_each};
 
 use crate::chunks::body_len;
 use crate::head_reading::read_head;
+use crate::item_reading::{keep_each, read_array_field};
 use crate::items::{HeadItem, Limits, ListItem, RunItem, SegItem, TextItem};
 use crate::limits::CHUNK_LENGTH;
-use crate::run_reading::{keep_runs, runs_field};
-use crate::segment_reading::{keep_segments, text_item};
+use crate::run_reading::keep_runs;
+use crate::segment_reading::text_item;
 use crate::shown_reading::{read_cells, read_intervals};
 use crate::stamp_tests::{run_places, segment_places};
 use crate::summary::{
@@ -56,7 +57,7 @@ fn read_segments(alloc: Global, items: &[SegItem]) -> Result<SegRecs, SumFault>
     requires { AllByRecursion (λ seg. has_no_null seg.props ≡ true) (map segment_of items.now) }
     ensures { Reads SumFault.OutOfMemory (kept_each kept_segment (map segment_of items.now)) (AllByRecursion (λ seg. HasValues seg.props)) result }
 {
-    Ok(keep_segments(alloc, items)?)
+    Ok(keep_each(alloc, items)?)
 }
 
 // The place behind all stamps.
@@ -100,8 +101,8 @@ fn read_runs(
     ensures rows { IfOk result (λ found. unit_count found.0 ≤ 2 ^ 52) }
     ensures cols { IfOk result (λ found. unit_count found.1 ≤ 2 ^ 52) }
 {
-    let rows = runs_field(alloc, value, Field::Rows)?;
-    let cols = runs_field(alloc, value, Field::Cols)?;
+    let rows: Vec<RunItem> = read_array_field(alloc, (), value, Field::Rows)?;
+    let cols: Vec<RunItem> = read_array_field(alloc, (), value, Field::Cols)?;
     let _places = all_places(alloc, limits, segs, &rows, &cols)?;
     Ok((keep_runs(alloc, &rows)?, keep_runs(alloc, &cols)?))
 }

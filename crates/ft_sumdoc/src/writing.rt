@@ -1,8 +1,8 @@
 //! Writing summaries as JSON.
 
-ghost use Rattle.std.specs.Prelude.{◌≡◌, Ok, IsTrue, IfOk, OnOk, codes, length, option_map};
+ghost use Rattle.std.specs.Prelude.{◌≡◌, [], Ok, IsTrue, IfOk, OnOk, codes, length};
 ghost use Rattle.std.specs.List.{AllByRecursion};
-ghost use Rattle.serde_json.specs.Data.{array, put};
+ghost use Rattle.serde_json.specs.Data.{array, no_members, object, put};
 ghost use Rattle.serde_json.specs.View.{view, items_view, members_view};
 ghost use Rattle.ft_json.specs.Canonical.{value_of};
 ghost use Rattle.ft_op.specs.Representable.{IsKeyed, IsText};
@@ -15,9 +15,11 @@ ghost use Rattle.ft_sumdoc.specs.Stamps.{is_universal, unless_universal};
 ghost use Rattle.ft_sumdoc.specs.Summary.{summary};
 ghost use Rattle.ft_sumdoc.specs.Valid.{HasValues, IsValidSummary, IsValue};
 ghost use Rattle.ft_sumdoc.specs.WellFormed.{IsWellCut};
-ghost use Rattle.ft_sumdoc.specs.Written.{author_beside, given_characters, given_mark, given_marks, given_props, given_ref_type, summary_text, written_cell_record, written_chunk, written_interval_record, written_mark, written_props, written_segment_record, written_summary, written_unit_run};
+ghost use Rattle.ft_sumdoc.specs.Written.{author_beside, given_characters, given_mark, given_marks, given_props, given_ref_type, summary_text, written_cell_record, written_chunk, written_interval_record, written_props, written_segment_record, written_summary, written_unit_run};
 
 use crate::chunks::{chunk_len, text_len};
+use crate::item_writing::{WrittenItem, put_each, written_each};
+use crate::moved::push;
 use crate::summary::{CellRec, IntervalRec, Mark, Marks, RunRec, Seg, SegRec, SumDoc};
 use ft_base::{OutOfMemory, Text};
 use ft_json::{ValText, compact};
@@ -28,20 +30,17 @@ use std::alloc::Global;
 // The version that is written.
 const VERSION: u64 = 2;
 
-// Puts the value under the key, if it is there.
-fn put_given(
+// Puts a number under the key.
+fn put_number(
     members: &mut Map<String, Value>,
     alloc: Global,
     key: &str,
-    value: Option<Value>,
+    number: u64,
 ) -> Result<(), OutOfMemory>
     ensures { OnOk result (members_view members.new.entries
-        ≡ put_given key.now (option_map view value) (members_view members.old.entries)) }
+        ≡ put key.now (written_count number) (members_view members.old.entries)) }
 {
-    match value {
-        Some(value) => Ok(put(members, alloc, key, value)?),
-        None => Ok(()),
-    }
+    Ok(put(members, alloc, key, Value::from(number))?)
 }
 
 // Whether it is the stamp that stands for an old or an unknown one.
@@ -69,43 +68,19 @@ fn author_beside(ins: Mark, by: Mark) -> Option<Mark>
     }
 }
 
-// The array of a stamp.
-fn written_mark(alloc: Global, mark: Mark) -> Result<Value, OutOfMemory>
-    ensures { IfOk result (λ v. view v ≡ written_mark mark) }
-{
-    Ok(json!(in alloc; [mark.seq, mark.conn])?)
-}
+impl WrittenItem for Mark {
+    ghost use Rattle.std.specs.Prelude.{⊤};
+    ghost use Rattle.ft_sumdoc.specs.Written.{written_mark};
 
-// The array of a stamp, if there is one.
-fn given_mark(alloc: Global, mark: Option<Mark>) -> Result<Option<Value>, OutOfMemory>
-    ensures { IfOk result (λ v. option_map view v ≡ given_mark mark) }
-{
-    match mark {
-        Some(mark) => Ok(Some(written_mark(alloc, mark)?)),
-        None => Ok(None),
-    }
-}
+    ghost written = { written_mark };
 
-// The arrays of stamps.
-fn written_marks(alloc: Global, marks: &[Mark]) -> Result<Vec<Value>, OutOfMemory>
-    ensures { IfOk result (λ vs. items_view vs.items ≡ written_items written_mark marks.now) }
-{
-    let mut values = Vec::new(alloc);
-    for mark in marks {
-        values.push(written_mark(alloc, *mark)?)?;
-    }
-    Ok(values)
-}
+    ghost IsWritable = { λ _. ⊤ };
 
-// The array of removals, none where there are none.
-fn given_marks(alloc: Global, marks: &Marks) -> Result<Option<Value>, OutOfMemory>
-    ensures { IfOk result (λ v. option_map view v ≡ given_marks marks.now) }
-{
-    if marks.is_empty() {
-        return Ok(None);
+    ghost IsRepresentable = { λ _. ⊤ };
+
+    fn to_value(&self, alloc: Global) -> Result<Value, OutOfMemory> {
+        Ok(json!(in alloc; [self.seq, self.conn])?)
     }
-    let values = written_marks(alloc, marks.as_slice())?;
-    Ok(Some(Value::Array(values)))
 }
 
 // Puts the array of the stamp under the key, if there is one.
@@ -118,7 +93,10 @@ fn put_mark(
     ensures { OnOk result (members_view members.new.entries
         ≡ put_given key.now (given_mark mark) (members_view members.old.entries)) }
 {
-    put_given(members, alloc, key, given_mark(alloc, mark)?)
+    match mark {
+        Some(mark) => Ok(put(members, alloc, key, mark.to_value(alloc)?)?),
+        None => Ok(()),
+    }
 }
 
 // Puts the array of removals under its key, if there are any.
@@ -130,7 +108,10 @@ fn put_removals(
     ensures { OnOk result (members_view members.new.entries
         ≡ put_given (codes "r") (given_marks marks.now) (members_view members.old.entries)) }
 {
-    put_given(members, alloc, "r", given_marks(alloc, marks)?)
+    if marks.is_empty() {
+        return Ok(());
+    }
+    put_each(members, alloc, "r", marks.as_slice())
 }
 
 // The value of a property or a cell.
@@ -154,69 +135,90 @@ pub fn props_value(alloc: Global, props: &Props) -> Result<Value, OutOfMemory>
     Ok(Value::Object(members))
 }
 
-// The object of properties, none where there are none.
-fn given_props(alloc: Global, props: &Props) -> Result<Option<Value>, OutOfMemory>
+// Puts the object of properties under its key, if there are any.
+fn put_props(
+    members: &mut Map<String, Value>,
+    alloc: Global,
+    props: &Props,
+) -> Result<(), OutOfMemory>
     requires { HasValues props.now }
-    ensures value { IfOk result (λ v. option_map view v ≡ given_props props.now) }
-    ensures keyed { IfOk result (λ _. IsKeyed props.now) }
+    ensures value { OnOk result (members_view members.new.entries
+        ≡ put_given (codes "p") (given_props props.now) (members_view members.old.entries)) }
+    ensures keyed { OnOk result (IsKeyed props.now) }
 {
     if props.is_empty() {
-        return Ok(None);
+        return Ok(());
     }
-    Ok(Some(props_value(alloc, props)?))
+    let value = props_value(alloc, props)?;
+    Ok(put(members, alloc, "p", value)?)
 }
 
-// The characters of a segment, none where it is a marker.
-fn given_characters(alloc: Global, seg: &Seg) -> Result<Option<Value>, OutOfMemory>
-    ensures value { IfOk result (λ v. option_map view v ≡ given_characters seg.now) }
-    ensures representable { IfOk result (λ _. IsRepresentableContent seg.now) }
+// Puts the characters of a segment under their key, unless it is a marker.
+fn put_characters(
+    members: &mut Map<String, Value>,
+    alloc: Global,
+    seg: &Seg,
+) -> Result<(), OutOfMemory>
+    ensures value { OnOk result (members_view members.new.entries
+        ≡ put_given (codes "t") (given_characters seg.now) (members_view members.old.entries)) }
+    ensures representable { OnOk result (IsRepresentableContent seg.now) }
 {
     match seg {
-        Seg::Chars { text } => Ok(Some(Value::try_from_str(alloc, text.as_str())?)),
-        Seg::Marker { .. } => Ok(None),
+        Seg::Chars { text } => Ok(put(members, alloc, "t", text.to_value(alloc)?)?),
+        Seg::Marker { .. } => Ok(()),
     }
 }
 
-// The reference type of a marker, none where the segment is characters.
-fn given_ref_type(seg: &Seg) -> Option<Value>
-    ensures { option_map view result ≡ given_ref_type seg.now }
+// Puts the reference type of a marker under its key, unless the segment is characters.
+fn put_ref_type(
+    members: &mut Map<String, Value>,
+    alloc: Global,
+    seg: &Seg,
+) -> Result<(), OutOfMemory>
+    ensures { OnOk result (members_view members.new.entries
+        ≡ put_given (codes "m") (given_ref_type seg.now) (members_view members.old.entries)) }
 {
     match seg {
-        Seg::Chars { .. } => None,
-        Seg::Marker { ref_type } => Some(Value::from(*ref_type)),
+        Seg::Chars { .. } => Ok(()),
+        Seg::Marker { ref_type } => put_number(members, alloc, "m", *ref_type),
     }
 }
 
-// The object of a segment.
-fn written_segment(alloc: Global, seg: &SegRec) -> Result<Value, OutOfMemory>
-    requires { HasValues seg.now.props }
-    ensures value { IfOk result (λ v. view v ≡ written_segment_record seg.now) }
-    ensures representable { IfOk result (λ _. IsRepresentableSegmentRecord seg.now) }
-{
-    let mut members = Map::new(alloc);
-    let author = author_beside(seg.ins, seg.by);
-    put_mark(&mut members, alloc, "a", author)?;
-    put_mark(&mut members, alloc, "i", unless_universal(seg.ins))?;
-    put_given(&mut members, alloc, "m", given_ref_type(&seg.body))?;
-    let props = given_props(alloc, &seg.props)?;
-    put_given(&mut members, alloc, "p", props)?;
-    put_removals(&mut members, alloc, &seg.dels)?;
-    let text = given_characters(alloc, &seg.body)?;
-    put_given(&mut members, alloc, "t", text)?;
-    Ok(Value::Object(members))
+impl WrittenItem for SegRec {
+    ghost use Rattle.ft_sumdoc.specs.Representable.{IsRepresentableSegmentRecord};
+    ghost use Rattle.ft_sumdoc.specs.Valid.{HasValues};
+    ghost use Rattle.ft_sumdoc.specs.Written.{written_segment_record};
+
+    ghost written = { written_segment_record };
+
+    ghost IsWritable = { λ seg. HasValues seg.props };
+
+    ghost IsRepresentable = { IsRepresentableSegmentRecord };
+
+    fn to_value(&self, alloc: Global) -> Result<Value, OutOfMemory> {
+        let mut members = Map::new(alloc);
+        put_segment(&mut members, alloc, self)?;
+        Ok(Value::Object(members))
+    }
 }
 
-// The objects of the segments of a chunk.
-fn written_segments(alloc: Global, segs: &[SegRec]) -> Result<Vec<Value>, OutOfMemory>
-    requires { AllByRecursion (λ seg. HasValues seg.props) segs.now }
-    ensures value { IfOk result (λ vs. items_view vs.items ≡ written_items written_segment_record segs.now) }
-    ensures representable { IfOk result (λ _. AllByRecursion IsRepresentableSegmentRecord segs.now) }
+// Puts the members of a segment into an object that has none.
+fn put_segment(
+    members: &mut Map<String, Value>,
+    alloc: Global,
+    seg: &SegRec,
+) -> Result<(), OutOfMemory>
+    requires props { HasValues seg.now.props }
+    requires empty { members_view members.old.entries ≡ no_members }
+    ensures value { OnOk result (object (members_view members.new.entries) ≡ written_segment_record seg.now) }
+    ensures representable { OnOk result (IsRepresentableSegmentRecord seg.now) }
 {
-    let mut values = Vec::new(alloc);
-    for seg in segs {
-        values.push(written_segment(alloc, seg)?)?;
-    }
-    Ok(values)
+    put_mark(members, alloc, "a", author_beside(seg.ins, seg.by))?;
+    put_mark(members, alloc, "i", unless_universal(seg.ins))?;
+    put_ref_type(members, alloc, &seg.body)?;
+    put_props(members, alloc, &seg.props)?;
+    put_removals(members, alloc, &seg.dels)?;
+    put_characters(members, alloc, &seg.body)
 }
 
 // The arrays of the chunks of a text.
@@ -230,44 +232,53 @@ fn written_chunks(alloc: Global, segs: &[SegRec]) -> Result<Vec<Value>, OutOfMem
     let mut rest = segs;
     while !rest.is_empty() {
         let (chunk, behind) = rest.split_at(chunk_len(rest));
-        values.push(Value::Array(written_segments(alloc, chunk)?))?;
+        values.push(Value::Array(written_each(alloc, chunk)?))?;
         rest = behind;
     }
     Ok(values)
 }
 
-// The object of a run.
-fn written_run(alloc: Global, run: &RunRec) -> Result<Value, OutOfMemory>
-    ensures { IfOk result (λ v. view v ≡ written_unit_run run.now) }
-{
-    let mut members = Map::new(alloc);
-    put_mark(&mut members, alloc, "i", unless_universal(run.ins))?;
-    put(&mut members, alloc, "n", Value::from(run.count))?;
-    put_removals(&mut members, alloc, &run.dels)?;
-    Ok(Value::Object(members))
+impl WrittenItem for RunRec {
+    ghost use Rattle.std.specs.Prelude.{⊤};
+    ghost use Rattle.ft_sumdoc.specs.Written.{written_unit_run};
+
+    ghost written = { written_unit_run };
+
+    ghost IsWritable = { λ _. ⊤ };
+
+    ghost IsRepresentable = { λ _. ⊤ };
+
+    fn to_value(&self, alloc: Global) -> Result<Value, OutOfMemory> {
+        let mut members = Map::new(alloc);
+        put_run(&mut members, alloc, self)?;
+        Ok(Value::Object(members))
+    }
 }
 
-// The objects of runs.
-fn written_runs(alloc: Global, runs: &[RunRec]) -> Result<Vec<Value>, OutOfMemory>
-    ensures { IfOk result (λ vs. items_view vs.items ≡ written_items written_unit_run runs.now) }
+// Puts the members of a run into an object that has none.
+fn put_run(members: &mut Map<String, Value>, alloc: Global, run: &RunRec) -> Result<(), OutOfMemory>
+    requires { members_view members.old.entries ≡ no_members }
+    ensures { OnOk result (object (members_view members.new.entries) ≡ written_unit_run run.now) }
 {
-    let mut values = Vec::new(alloc);
-    for run in runs {
-        values.push(written_run(alloc, run)?)?;
-    }
-    Ok(values)
+    put_mark(members, alloc, "i", unless_universal(run.ins))?;
+    put_number(members, alloc, "n", run.count)?;
+    put_removals(members, alloc, &run.dels)
 }
 
-// The names of connections as strings.
-fn written_names(alloc: Global, names: &[Text]) -> Result<Vec<Value>, OutOfMemory>
-    ensures value { IfOk result (λ vs. items_view vs.items ≡ written_items written_text names.now) }
-    ensures representable { IfOk result (λ _. AllByRecursion IsText names.now) }
-{
-    let mut values = Vec::new(alloc);
-    for name in names {
-        values.push(Value::try_from_str(alloc, name.as_str())?)?;
+impl WrittenItem for Text {
+    ghost use Rattle.std.specs.Prelude.{⊤};
+    ghost use Rattle.ft_op.specs.Representable.{IsText};
+    ghost use Rattle.ft_op.specs.Written.{written_text};
+
+    ghost written = { written_text };
+
+    ghost IsWritable = { λ _. ⊤ };
+
+    ghost IsRepresentable = { IsText };
+
+    fn to_value(&self, alloc: Global) -> Result<Value, OutOfMemory> {
+        Ok(Value::try_from_str(alloc, self.as_str())?)
     }
-    Ok(values)
 }
 
 /// The array of an interval.
@@ -277,49 +288,67 @@ pub fn interval_value(alloc: Global, i: &IntervalRec) -> Result<Value, OutOfMemo
     ensures representable { IfOk result (λ _. IsRepresentableInterval i.now) }
 {
     let mut items = Vec::new(alloc);
-    items.push(Value::try_from_str(alloc, i.label.as_str())?)?;
-    items.push(Value::try_from_str(alloc, i.id.as_str())?)?;
-    items.push(Value::from(i.ends.start))?;
-    items.push(Value::from(i.ends.end))?;
-    items.push(props_value(alloc, &i.props)?)?;
+    push_interval(&mut items, alloc, i)?;
     Ok(Value::Array(items))
 }
 
-// The arrays of intervals.
-fn written_intervals(alloc: Global, intervals: &[IntervalRec]) -> Result<Vec<Value>, OutOfMemory>
-    requires { AllByRecursion (λ i. HasValues i.props) intervals.now }
-    ensures value { IfOk result (λ vs. items_view vs.items ≡ written_items written_interval_record intervals.now) }
-    ensures representable { IfOk result (λ _. AllByRecursion IsRepresentableInterval intervals.now) }
+// Adds the values of an interval to none.
+fn push_interval(items: &mut Vec<Value>, alloc: Global, i: &IntervalRec) -> Result<(), OutOfMemory>
+    requires props { HasValues i.now.props }
+    requires empty { items.old.items ≡ [] }
+    ensures value { OnOk result (array (items_view items.new.items) ≡ written_interval_record i.now) }
+    ensures representable { OnOk result (IsRepresentableInterval i.now) }
 {
-    let mut values = Vec::new(alloc);
-    for interval in intervals {
-        values.push(interval_value(alloc, interval)?)?;
-    }
-    Ok(values)
+    push(items, i.label.to_value(alloc)?)?;
+    push(items, i.id.to_value(alloc)?)?;
+    push(items, Value::from(i.ends.start))?;
+    push(items, Value::from(i.ends.end))?;
+    push(items, props_value(alloc, &i.props)?)
 }
 
-// The array of a cell.
-fn written_cell(alloc: Global, cell: &CellRec) -> Result<Value, OutOfMemory>
-    requires { IsValue cell.now.value }
-    ensures { IfOk result (λ v. view v ≡ written_cell_record cell.now) }
-{
-    let mut items = Vec::new(alloc);
-    items.push(Value::from(cell.row))?;
-    items.push(Value::from(cell.col))?;
-    items.push(written_value(&cell.value)?)?;
-    Ok(Value::Array(items))
+impl WrittenItem for IntervalRec {
+    ghost use Rattle.ft_sumdoc.specs.Representable.{IsRepresentableInterval};
+    ghost use Rattle.ft_sumdoc.specs.Valid.{HasValues};
+    ghost use Rattle.ft_sumdoc.specs.Written.{written_interval_record};
+
+    ghost written = { written_interval_record };
+
+    ghost IsWritable = { λ i. HasValues i.props };
+
+    ghost IsRepresentable = { IsRepresentableInterval };
+
+    fn to_value(&self, alloc: Global) -> Result<Value, OutOfMemory> {
+        interval_value(alloc, self)
+    }
 }
 
-// The arrays of cells.
-fn written_cells(alloc: Global, cells: &[CellRec]) -> Result<Vec<Value>, OutOfMemory>
-    requires { AllByRecursion (λ c. IsValue c.value) cells.now }
-    ensures { IfOk result (λ vs. items_view vs.items ≡ written_items written_cell_record cells.now) }
-{
-    let mut values = Vec::new(alloc);
-    for cell in cells {
-        values.push(written_cell(alloc, cell)?)?;
+impl WrittenItem for CellRec {
+    ghost use Rattle.std.specs.Prelude.{⊤};
+    ghost use Rattle.ft_sumdoc.specs.Valid.{IsValue};
+    ghost use Rattle.ft_sumdoc.specs.Written.{written_cell_record};
+
+    ghost written = { written_cell_record };
+
+    ghost IsWritable = { λ c. IsValue c.value };
+
+    ghost IsRepresentable = { λ _. ⊤ };
+
+    fn to_value(&self, alloc: Global) -> Result<Value, OutOfMemory> {
+        let mut items = Vec::new(alloc);
+        push_cell(&mut items, alloc, self)?;
+        Ok(Value::Array(items))
     }
-    Ok(values)
+}
+
+// Adds the values of a cell to none.
+fn push_cell(items: &mut Vec<Value>, alloc: Global, cell: &CellRec) -> Result<(), OutOfMemory>
+    requires value { IsValue cell.now.value }
+    requires empty { items.old.items ≡ [] }
+    ensures { OnOk result (array (items_view items.new.items) ≡ written_cell_record cell.now) }
+{
+    push(items, Value::from(cell.row))?;
+    push(items, Value::from(cell.col))?;
+    push(items, written_value(&cell.value)?)
 }
 
 // Puts the fields `cells`, `cols`, `conns` and `count`, which come first.
@@ -337,14 +366,11 @@ fn put_first(
         (put (codes "cells") (array (written_items written_cell_record doc.now.cells)) (members_view members.old.entries))))) }
     ensures names { OnOk result (AllByRecursion IsText doc.now.conns) }
 {
-    let cells = Value::Array(written_cells(alloc, doc.cells.as_slice())?);
-    put(members, alloc, "cells", cells)?;
-    let cols = Value::Array(written_runs(alloc, doc.cols.as_slice())?);
-    put(members, alloc, "cols", cols)?;
-    let names = Value::Array(written_names(alloc, doc.conns.as_slice())?);
-    put(members, alloc, "conns", names)?;
-    let elements = Value::from(text_len(doc.text.as_slice()));
-    Ok(put(members, alloc, "count", elements)?)
+    put_each(members, alloc, "cells", doc.cells.as_slice())?;
+    put_each(members, alloc, "cols", doc.cols.as_slice())?;
+    put_each(members, alloc, "conns", doc.conns.as_slice())?;
+    let elements = text_len(doc.text.as_slice()) as u64;
+    put_number(members, alloc, "count", elements)
 }
 
 // Puts the fields `intervals`, `min`, `other` and `rows`, which come then.
@@ -361,12 +387,10 @@ fn put_next(
         (put (codes "intervals") (array (written_items written_interval_record doc.now.intervals)) (members_view members.old.entries))))) }
     ensures intervals { OnOk result (AllByRecursion IsRepresentableInterval doc.now.intervals) }
 {
-    let intervals = Value::Array(written_intervals(alloc, doc.intervals.as_slice())?);
-    put(members, alloc, "intervals", intervals)?;
-    put(members, alloc, "min", Value::from(doc.min))?;
-    put(members, alloc, "other", Value::from(doc.other))?;
-    let rows = Value::Array(written_runs(alloc, doc.rows.as_slice())?);
-    Ok(put(members, alloc, "rows", rows)?)
+    put_each(members, alloc, "intervals", doc.intervals.as_slice())?;
+    put_number(members, alloc, "min", doc.min)?;
+    put_number(members, alloc, "other", doc.other)?;
+    put_each(members, alloc, "rows", doc.rows.as_slice())
 }
 
 // Puts the fields `seq`, `skipped`, `text` and `version`, which come last.
@@ -384,11 +408,11 @@ fn put_last(
         (put (codes "seq") (written_count doc.now.seq) (members_view members.old.entries))))) }
     ensures text { OnOk result (AllByRecursion IsRepresentableSegmentRecord doc.now.text) }
 {
-    put(members, alloc, "seq", Value::from(doc.seq))?;
-    put(members, alloc, "skipped", Value::from(doc.skipped))?;
+    put_number(members, alloc, "seq", doc.seq)?;
+    put_number(members, alloc, "skipped", doc.skipped)?;
     let text = Value::Array(written_chunks(alloc, doc.text.as_slice())?);
     put(members, alloc, "text", text)?;
-    Ok(put(members, alloc, "version", Value::from(VERSION))?)
+    put_number(members, alloc, "version", VERSION)
 }
 
 // The object of a summary, of version 2.
