@@ -8,8 +8,9 @@ mod copies;
 pub(crate) mod placed;
 mod trimming;
 
-use crate::moved::{push, replace};
+use crate::moved::replace;
 use crate::names::ElementName;
+use ft_base::moved::push;
 use ft_base::{Datum, OutOfMemory};
 use ft_json::ValText;
 use std::alloc::Global;

@@ -6,8 +6,9 @@ ghost use Rattle.ft_plain_lists.specs.PlacedRuns.{with_place};
 
 use crate::element_tests::ElementTest;
 use crate::elements::PlainElement;
-use crate::moved::{push, push_both};
+use crate::moved::push_both;
 use ft_base::OutOfMemory;
+use ft_base::moved::push;
 use std::alloc::Global;
 
 /// The maximal runs of marked elements among the seen ones, as places from up to before.

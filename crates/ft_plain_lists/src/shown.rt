@@ -6,7 +6,8 @@ ghost use Rattle.ft_plain_lists.specs.Contents.{content_of};
 ghost use Rattle.ft_plain_lists.specs.PropertyRuns.{all_shown_props, runs_before};
 
 use crate::elements::{Content, PlainElement};
-use crate::moved::{push, push_both, turned};
+use crate::moved::{push_both, turned};
+use ft_base::moved::push;
 use ft_base::{Datum, OutOfMemory, Text};
 use ft_msg::{Run, Runs, Spot, Spots};
 use ft_props::Props;

@@ -2,8 +2,8 @@
 
 ghost use Rattle.std.specs.Prelude.{◌≡◌, IfOk};
 
-use crate::moved::both;
 use crate::summary::{CellRec, Ends2, IntervalRec, Mark, RunRec, Seg, SegRec, SumDoc};
+use ft_base::moved::both;
 use ft_base::{Datum, OutOfMemory};
 
 // Copies of three values.

@@ -13,7 +13,6 @@ mod items;
 pub mod laws;
 mod limits;
 pub mod meeting;
-mod moved;
 mod run_reading;
 mod segment_reading;
 mod shown_reading;

@@ -19,8 +19,8 @@ ghost use Rattle.ft_sumdoc.specs.Written.{author_beside, given_characters, given
 
 use crate::chunks::{chunk_len, text_len};
 use crate::item_writing::{WrittenItem, put_each, written_each};
-use crate::moved::push;
 use crate::summary::{CellRec, IntervalRec, Mark, Marks, RunRec, Seg, SegRec, SumDoc};
+use ft_base::moved::push;
 use ft_base::{OutOfMemory, Text};
 use ft_json::{ValText, compact};
 use ft_props::Props;

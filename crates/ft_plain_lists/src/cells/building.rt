@@ -3,9 +3,9 @@
 ghost use Rattle.std.specs.Prelude.{◌≡◌, ◌++◌, [], ◌∷◌, OnOk, OnErr};
 
 use crate::cells::{PlainCell, PlainCells};
-use crate::moved::push;
 use crate::names::ElementName;
 use ft_base::OutOfMemory;
+use ft_base::moved::push;
 use ft_json::ValText;
 
 impl PlainCells {

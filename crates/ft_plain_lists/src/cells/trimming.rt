@@ -8,10 +8,10 @@ ghost use Rattle.ft_plain_lists.specs.NameTables.{HasAnswers};
 use crate::cells::{PlainCell, PlainCells, is_null};
 use crate::copies::Copied;
 use crate::elements::PlainElement;
-use crate::moved::push;
 use crate::name_tables::{NameTable, note_removals};
 use crate::names::ElementName;
 use ft_base::OutOfMemory;
+use ft_base::moved::push;
 use std::alloc::Global;
 
 impl PlainCells {

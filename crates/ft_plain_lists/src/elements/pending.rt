@@ -10,7 +10,7 @@ ghost use Rattle.ft_plain_lists.specs.Contents.{content_of};
 
 use crate::copies::Copied;
 use crate::elements::{Content, PlainElement, has_any_sequenced};
-use crate::moved::{both, push};
+use ft_base::moved::{both, push};
 use ft_base::{Datum, OutOfMemory, Stamp};
 use ft_props::{Changes, Props};
 use std::alloc::Global;

@@ -3,8 +3,8 @@
 ghost use Rattle.std.specs.Prelude.{◌≡◌, ◌++◌, [], ◌∷◌, OnOk, OnErr};
 
 use crate::intervals::{PlainInterval, PlainIntervals};
-use crate::moved::push;
 use ft_base::OutOfMemory;
+use ft_base::moved::push;
 
 impl PlainIntervals {
     /// Adds an interval behind all others: the caller sees to their order.

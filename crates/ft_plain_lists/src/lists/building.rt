@@ -6,7 +6,8 @@ ghost use Rattle.ft_plain_lists.specs.Contents.{content_of};
 
 use crate::elements::{Content, PlainElement};
 use crate::lists::{PlainList, check_room};
-use crate::moved::{both, push_made};
+use crate::moved::push_made;
+use ft_base::moved::both;
 use ft_base::{Datum, OutOfMemory, Stamp, Stamps};
 use ft_props::Props;
 use std::alloc::Global;

@@ -4,8 +4,8 @@ ghost use Rattle.std.specs.Prelude.{◌≡◌, IfOk};
 ghost use Rattle.ft_props.specs.Compaction.{trim_list};
 
 use crate::lists::PlainList;
-use crate::moved::push;
 use ft_base::OutOfMemory;
+use ft_base::moved::push;
 
 impl PlainList {
     /// The list as a summary has it: without the collectable elements, and with insertions at or below the
