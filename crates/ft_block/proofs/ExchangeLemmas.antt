@@ -2,7 +2,7 @@
 use Rattle.std.proofs.Common.{◌≡◌, ℕ, ◌+◌, ◌-◌, ◌^◌, ◌<◌, ◌≤◌, ◌%◌, List, Bool, true, false, Option, Some, None, IsSome, refl, sym, ap, subst, ◌∙◌, inl, inr, arith}
 use Rattle.ft_base.specs.declared.elements.Element.{Element}
 use Rattle.ft_arena.specs.Ids.{times, points}
-use Rattle.ft_arena.specs.Forest.{Forest, Entry, entry, kids_of, parent_of, block_value, block_of_entry, block_of_node, with_block}
+use Rattle.ft_arena.specs.Forest.{Forest, Entry, entry, kids_of, leaf_value, parent_of, block_value, block_of_entry, block_of_node, with_block, with_leaf}
 use Rattle.ft_arena.specs.declared.nodes.Node.{Node}
 use Rattle.ft_arena.specs.declared.nodes.Node.TheVariants.{Leaf, Block}
 use Rattle.ft_arena.proofs.IdLemmas.{same_other}
@@ -19,6 +19,7 @@ use Rattle.ft_shape.specs.Steps.{SameShape, Resums}
 use Rattle.ft_shape.proofs.Levels.{block_from_height}
 use Rattle.ft_shape.proofs.EditLemmas.{is_some_from}
 use Rattle.ft_shape.proofs.FitLemmas.{kids_fit}
+use Rattle.ft_shape.proofs.InsertLemmas.{changed_value, leaf_live}
 use Rattle.ft_block.proofs.ViewLemmas.{all_fit}
 use Rattle.ft_block.proofs.KeptLemmas.{kept_low, settled}
 use Rattle.ft_shape.proofs.RefreshLemmas.{refreshed_shape, refreshed_sums, SameShape-shape, SameShape-sums, SameShape-owes}
@@ -175,3 +176,9 @@ module _ {L : Type 0} (size : L → ℕ) (element : L → Element) (view : View)
 -- who is a parent in a tree is a block
 pub parent_block : {L : Type 0} (s : Forest L (Headed Summary)) (root : ℕ) → IsTree s root → (at b : ℕ) → parent_of s at ≡ Some b → IsSome (block_value s b)
 parent_block s root t at b up = block_from_height (entry s b) (omega (arith, t.shape.heights at b up))
+
+-- a leaf with another value is still there
+pub changed_live : {L : Type 0} (s : Forest L (Headed Summary)) (root at : ℕ) (v w : L) → IsTree s root → leaf_value s at ≡ Some v → IsSome (entry
+    (with_leaf s at w) at)
+changed_live s root at v w t found =
+    leaf_live (entry (with_leaf s at w) at) (is_some_from (leaf_value (with_leaf s at w) at) w (changed_value s root at v w t found))

@@ -1,13 +1,17 @@
 -- Lists of nodes that are gone over from a place in the middle, or from the last one back.
-use Rattle.std.proofs.Common.{◌≡◌, ℕ, ◌+◌, ◌-◌, ◌<◌, ◌≤◌, List, [], ◌∷◌, ◌++◌, drop, append-nil, slice_get, take, Option, Some, None, sym, ap, subst, ◌∙◌, inl, inr, arith}
+use Rattle.std.proofs.Common.{◌≡◌, ℕ, ◌+◌, ◌-◌, ◌<◌, ◌≤◌, List, [], ◌∷◌, ◌++◌, drop, append-nil, length, slice_get, take, Option, Some, None, sym, ap, subst, ◌∙◌, inl, inr, arith}
 use Rattle.std.proofs.lemmas.List.{take_more, take-append-drop}
 use Rattle.std.proofs.lemmas.Bool.{cases_eq}
-use Rattle.std.proofs.lemmas.Option.{slice_get_within, get_or_from_slice_get}
+use Rattle.std.proofs.lemmas.Option.{slice_get_within, slice_get-get_or, get_or_from_slice_get}
 use Rattle.ft_arena.specs.Ids.{times, points}
 use Rattle.ft_arena.proofs.IdLemmas.{same_refl, same_other, times-append}
 use Rattle.ft_shape.specs.Tree.{total, seek, numbers_before}
 use Rattle.ft_shape.proofs.Lists.{drop_at, total-append, seek_here, seek-append_right}
 use Rattle.ft_block.proofs.PositionLemmas.{before_here, before-append_out}
+
+-- within the list a place has a number
+pub none_within : (ks : List ℕ) (i : ℕ) → slice_get ks i ≡ None → i < length ks → ⊥
+none_within ks i none less = let some = slice_get-get_or ks i 0 less in cc (none, some)
 
 -- the list around the number at a place
 cut_at : (ks : List ℕ) (i x : ℕ) → slice_get ks i ≡ Some x → take i ks ++ x ∷ drop (i + 1) ks ≡ ks

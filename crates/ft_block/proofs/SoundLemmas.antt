@@ -1,5 +1,5 @@
 -- That blocks stay sound where a leaf is put in, cut or changed.
-use Rattle.std.proofs.Common.{◌≡◌, ◌≢◌, ℕ, ◌+◌, ◌^◌, ◌<◌, List, ◌∷◌, Option, Some, None, IsSome, IfOk, OnOk, Result, Ok, Err, refl, sym, ap, ◌∙◌, arith, ◌≤◌, inl, inr}
+use Rattle.std.proofs.Common.{◌≡◌, ◌≢◌, ℕ, ◌+◌, ◌^◌, ◌<◌, List, ◌∷◌, Option, Some, None, IsSome, IsSomeAnd, IfOk, OnOk, Result, Ok, Err, refl, sym, ap, ◌∙◌, arith, ◌≤◌, inl, inr}
 use Rattle.std.proofs.lemmas.Bool.{cases_eq}
 use Rattle.ft_base.specs.declared.elements.Element.{Element}
 use Rattle.ft_arena.specs.Ids.{times, insert_after, put_after, without}
@@ -9,7 +9,7 @@ use Rattle.ft_block.specs.declared.summaries.Summary.{Summary}
 use Rattle.ft_block.specs.declared.leaves.View.{View}
 use Rattle.ft_block.specs.declared.leaves.View.TheVariants.{Of, Removed}
 use Rattle.ft_block.specs.declared.leaves.LenView.TheVariants.{At, Stage, All}
-use Rattle.ft_shape.specs.Tree.{Measure, IsTree, total, length_of}
+use Rattle.ft_shape.specs.Tree.{Measure, IsBare, IsTree, total, length_of}
 use Rattle.ft_block.specs.Tree.{SumsKeptBut, AreFromFloor, KeepsLengths, by_view, by_size}
 use Rattle.ft_shape.specs.Steps.{InsertsLeaf, SplitsLeaf, ChangesLeaf, TakesLeaf, MovesLeaf}
 use Rattle.ft_block.specs.Inside.{IsRooted, IsSound}
@@ -21,6 +21,11 @@ use Rattle.ft_shape.proofs.InsertLemmas.{changed_tree, changed_sums_same, change
 use Rattle.ft_block.proofs.Floors.{changed_floors}
 use Rattle.ft_block.proofs.ViewLemmas.{seen_same}
 
+-- what holds of a value that is there says that there is one
+pub is_some_by : {X : Type 0} (o : Option X) (P : X → Type 0) → IsSomeAnd o P → IsSome o
+is_some_by None P h = absurd h
+is_some_by (Some x) P h = refl
+
 module _ {L : Type 0} where
   pub rooted_forest : (s : Forest L (Headed Summary)) (root : Option ℕ) → IsRooted s root → IsForest s
   rooted_forest s None t = t.forest
@@ -30,6 +35,14 @@ module _ {L : Type 0} where
   pub rooted_root : (s : Forest L (Headed Summary)) (root : Option ℕ) (x : ℕ) (v : L) → IsRooted s root → leaf_value s x ≡ Some v → root ≢ None
   rooted_root s None x v t e = λ q. let n : leaf_value s x ≡ None = ap leaf_of_entry (t.nodes x) in cc (n, e)
   rooted_root s (Some root) x v t e = λ q. cc
+
+  pub leaf_rooted : (s : Forest L (Headed Summary)) (root : Option ℕ) (x : ℕ) → IsRooted s root → IsSome (leaf_value s x) → root ≢ None
+  leaf_rooted s root x t live = let v = some_of (leaf_value s x) live in rooted_root s root x v.0 t v.1
+
+  -- in a list without leaves there is no place but the first
+  pub bare_place : (s : Forest L (Headed Summary)) (at : Option ℕ) → IsBare s → IsPlace s at → at ≡ None
+  bare_place s None b p = refl
+  bare_place s (Some x) b p = let v = some_of (leaf_value s x) p in absurd (rooted_root s None x v.0 b v.1 refl)
 
   -- two nodes with the same leaf value have the same length
   leaf_same : (measure : Measure L Summary) (old new : Forest L (Headed Summary)) (x : ℕ) → IsSome (leaf_value old x) → leaf_value new x ≡ leaf_value old x

@@ -2,11 +2,13 @@
 
 ghost use Rattle.std.specs.Prelude.{◌≡◌, ◌≢◌, ℕ, ◌+◌, ◌*◌, ◌^◌, ◌<◌, ◌≤◌, Some, IsTrue, IfOk, IfErr, OnOk, OnErr, MatchOption, All, IsSomeAnd, true, false, length, nat_lt, []};
 ghost use Rattle.ft_arena.specs.Ids.{first, after};
+ghost use Rattle.ft_block.specs.Leaves.{length_by, place_by, seen_length};
+ghost use Rattle.ft_block.specs.declared.leaves.LenView.TheVariants.{Stage};
 
 use crate::change::change_in;
 use crate::counted::{
-    find_in_stage, insert_in, is_before_in, join_in, leaf_in, length_in, move_in, position_in,
-    set_stamps_in, split_in, take_in,
+    insert_in, is_before_in, join_in, leaf_in, length_in, move_in, position_in, set_stamps_in,
+    split_in, take_in,
 };
 use crate::find::find_from;
 use crate::leaves::{Leaf, LenView, View};
@@ -68,8 +70,6 @@ impl<L: Leaf> Blocks<L> {
       times_leaf,
       ids,
       value_at,
-      length_by,
-      place_by,
       left_of,
       put_leaf,
       change_leaf,
@@ -80,11 +80,10 @@ impl<L: Leaf> Blocks<L> {
       join_leaf,
       local_length,
       removed_length,
-      seen_length,
       IsFromFloor,
     };
     ghost use Rattle.ft_block.specs.Tree.{KeepsLengths, shown_length};
-    ghost use Rattle.ft_block.specs.declared.leaves.LenView.TheVariants.{At, Stage};
+    ghost use Rattle.ft_block.specs.declared.leaves.LenView.TheVariants.{At};
 
     /// No leaves.
     pub fn new(alloc: Global) -> Blocks<L>
@@ -228,32 +227,7 @@ impl<L: Leaf> Blocks<L> {
         ensures length { IfErr result (λ e. e.length ≡ length_by (seen_length L.size L.element (Stage stage)) self.now.leaves) }
         ensures beyond { IfErr result (λ e. e.length < p) }
     {
-        let _ = &self.root;
-        if p == 0 {
-            return Ok(Found {
-                leaf: None,
-                offset: 0,
-            });
-        }
-        match self.root {
-            None => Err(OutOfRange { length: 0 }),
-            Some(root) => {
-                match find_in_stage::<L, Brand>(
-                    &self.arena,
-                    NodeId(root),
-                    self.floor,
-                    p,
-                    stage,
-                    Blank::new(1),
-                ) {
-                    Ok((id, offset)) => Ok(Found {
-                        leaf: Some(id),
-                        offset,
-                    }),
-                    Err(length) => Err(OutOfRange { length }),
-                }
-            }
-        }
+        find_in_stage::<L, Brand>(self, p, stage, Blank::new(1))
     }
 
     // The same in any view that the blocks keep.
@@ -570,4 +544,23 @@ impl<L: Leaf> Blocks<L> {
     {
         self.floor = floor;
     }
+}
+
+// `find_at_stage` with a counter of steps of its own.
+fn find_in_stage<L: Leaf, G: Ledger>(
+    blocks: &Blocks<L>,
+    p: u64,
+    stage: u64,
+    blank: Blank,
+) -> Result<Found, OutOfRange>
+    requires name { blank.name ≡ G.name }
+    requires parts { blank.parts ≡ G.parts }
+    requires one { 0 < blank.parts }
+    requires usable { IsTrue blocks.now.usable }
+    ensures found { IfOk result (λ found. place_by (seen_length L.size L.element (Stage stage)) blocks.now.leaves p ≡ Some found) }
+    ensures length { IfErr result (λ e. e.length ≡ length_by (seen_length L.size L.element (Stage stage)) blocks.now.leaves) }
+    ensures beyond { IfErr result (λ e. e.length < p) }
+{
+    let mut steps = Steps::<G>::new(blank);
+    blocks.find_in(p, View::Of(LenView::Stage(stage)), &mut steps)
 }

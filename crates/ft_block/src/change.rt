@@ -1,15 +1,14 @@
 //! How one leaf is cut in two, or has another value.
 
-ghost use Rattle.std.specs.Prelude.{◌≡◌, ◌+◌, ◌^◌, ◌<◌, ◌≤◌, None, IsSome, IsSomeAnd, IsTrue, IfOk, OnOk};
+ghost use Rattle.std.specs.Prelude.{◌≡◌, ◌+◌, ◌^◌, ◌<◌, ◌≤◌, None, IsSomeAnd, IsTrue, IfOk, OnOk};
 ghost use Rattle.ft_arena.specs.Forest.{leaf_value};
 ghost use Rattle.ft_shape.specs.Tree.{IsTree, length_of, total};
-ghost use Rattle.ft_block.specs.Tree.{SumsKeptBut, AreFromFloor, by_size};
+ghost use Rattle.ft_block.specs.Tree.{SumsKeptBut, AreFromFloor, MakesExchange, by_size};
 ghost use Rattle.ft_shape.specs.Steps.{SplitsLeaf, ChangesLeaf};
 ghost use Rattle.ft_block.specs.Inside.{IsSound};
 
 use crate::grow::{grow, nodes_needed};
 use crate::leaves::Leaf;
-use crate::position::leaf_at;
 use crate::refresh::exchange_up;
 use crate::summaries::{Exchange, Summary};
 use ft_arena::{Arena, NodeId};
@@ -48,45 +47,42 @@ pub(crate) fn split_at<L: Leaf, G: Ledger>(
     Ok((top, id))
 }
 
-// Replaces a leaf's stamps.
-pub(crate) fn set_stamps_at<L: Leaf, G: Ledger>(
+// Replaces a leaf's stamps, where the blocks above owe this exchange then.
+pub(crate) fn put_stamps<L: Leaf>(
     arena: &mut Arena<L, Headed<Summary>>,
     floor: u64,
     root: NodeId,
     id: NodeId,
     e: Element,
-    steps: &mut Steps<G>,
+    exchange: &Exchange,
 ) -> Result<(), OutOfMemory>
     requires tree { IsTree arena.old root }
     requires sums { SumsKeptBut L.size L.element floor arena.old None }
     requires floors { AreFromFloor floor arena.old }
-    requires live { IsSome (leaf_value arena.old id) }
+    requires makes { IsSomeAnd (leaf_value arena.old id) (λ v. (L.size v < 2 ^ 64) × MakesExchange floor exchange.now (L.element v) (L.size v) e (L.size v)) }
     requires fits { total (length_of (by_size L.size) arena.old) arena.old.leaves < 2 ^ 64 }
     ensures tree { OnOk result (IsTree arena.new root) }
     ensures sums { OnOk result (SumsKeptBut L.size L.element floor arena.new None) }
     ensures floors { OnOk result (AreFromFloor floor arena.new) }
     ensures changes { OnOk result (ChangesLeaf (λ v. L.with_element v e) arena.old arena.new id) }
 {
-    let leaf = leaf_at(arena, id, steps);
-    let len = leaf.len();
-    let exchange = Exchange::of(floor, leaf.element(), len, &e, len)?;
     arena.leaf_mut(id).set_element(e);
     // Where each view sees as many elements as before, no block above owes anything.
     if exchange.is_nothing() {
         return Ok(());
     }
     let stale = arena.parent(id);
-    exchange_up(arena, root, None, None, stale, floor, &exchange)
+    exchange_up(arena, root, None, None, stale, floor, exchange)
 }
 
-// Adds another leaf's elements at the end of a leaf.
-pub(crate) fn join_at<L: Leaf, G: Ledger>(
+// Adds another leaf's elements at the end of a leaf, where the blocks above owe this exchange then.
+pub(crate) fn put_elements<L: Leaf>(
     arena: &mut Arena<L, Headed<Summary>>,
     floor: u64,
     root: NodeId,
     id: NodeId,
     other: L,
-    steps: &mut Steps<G>,
+    exchange: &Exchange,
 ) -> Result<(), OutOfMemory>
 where
     L: Drop,
@@ -94,22 +90,19 @@ where
     requires sums { SumsKeptBut L.size L.element floor arena.old None }
     requires floors { AreFromFloor floor arena.old }
     requires can { IsSomeAnd (leaf_value arena.old id) (λ v. IsTrue (L.joins v other) × (L.element v ≡ L.element other)) }
+    requires makes { IsSomeAnd (leaf_value arena.old id) (λ v. MakesExchange floor exchange.now (L.element v) 0 (L.element v) (L.size other)) }
     requires fits { total (length_of (by_size L.size) arena.old) arena.old.leaves + L.size other < 2 ^ 64 }
     ensures tree { OnOk result (IsTree arena.new root) }
     ensures sums { OnOk result (SumsKeptBut L.size L.element floor arena.new None) }
     ensures floors { OnOk result (AreFromFloor floor arena.new) }
     ensures changes { OnOk result (ChangesLeaf (λ v. L.joined v other) arena.old arena.new id) }
 {
-    // As many elements come as the other leaf has, since both have the same stamps.
-    let more = other.len();
-    let e = leaf_at(arena, id, steps).element();
-    let exchange = Exchange::of(floor, e, 0, e, more)?;
     match arena.leaf_mut(id).join_back(other) {
         Ok(()) => {}
         Err(_) => return Err(OutOfMemory),
     }
     let stale = arena.parent(id);
-    exchange_up(arena, root, None, None, stale, floor, &exchange)
+    exchange_up(arena, root, None, None, stale, floor, exchange)
 }
 
 // Changes a leaf's value, but not its length and stamps.

@@ -1,24 +1,23 @@
 //! The calls that are given no counter of steps: each makes one of its own.
 
-ghost use Rattle.std.specs.Prelude.{◌≡◌, ◌≢◌, ◌+◌, ◌^◌, ◌<◌, ◌≤◌, Some, IsSome, IsSomeAnd, IsTrue, IfOk, IfErr, OnOk, length, nat_lt};
+ghost use Rattle.std.specs.Prelude.{◌≡◌, ◌≢◌, ◌+◌, ◌^◌, ◌<◌, ◌≤◌, Some, IsSome, IsSomeAnd, IsTrue, IfOk, OnOk, length, nat_lt};
 ghost use Rattle.ft_arena.specs.Forest.{IsPlace, leaf_value};
 ghost use Rattle.ft_arena.specs.Ids.{put_after};
-ghost use Rattle.ft_shape.specs.Tree.{length_of, total, numbers_before, seek};
+ghost use Rattle.ft_shape.specs.Tree.{length_of, total, numbers_before};
 ghost use Rattle.ft_block.specs.Tree.{by_size, by_view};
 ghost use Rattle.ft_shape.specs.Steps.{InsertsLeaf, SplitsLeaf, ChangesLeaf, TakesLeaf, MovesLeaf};
-ghost use Rattle.ft_block.specs.declared.leaves.LenView.TheVariants.{Stage};
 ghost use Rattle.ft_block.specs.declared.leaves.View.TheVariants.{Of};
 ghost use Rattle.ft_block.specs.Leaves.{IsFromFloor};
 ghost use Rattle.ft_block.specs.Inside.{IsRooted, IsSound};
 
-use crate::change::{join_at, set_stamps_at, split_at};
-use crate::find::find_from;
+use crate::change::{put_elements, put_stamps, split_at};
+use crate::find::length_at;
 use crate::grow::{insert_at, insert_first, insert_front};
-use crate::leaves::{Leaf, LenView, View, kept_view};
+use crate::leaves::{Leaf, LenView, kept_view};
 use crate::order::is_leaf_before;
-use crate::position::{kept_before, kept_in_all, leaf_at};
-use crate::shrink::{move_at, stands_there, take_at};
-use crate::summaries::Summary;
+use crate::position::{kept_before, leaf_at};
+use crate::shrink::{detach, is_only, move_at, stands_there, take_last};
+use crate::summaries::{Exchange, Summary};
 use ft_arena::{Arena, NodeId};
 use ft_base::{Element, OutOfMemory, Steps};
 use ft_shape::Headed;
@@ -111,30 +110,7 @@ pub(crate) fn length_in<L: Leaf, G: Ledger>(
     };
     let root = NodeId(root);
     let view = kept_view(view, floor);
-    kept_in_all(arena, root, floor, view, &mut steps)
-}
-
-// The leaf in whose stretch the place lies that a stage sees, and how far in; or how many the stage sees.
-pub(crate) fn find_in_stage<L: Leaf, G: Ledger>(
-    arena: &Arena<L, Headed<Summary>>,
-    root: NodeId,
-    floor: u64,
-    p: u64,
-    stage: u64,
-    blank: Blank,
-) -> Result<(NodeId, u64), u64>
-    requires name { blank.name ≡ G.name }
-    requires parts { blank.parts ≡ G.parts }
-    requires one { 0 < blank.parts }
-    requires sound { IsSound L.size L.element floor arena.now (Some root) }
-    requires low { 1 ≤ p }
-    ensures found { IfOk result (λ f. seek (length_of (by_view L.size L.element (Of (Stage stage))) arena.now) arena.now.leaves p ≡ Some (f.0, f.1)) }
-    ensures past { IfErr result (λ n. n ≡ total (length_of (by_view L.size L.element (Of (Stage stage))) arena.now) arena.now.leaves) }
-    ensures beyond { IfErr result (λ n. n < p) }
-{
-    let mut steps = Steps::<G>::new(blank);
-    let view = View::Of(LenView::Stage(stage));
-    find_from(arena, root, floor, view, p, &mut steps)
+    length_at(arena.read(root, &mut steps), floor, view)
 }
 
 // Puts a new leaf directly after another, or first. Tells the root and the new leaf.
@@ -213,10 +189,13 @@ pub(crate) fn set_stamps_in<L: Leaf, G: Ledger>(
     ensures changes { OnOk result (ChangesLeaf (λ v. L.with_element v e) arena.old arena.new id) }
 {
     let mut steps = Steps::<G>::new(blank);
-    match root {
-        None => unreachable!(),
-        Some(root) => set_stamps_at(arena, floor, NodeId(root), id, e, &mut steps),
-    }
+    let Some(root) = root else {
+        unreachable!();
+    };
+    let leaf = leaf_at(arena, id, &mut steps);
+    let len = leaf.len();
+    let exchange = Exchange::of(floor, leaf.element(), len, &e, len)?;
+    put_stamps(arena, floor, NodeId(root), id, e, &exchange)
 }
 
 // Takes a leaf out. Tells the root, if there is a leaf left, and the leaf's value.
@@ -237,10 +216,15 @@ pub(crate) fn take_in<L: Leaf, G: Ledger>(
     ensures takes { IfOk result (λ r. TakesLeaf arena.old arena.new id r.1) }
 {
     let mut steps = Steps::<G>::new(blank);
-    match root {
-        None => unreachable!(),
-        Some(root) => take_at(arena, alloc, floor, NodeId(root), id, &mut steps),
+    let Some(root) = root else {
+        unreachable!();
+    };
+    let root = NodeId(root);
+    if is_only(arena, id) {
+        return Ok((None, take_last(arena, root, id)));
     }
+    let top = detach(arena, alloc, floor, root, id, &mut steps)?;
+    Ok((Some(top.0), arena.unlink(id)))
 }
 
 // Adds another leaf's elements at the end of a leaf.
@@ -264,10 +248,14 @@ where
     ensures changes { OnOk result (ChangesLeaf (λ v. L.joined v other) arena.old arena.new id) }
 {
     let mut steps = Steps::<G>::new(blank);
-    match root {
-        None => unreachable!(),
-        Some(root) => join_at(arena, floor, NodeId(root), id, other, &mut steps),
-    }
+    let Some(root) = root else {
+        unreachable!();
+    };
+    // As many elements come as the other leaf has, since both have the same stamps.
+    let more = other.len();
+    let e = leaf_at(arena, id, &mut steps).element();
+    let exchange = Exchange::of(floor, e, 0, e, more)?;
+    put_elements(arena, floor, NodeId(root), id, other, &exchange)
 }
 
 // Moves a leaf directly after another, or to the head. Tells the root.

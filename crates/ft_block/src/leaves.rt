@@ -174,7 +174,7 @@ pub(crate) fn shown_length<L: Leaf>(leaf: &L, view: View) -> u64
 pub(crate) fn kept_view(view: LenView, _floor: u64) -> View
     requires { IsFromFloor _floor view }
     ensures value { result ≡ Of view }
-    ensures kept { KeepsLengths _floor (Of view) }
+    ensures kept { KeepsLengths _floor result }
 {
     match view {
         LenView::At(_) | LenView::Stage(_) | LenView::All => View::Of(view),

@@ -1,4 +1,4 @@
-//! How many elements a view sees left of a leaf, or in all leaves.
+//! How many elements a view sees left of a leaf.
 
 ghost use Rattle.std.specs.Prelude.{◌≡◌, ◌+◌, ◌^◌, ◌<◌, ◌≤◌, Some, None, IsSome, length, take};
 ghost use Rattle.ft_arena.specs.Forest.{IsForest, block_value, kids_of, leaf_value};
@@ -98,23 +98,6 @@ pub(crate) fn kept_before<L: Leaf, G: Ledger>(
         at = block;
     }
     sum
-}
-
-// The length of all leaves in a kept view.
-pub(crate) fn kept_in_all<L: Leaf, G: Ledger>(
-    arena: &Arena<L, Headed<Summary>>,
-    root: NodeId,
-    floor: u64,
-    view: View,
-    steps: &mut Steps<G>,
-) -> u64
-    requires tree { IsTree arena.now root }
-    requires kept { KeepsLengths floor view }
-    requires floors { AreFromFloor floor arena.now }
-    requires sums { SumsBut (by_view L.size L.element view) arena.now None }
-    ensures { result ≡ total (length_of (by_view L.size L.element view) arena.now) arena.now.leaves }
-{
-    length_at(arena.read(root, steps), floor, view)
 }
 
 // The value of a leaf.

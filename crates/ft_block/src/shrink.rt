@@ -1,13 +1,12 @@
 //! How a leaf is taken out of the tree: blocks that have too few children get some of a neighbour, or
 //! are joined with it.
 
-ghost use Rattle.std.specs.Prelude.{◌≡◌, ◌≢◌, IsTrue, false, ℕ, ◌+◌, ◌^◌, ◌<◌, ◌≤◌, Some, None, IsSome, IfOk, OnOk, length, slice_get, [], ◌∷◌};
+ghost use Rattle.std.specs.Prelude.{◌≡◌, ◌≢◌, IsTrue, false, ℕ, ◌+◌, ◌^◌, ◌<◌, ◌≤◌, Some, None, IsSome, IsSomeAnd, IfOk, OnOk, length, slice_get, [], ◌∷◌};
 ghost use Rattle.ft_arena.specs.Forest.{IsForest, IsPlace, block_value, kids_of, leaf_value};
 ghost use Rattle.ft_arena.specs.Ids.{put_after, without};
 ghost use Rattle.ft_block.specs.declared.leaves.View.{View};
 ghost use Rattle.ft_shape.specs.Tree.{IsTree, IsApart, SumsBut, IsBare, height_of, length_of, total};
-ghost use Rattle.ft_block.specs.Tree.{SumsKeptBut, AreFromFloor, KeepsLengths, PairFits, by_view, by_size};
-ghost use Rattle.ft_block.specs.Inside.{IsRooted};
+ghost use Rattle.ft_block.specs.Tree.{SumsKeptBut, AreFromFloor, KeepsLengths, MakesExchange, PairFits, by_view, by_size};
 ghost use Rattle.ft_shape.specs.Steps.{Shares, ResumsPair, IsPair, TakesLeaf, MovesLeaf};
 
 use crate::grow::{add_after, add_before, nodes_needed};
@@ -79,6 +78,40 @@ fn merge<L: Leaf, G: Ledger>(
     rebuild(arena, alloc, floor, front, steps)
 }
 
+// Has two neighbours below a block, of which one has too few children, share them, or joins the two. Tells whether it joined them,
+// so that the block above has a child less.
+fn share<L: Leaf, G: Ledger>(
+    arena: &mut Arena<L, Headed<Summary>>,
+    alloc: Global,
+    floor: u64,
+    up: NodeId,
+    place: usize,
+    front: NodeId,
+    rear: NodeId,
+    steps: &mut Steps<G>,
+) -> Result<bool, OutOfMemory>
+    requires forest { IsForest arena.old }
+    requires pair { IsPair arena.old up front rear }
+    requires place { slice_get (kids_of arena.old up) place ≡ Some front }
+    requires next { slice_get (kids_of arena.old up) (place + 1) ≡ Some rear }
+    requires many { 4 ≤ length (kids_of arena.old front) + length (kids_of arena.old rear) }
+    requires floors { AreFromFloor floor arena.old }
+    requires sums { (view : View) → KeepsLengths floor view → SumsBut (by_view L.size L.element view) arena.old None }
+    requires fits { PairFits L.size L.element floor arena.old front rear }
+    ensures shares { OnOk result (Shares arena.old arena.new up front rear) }
+    ensures up_kids { IfOk result (λ joined. joined ≡ false → kids_of arena.new up ≡ kids_of arena.old up) }
+    ensures sums { OnOk result ((view : View) → KeepsLengths floor view → ResumsPair (by_view L.size L.element view) arena.old arena.new up front rear) }
+    ensures floors { OnOk result (AreFromFloor floor arena.new) }
+{
+    let many = count_of(arena, front, steps) + count_of(arena, rear, steps);
+    if many > 8 {
+        balance(arena, alloc, floor, up, front, rear, steps)?;
+        return Ok(false);
+    }
+    merge(arena, alloc, floor, up, place, front, rear, steps)?;
+    Ok(true)
+}
+
 // From a block up: while one has too few children, it gets some of a neighbour, or is joined with it.
 // Tells the root.
 fn fill_up<L: Leaf, G: Ledger>(
@@ -114,15 +147,55 @@ fn fill_up<L: Leaf, G: Ledger>(
         let at = place.saturating_sub(1);
         let front = child_at(arena, up, at, steps);
         let rear = child_at(arena, up, at + 1, steps);
-        let many = count_of(arena, front, steps) + count_of(arena, rear, steps);
-        if many > 8 {
-            balance(arena, alloc, floor, up, front, rear, steps)?;
+        let joined = share(arena, alloc, floor, up, at, front, rear, steps)?;
+        if !joined {
             return Ok(root);
         }
-        merge(arena, alloc, floor, up, at, front, rear, steps)?;
         block = up;
     }
     Ok(root)
+}
+
+// Takes a leaf, which isn't the only one, out of the tree, but not out of the list, where the blocks above owe this exchange
+// then. Tells the root.
+fn set_apart<L: Leaf, G: Ledger>(
+    arena: &mut Arena<L, Headed<Summary>>,
+    alloc: Global,
+    floor: u64,
+    root: NodeId,
+    id: NodeId,
+    exchange: &Exchange,
+    steps: &mut Steps<G>,
+) -> Result<NodeId, OutOfMemory>
+    requires tree { IsTree arena.old root }
+    requires sums { SumsKeptBut L.size L.element floor arena.old None }
+    requires floors { AreFromFloor floor arena.old }
+    requires live { IsSome (leaf_value arena.old id) }
+    requires makes { IsSomeAnd (leaf_value arena.old id) (λ v. MakesExchange floor exchange.now (L.element v) (L.size v) (L.element v) 0) }
+    requires more { 2 ≤ length arena.old.leaves }
+    requires fits { total (length_of (by_size L.size) arena.old) arena.old.leaves < 2 ^ 64 }
+    ensures apart { IfOk result (λ top. IsApart arena.new top id None) }
+    ensures low { IfOk result (λ top. height_of arena.new top ≤ height_of arena.old root) }
+    ensures sums { OnOk result (SumsKeptBut L.size L.element floor arena.new None) }
+    ensures floors { OnOk result (AreFromFloor floor arena.new) }
+    ensures leaves { OnOk result (arena.new.leaves ≡ arena.old.leaves) }
+    ensures leaf_values { OnOk result ((x : ℕ) → leaf_value arena.new x ≡ leaf_value arena.old x) }
+{
+    let Some(block) = arena.parent(id) else {
+        unreachable!();
+    };
+    let (place, _) = child_place(arena, block, id, steps);
+    arena.take_child(block, place);
+    exchange_up(
+        arena,
+        root,
+        Some(id),
+        Some(block),
+        Some(block),
+        floor,
+        exchange,
+    )?;
+    fill_up(arena, alloc, floor, root, block, id, steps)
 }
 
 // Takes a leaf, which isn't the only one, out of the tree, but not out of the list. Tells the root.
@@ -151,25 +224,11 @@ pub(crate) fn detach<L: Leaf, G: Ledger>(
     let len = leaf.len();
     let e = leaf.element();
     let exchange = Exchange::of(floor, e, len, e, 0)?;
-    let Some(block) = arena.parent(id) else {
-        unreachable!();
-    };
-    let (place, _) = child_place(arena, block, id, steps);
-    arena.take_child(block, place);
-    exchange_up(
-        arena,
-        root,
-        Some(id),
-        Some(block),
-        Some(block),
-        floor,
-        &exchange,
-    )?;
-    fill_up(arena, alloc, floor, root, block, id, steps)
+    set_apart(arena, alloc, floor, root, id, &exchange, steps)
 }
 
 // Whether the leaf is the only one.
-fn is_only<L: Leaf>(arena: &Arena<L, Headed<Summary>>, id: NodeId) -> bool
+pub(crate) fn is_only<L: Leaf>(arena: &Arena<L, Headed<Summary>>, id: NodeId) -> bool
     requires forest { IsForest arena.now }
     requires live { IsSome (leaf_value arena.now id) }
     ensures only { IsTrue result → arena.now.leaves ≡ id ∷ [] }
@@ -185,7 +244,11 @@ fn is_only<L: Leaf>(arena: &Arena<L, Headed<Summary>>, id: NodeId) -> bool
 }
 
 // Takes the only leaf out, and the root. Tells the leaf's value.
-fn take_last<L: Leaf>(arena: &mut Arena<L, Headed<Summary>>, root: NodeId, id: NodeId) -> L
+pub(crate) fn take_last<L: Leaf>(
+    arena: &mut Arena<L, Headed<Summary>>,
+    root: NodeId,
+    id: NodeId,
+) -> L
     requires tree { IsTree arena.old root }
     requires only { arena.old.leaves ≡ id ∷ [] }
     ensures bare { IsBare arena.new }
@@ -194,32 +257,6 @@ fn take_last<L: Leaf>(arena: &mut Arena<L, Headed<Summary>>, root: NodeId, id: N
     arena.take_child(root, 0);
     let _ = arena.drop_block(root);
     arena.unlink(id)
-}
-
-// Takes a leaf out. Tells the root, if there is a leaf left, and the leaf's value.
-pub(crate) fn take_at<L: Leaf, G: Ledger>(
-    arena: &mut Arena<L, Headed<Summary>>,
-    alloc: Global,
-    floor: u64,
-    root: NodeId,
-    id: NodeId,
-    steps: &mut Steps<G>,
-) -> Result<(Option<usize>, L), OutOfMemory>
-    requires tree { IsTree arena.old root }
-    requires sums { SumsKeptBut L.size L.element floor arena.old None }
-    requires floors { AreFromFloor floor arena.old }
-    requires live { IsSome (leaf_value arena.old id) }
-    requires fits { total (length_of (by_size L.size) arena.old) arena.old.leaves < 2 ^ 64 }
-    ensures rooted { IfOk result (λ r. IsRooted arena.new r.0) }
-    ensures sums { OnOk result (SumsKeptBut L.size L.element floor arena.new None) }
-    ensures floors { OnOk result (AreFromFloor floor arena.new) }
-    ensures takes { IfOk result (λ r. TakesLeaf arena.old arena.new id r.1) }
-{
-    if is_only(arena, id) {
-        return Ok((None, take_last(arena, root, id)));
-    }
-    let top = detach(arena, alloc, floor, root, id, steps)?;
-    Ok((Some(top.0), arena.unlink(id)))
 }
 
 // Whether the leaf stands directly after that one, or first where none is given.

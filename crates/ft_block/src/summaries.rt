@@ -1,6 +1,6 @@
 //! What a block keeps of the leaves below it.
 
-ghost use Rattle.std.specs.Prelude.{◌≡◌, ◌≤◌, ℕ, IfOk, OnOk, true};
+ghost use Rattle.std.specs.Prelude.{◌≡◌, ◌↔◌, ◌≤◌, ℕ, IfOk, IsTrue, OnOk};
 ghost use Rattle.ft_base.specs.declared.elements.Element.{Element};
 ghost use Rattle.ft_partial.specs.Items.{inserted_element};
 ghost use Rattle.ft_block.specs.Tree.{AddsExchange, ExchangesAtStages, IsFrom, kept_length, KeepsForAll, KeepsNothing, KeepsExchange, KeepsSum, MakesExchange, MakesNothing, KeepsNode, IsNodeFrom, HasRange};
@@ -12,8 +12,8 @@ use ft_partial::{Change, Stages, Table};
 use ft_shape::Headed;
 use std::alloc::Global;
 
-/// The connection whose perspective a block asks of its stages: any but number 0, to which they count nothing.
-const NOBODY_ELSE: u32 = 1;
+/// The connection by which a block asks its stages. Which one doesn't matter, but that it isn't number 0, to which they count nothing.
+const NONZERO_CONNECTION: u32 = 1;
 
 /// What a block keeps: tables of how many elements of its leaves each stage and each perspective sees, how many they have,
 /// and how many have a sequenced removal first. What a search reads of a block stands first.
@@ -50,7 +50,7 @@ impl Summary {
             View::Of(LenView::At(at)) => self.table.length(at),
             View::Of(LenView::Stage(stage)) => self.stages.length(Perspective {
                 r: stage,
-                c: NOBODY_ELSE,
+                c: NONZERO_CONNECTION,
             }),
             View::Of(LenView::All) => self.whole,
             View::Removed => self.removed,
@@ -186,7 +186,7 @@ impl Exchange {
 
     // Whether it changes nothing of what blocks keep.
     pub(crate) fn is_nothing(&self) -> bool
-        ensures { result ≡ true → MakesNothing self.now }
+        ensures { IsTrue result ↔ MakesNothing self.now }
     {
         self.whole == 0 && self.removed == 0 && self.stages.is_nothing() && self.table.is_nothing()
     }

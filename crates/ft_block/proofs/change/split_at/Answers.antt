@@ -1,16 +1,18 @@
-use Rattle.std.proofs.Common.{IsSomeAnd, Option, subst, ◌≡◌, ◌<◌, ◌+◌, ℕ, List, ap, sym, ◌∙◌, arith}
+use Rattle.std.proofs.Common.{IsSomeAnd, Option, subst, ◌≡◌, ◌<◌, ◌+◌, ℕ, List, ap, sym, ◌∙◌, arith, IsSome}
 use Rattle.ft_arena.specs.Ids.{insert_after}
-use Rattle.ft_arena.specs.Forest.{Forest}
+use Rattle.ft_arena.specs.Forest.{Forest, leaf_value, with_leaf}
 use Rattle.ft_shape.specs.declared.headed.Headed.{Headed}
 use Rattle.ft_block.specs.declared.summaries.Summary.{Summary}
 use Rattle.ft_block.specs.Tree.{shown_length}
 use Rattle.ft_shape.specs.Tree.{height_of}
 use Rattle.ft_block.specs.Tree.{by_view, by_size}
-use Rattle.ft_shape.proofs.InsertLemmas.{room_tree, room_sums, room_values, room_leaves, cut_grows, cut_heights, cut_sums, cut_owes, cut_total}
+use Rattle.ft_shape.proofs.InsertLemmas.{room_tree, room_sums, room_values, room_leaves, cut_grows, cut_heights, cut_sums, cut_owes, cut_total, changed_value}
 use Rattle.ft_block.proofs.Floors.{room_floors, cut_floors}
 use Rattle.ft_shape.proofs.InsertLemmas.{cut_splits, all_settled}
 use Rattle.ft_shape.proofs.FitLemmas.{leaf_total}
 use Rattle.ft_block.proofs.ViewLemmas.{seen_parts}
+use Rattle.ft_shape.proofs.EditLemmas.{is_some_from}
+use Rattle.ft_block.proofs.SoundLemmas.{is_some_by}
 use Rattle.ft_block.proofs.change.split_at.Goals as goal
 
 pub grow-requires-clause-growing : goal.grow-requires-clause-growing
@@ -115,3 +117,28 @@ returns-clause-tree g c = c.in_ok-top.ensures.tree
 
 pub returns-clause-floors : goal.returns-clause-floors
 returns-clause-floors g c = c.in_ok-top.ensures.floors
+
+pub nodes_needed-needed-requires : goal.nodes_needed-needed-requires
+nodes_needed-needed-requires g c = c.requires.tree
+
+pub leaf_mut-requires : goal.leaf_mut-requires
+leaf_mut-requires g c = subst (λ (o : Option g.row.L.Denot). IsSome o) (sym (room_values c.args.arena.now c.reserve.new.self c.reserve.ensures.kept
+    c.args.leaf))
+    (is_some_by (leaf_value c.args.arena.now c.args.leaf) (λ v. c.args.at < g.L.Leaf.size v) c.requires.leaf)
+
+pub split_off-requires-clause-low : goal.split_off-requires-clause-low
+split_off-requires-clause-low g c = c.requires.low
+
+pub split_off-requires-clause-high : goal.split_off-requires-clause-high
+split_off-requires-clause-high g c = subst (λ (o : Option g.row.L.Denot). IsSomeAnd o (λ v. c.args.at < g.L.Leaf.size v))
+    (sym (room_values c.args.arena.now c.reserve.new.self c.reserve.ensures.kept c.args.leaf) ∙ c.leaf_mut.ensures.value) c.requires.leaf
+
+pub link_after-id-requires-clause-room : goal.link_after-id-requires-clause-room
+link_after-id-requires-clause-room g c = omega (arith, c.in_ok-reserve.ensures.room, c.nodes_needed-needed.ensures)
+
+pub link_after-id-requires-clause-place : goal.link_after-id-requires-clause-place
+link_after-id-requires-clause-place g c =
+    let w = c.split_off.new.self in
+    is_some_from (leaf_value (with_leaf c.reserve.new.self c.args.leaf w) c.args.leaf) w (changed_value c.reserve.new.self c.args.root c.args.leaf
+    c.leaf_mut.result.now w
+    (room_tree c.args.arena.now c.reserve.new.self c.reserve.ensures.kept c.args.root c.requires.tree) c.leaf_mut.ensures.value)

@@ -2,7 +2,7 @@ use Rattle.std.proofs.Common.{◌≡◌, ℕ, Option, Some, refl, ap, sym, subst
 use Rattle.ft_shape.specs.Tree.{total}
 use Rattle.ft_block.specs.Inside.{IsRooted, IsSound}
 use Rattle.ft_block.proofs.MovedLemmas.{list_total}
-use Rattle.ft_block.proofs.SoundLemmas.{rooted_forest, moves_sound}
+use Rattle.ft_block.proofs.SoundLemmas.{rooted_forest, moves_sound, leaf_rooted}
 use Rattle.ft_block.proofs.counted.move_in.Goals as goal
 
 pub stands_there-requires-clause-forest : goal.stands_there-requires-clause-forest
@@ -42,3 +42,24 @@ returns-then-stands_there-clause-sound g c = subst (λ r. IsSound g.L.Leaf.size 
 
 pub returns-clause-moves : goal.returns-clause-moves
 returns-clause-moves g c = c.in_ok-top-in-Some.ensures.moves
+
+pub unreachable-requires : goal.unreachable-requires
+unreachable-requires g c = leaf_rooted c.args.arena.now c.args.root c.args.id c.requires.sound.rooted c.requires.live c.in-None.is
+
+pub stands_there-requires-clause-live : goal.stands_there-requires-clause-live
+stands_there-requires-clause-live g c = c.requires.live
+
+pub stands_there-requires-clause-at : goal.stands_there-requires-clause-at
+stands_there-requires-clause-at g c = c.requires.at
+
+pub stands_there-requires-clause-differ : goal.stands_there-requires-clause-differ
+stands_there-requires-clause-differ g c = c.requires.differ
+
+pub move_at-requires-clause-live : goal.move_at-requires-clause-live
+move_at-requires-clause-live g c = c.requires.live
+
+pub move_at-requires-clause-at : goal.move_at-requires-clause-at
+move_at-requires-clause-at g c = c.requires.at
+
+pub move_at-requires-clause-differ : goal.move_at-requires-clause-differ
+move_at-requires-clause-differ g c = c.requires.differ

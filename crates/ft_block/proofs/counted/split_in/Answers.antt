@@ -3,7 +3,8 @@ use Rattle.ft_shape.specs.Tree.{IsTree}
 use Rattle.ft_block.specs.Tree.{SumsKeptBut, AreFromFloor}
 use Rattle.ft_shape.specs.Steps.{SplitsLeaf}
 use Rattle.ft_block.specs.Inside.{IsRooted, IsSound}
-use Rattle.ft_block.proofs.SoundLemmas.{splits_sound, if_ok_four}
+use Rattle.ft_block.proofs.SoundLemmas.{splits_sound, if_ok_four, is_some_by, leaf_rooted}
+use Rattle.ft_arena.specs.Forest.{leaf_value}
 use Rattle.ft_block.proofs.counted.split_in.Goals as goal
 
 pub returns-clause-sound : goal.returns-clause-sound
@@ -39,3 +40,10 @@ split_at-requires-clause-fits g c = c.requires.sound.fits
 
 pub returns-clause-splits : goal.returns-clause-splits
 returns-clause-splits g c = c.split_at.ensures.splits
+
+pub split_at-requires-clause-leaf : goal.split_at-requires-clause-leaf
+split_at-requires-clause-leaf g c = c.requires.high
+
+pub unreachable-requires : goal.unreachable-requires
+unreachable-requires g c = leaf_rooted c.args.arena.now c.args.root c.args.leaf c.requires.sound.rooted
+    (is_some_by (leaf_value c.args.arena.now c.args.leaf) (λ v. c.args.at < g.L.Leaf.size v) c.requires.high) c.in-None.is

@@ -4,7 +4,7 @@ use Rattle.ft_shape.specs.Tree.{total, length_of, length_of_entry}
 use Rattle.ft_block.specs.Tree.{by_view}
 use Rattle.ft_shape.proofs.Lists.{times_at}
 use Rattle.ft_block.proofs.KeptLemmas.{node_from}
-use Rattle.ft_block.proofs.NearerEnd.{seek-at, total-take_more}
+use Rattle.ft_block.proofs.NearerEnd.{none_within, seek-at, total-take_more}
 use Rattle.ft_block.proofs.find.child_from_back.Goals as goal
 
 pub back-init : goal.back-init
@@ -57,3 +57,29 @@ back-preserved g c =
       passed = omega (arith, more, n, c.back.invariant.passed, c.if-behind-length.false);
       cost = omega (arith, c.read.ensures.tick, c.back.invariant.cost, c.back-test.true);
     }
+
+pub length_at-length-requires-clause-kept : goal.length_at-length-requires-clause-kept
+length_at-length-requires-clause-kept g c = c.requires.kept
+
+pub back-smaller : goal.back-smaller
+back-smaller g c = omega (arith, c.back-test.true)
+
+pub returns-then-behind-length-clause-length : goal.returns-then-behind-length-clause-length
+returns-then-behind-length-clause-length g c = sym (ap (length_of_entry (by_view g.L.Leaf.size g.L.Leaf.element c.args.view)) c.read.ensures.node ∙
+    sym c.length_at-length.ensures)
+
+pub returns-then-behind-length-clause-cost : goal.returns-then-behind-length-clause-cost
+returns-then-behind-length-clause-cost g c = omega (arith, c.read.ensures.tick, c.back.invariant.cost, c.back.invariant.few, c.back-test.true)
+
+pub overflow_sub-i : goal.overflow_sub-i
+overflow_sub-i g c = omega (arith, c.back-test.true)
+
+pub unreachable-requires : goal.unreachable-requires
+unreachable-requires g c =
+    none_within c.args.kids.now (c.back.i - 1) (sym c.get.ensures ∙ c.in_default.is) (omega (arith, c.back-test.true, c.back.invariant.inside))
+
+pub unreachable-requires-2 : goal.unreachable-requires-2
+unreachable-requires-2 g c =
+    let f = length_of (by_view g.L.Leaf.size g.L.Leaf.element c.args.view) c.args.arena.now in
+    let none : c.back.i ≡ 0 = omega (arith, c.back-test.false) in
+    omega (arith, ap (λ (k : ℕ). total f (take k c.args.kids.now)) none, c.back.invariant.passed, c.requires.low)

@@ -1,4 +1,4 @@
-use Rattle.std.proofs.Common.{◌≡◌, ◌<◌, ◌-◌, ◌+◌, ℕ, List, ◌∷◌, drop, ap, sym, ◌∙◌, arith}
+use Rattle.std.proofs.Common.{◌≡◌, ◌<◌, ◌-◌, ◌+◌, ℕ, List, ◌∷◌, drop, ap, sym, ◌∙◌, arith, refl}
 use Rattle.std.proofs.lemmas.Option.{slice_get_within}
 use Rattle.ft_shape.specs.Tree.{seek, total, length_of, length_of_entry}
 use Rattle.ft_block.specs.Tree.{by_view}
@@ -58,3 +58,42 @@ returns-clause-past g c =
 
 pub returns-clause-cost : goal.returns-clause-cost
 returns-clause-cost g c = omega (arith, c.loop-kid.invariant.cost, c.loop-kid.invariant.inside, c.loop-kid.invariant.few)
+
+pub length_at-length-requires-clause-kept : goal.length_at-length-requires-clause-kept
+length_at-length-requires-clause-kept g c = c.requires.kept
+
+pub loop-kid-init : goal.loop-kid-init
+loop-kid-init g c =
+    record {
+      low = c.requires.low;
+      few = omega (arith, c.len-few.ensures.value, c.len-few.ensures.few);
+      inside = omega arith;
+      passed = refl;
+      same = refl;
+      cost = omega arith;
+    }
+
+pub loop-kid-smaller : goal.loop-kid-smaller
+loop-kid-smaller g c =
+    let w = slice_get_within c.args.kids.now c.loop-kid.i c.in-Some.kid (sym c.get.ensures ∙ c.in-Some.is) in
+    omega (arith, w)
+
+pub returns-then-rest-length-clause-length : goal.returns-then-rest-length-clause-length
+returns-then-rest-length-clause-length g c = sym (ap (length_of_entry (by_view g.L.Leaf.size g.L.Leaf.element c.args.view)) c.read.ensures.node ∙ sym
+    c.length_at-length.ensures)
+
+pub returns-then-rest-length-clause-cost : goal.returns-then-rest-length-clause-cost
+returns-then-rest-length-clause-cost g c =
+    let w = slice_get_within c.args.kids.now c.loop-kid.i c.in-Some.kid (sym c.get.ensures ∙ c.in-Some.is) in
+    omega (arith, w, c.read.ensures.tick, c.loop-kid.invariant.cost, c.loop-kid.invariant.few)
+
+pub returns-clause-beyond : goal.returns-clause-beyond
+returns-clause-beyond g c = omega (arith, c.loop-kid.invariant.low, c.requires.low)
+
+pub overflow_sub-rest : goal.overflow_sub-rest
+overflow_sub-rest g c = omega (arith, c.if-rest-length.false)
+
+pub overflow_add-i : goal.overflow_add-i
+overflow_add-i g c =
+    let w = slice_get_within c.args.kids.now c.loop-kid.i c.in-Some.kid (sym c.get.ensures ∙ c.in-Some.is) in
+    omega (arith, w, c.loop-kid.invariant.few)

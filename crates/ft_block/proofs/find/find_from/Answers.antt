@@ -5,6 +5,8 @@ use Rattle.ft_block.specs.Tree.{by_view}
 use Rattle.ft_shape.proofs.Levels.{descends, total_leaves, block_from_height}
 use Rattle.ft_shape.proofs.KindLemmas.{block_live}
 use Rattle.ft_block.proofs.KeptLemmas.{node_from}
+use Rattle.ft_arena.specs.Ids.{times}
+use Rattle.ft_block.proofs.PositionLemmas.{forest_kid_live}
 use Rattle.ft_block.proofs.find.find_from.Goals as goal
 
 pub length_at-all-requires-clause-node : goal.length_at-all-requires-clause-node
@@ -86,3 +88,23 @@ levels-preserved g c =
       past = λ q. absurd (omega (arith, q, d.within));
       cost = omega (arith, d.high, c.child_at.ensures.cost, c.read-node-in-levels.ensures.tick, c.levels.invariant.cost, c.levels.invariant.high);
     }
+
+pub read-node-requires : goal.read-node-requires
+read-node-requires g c = block_live (entry c.args.arena.now c.args.root) c.requires.tree.shape.root_is_block
+
+pub length_at-all-requires-clause-kept : goal.length_at-all-requires-clause-kept
+length_at-all-requires-clause-kept g c = c.requires.kept
+
+pub child_at-requires-clause-kept : goal.child_at-requires-clause-kept
+child_at-requires-clause-kept g c = c.requires.kept
+
+pub child_at-requires-clause-floors : goal.child_at-requires-clause-floors
+child_at-requires-clause-floors g c = c.requires.floors
+
+pub child_at-requires-clause-live : goal.child_at-requires-clause-live
+child_at-requires-clause-live g c = λ id m.
+    let kids : kids_of c.args.arena.now c.levels.at ≡ c.in-Block.kids = ap kids_of_entry c.levels.invariant.node ∙ ap kids_of_node c.in-Block.is in
+    forest_kid_live c.args.arena.now c.levels.at id c.requires.tree.shape.forest (omega (arith, m, ap (λ zs. times zs id) kids))
+
+pub child_at-requires-clause-low : goal.child_at-requires-clause-low
+child_at-requires-clause-low g c = c.levels.invariant.low

@@ -331,3 +331,30 @@ root_over-requires-clause-id_alone g c = c.up.invariant.growing.new_top
 
 pub root_over-requires-clause-differ : goal.root_over-requires-clause-differ
 root_over-requires-clause-differ g c = c.up.invariant.growing.new_apart
+
+pub returns-clause-owes : goal.returns-clause-owes
+returns-clause-owes g c = λ view more less k owes b e. cc e
+
+pub overflow_add-place : goal.overflow_add-place
+overflow_add-place g c =
+    omega (
+      arith,
+      slice_get_within (kids_of c.up.arena c.in-Some.block) c.child_place-place.result.0 c.up.at c.child_place-place.ensures.place,
+      c.child_place-place.ensures.count,
+    )
+
+pub overflow_add-place-in-Some : goal.overflow_add-place-in-Some
+overflow_add-place-in-Some g c =
+    omega (
+      arith,
+      slice_get_within (kids_of c.up.arena c.in-Some.block) c.child_place-place.result.0 c.up.at c.child_place-place.ensures.place,
+      c.child_place-place.ensures.count,
+    )
+
+pub overflow_add-height : goal.overflow_add-height
+overflow_add-height g c = omega (
+  arith,
+  kind_is_height (entry c.up.arena c.args.root) c.height_at-height.result c.height_at-height.ensures,
+  c.up.invariant.tall,
+  c.requires.tall,
+)

@@ -1,8 +1,11 @@
-use Rattle.std.proofs.Common.{◌≡◌, ℕ, List, ap, ◌∙◌}
+use Rattle.std.proofs.Common.{◌≡◌, ℕ, List, ap, ◌∙◌, IsSome, subst, sym, arith}
 use Rattle.ft_arena.specs.Ids.{insert_after}
 use Rattle.ft_shape.proofs.EditLemmas.{after_is_edit}
 use Rattle.ft_shape.proofs.InsertLemmas.{room_leaves}
 use Rattle.ft_block.proofs.AddLemmas.{linked_adds, linked_inserts}
+use Rattle.ft_arena.specs.Forest.{Forest, leaf_value}
+use Rattle.ft_shape.specs.declared.headed.Headed.{Headed}
+use Rattle.ft_block.specs.declared.summaries.Summary.{Summary}
 use Rattle.ft_block.proofs.grow.insert_at.Goals as goal
 
 pub room_for-requires : goal.room_for-requires
@@ -40,3 +43,10 @@ returns-clause-sums g c = c.in_ok-top.ensures.sums
 
 pub returns-clause-floors : goal.returns-clause-floors
 returns-clause-floors g c = c.in_ok-top.ensures.floors
+
+pub link_after-id-requires-clause-room : goal.link_after-id-requires-clause-room
+link_after-id-requires-clause-room g c = omega (arith, c.in_ok-exchange.ensures.room)
+
+pub link_after-id-requires-clause-place : goal.link_after-id-requires-clause-place
+link_after-id-requires-clause-place g c = subst (λ (s : Forest g.row.L.Denot (Headed Summary)). IsSome (leaf_value s c.args.at)) (sym
+    c.room_for.ensures.kept) c.requires.at

@@ -58,3 +58,9 @@ returns-clause-sums g c = c.in_ok-top.ensures.sums
 
 pub returns-clause-floors : goal.returns-clause-floors
 returns-clause-floors g c = c.in_ok-top.ensures.floors
+
+pub link_after-id-requires-clause-room : goal.link_after-id-requires-clause-room
+link_after-id-requires-clause-room g c = omega (arith, c.in_ok-exchange.ensures.room)
+
+pub link_after-id-requires-clause-place : goal.link_after-id-requires-clause-place
+link_after-id-requires-clause-place g c = tt

@@ -1,10 +1,12 @@
 use Rattle.std.proofs.Common.{◌≡◌, ◌≢◌, ◌+◌, [], ◌∷◌, List, ℕ, Some, drop, slice_get, ap, sym, refl, ◌∙◌, arith}
 use Rattle.std.proofs.lemmas.Bool.{eqb-true, eqb-false}
 use Rattle.ft_arena.specs.Ids.{times}
-use Rattle.ft_arena.specs.Forest.{kids_of, kids_of_entry, kids_of_node}
+use Rattle.ft_arena.specs.Forest.{kids_of, kids_of_entry, kids_of_node, entry}
 use Rattle.ft_arena.proofs.IdLemmas.{same_other}
 use Rattle.ft_shape.proofs.Lists.{drop_at, drop_none}
 use Rattle.ft_block.proofs.OrderLemmas.{comes_before, before_first, before_second, before_rest}
+use Rattle.std.proofs.lemmas.Option.{slice_get_within}
+use Rattle.ft_shape.proofs.KindLemmas.{block_live}
 use Rattle.ft_block.proofs.order.is_child_before.Goals as goal
 
 pub loop-kid-init : goal.loop-kid-init
@@ -57,3 +59,22 @@ unreachable-requires-2 g c =
     let e : drop c.loop-kid.i (kids_of c.args.arena.now c.args.block) ≡ [] =
     ap (drop c.loop-kid.i) kids ∙ drop_none c.in-Block.kids c.loop-kid.i (sym c.get.ensures ∙ c.in_default-get.is) in
     omega (arith, ap (λ zs. times zs c.args.first) e, c.loop-kid.invariant.first)
+
+pub read-requires : goal.read-requires
+read-requires g c = block_live (entry c.args.arena.now c.args.block) c.requires.block
+
+pub loop-kid-smaller : goal.loop-kid-smaller
+loop-kid-smaller g c =
+    let kids : kids_of c.args.arena.now c.args.block ≡ c.in-Block.kids = ap kids_of_entry c.read.ensures.node ∙ ap kids_of_node c.in-Block.is in
+    let there : slice_get (kids_of c.args.arena.now c.args.block) c.loop-kid.i ≡ Some c.in-Some.kid =
+    ap (λ zs. slice_get zs c.loop-kid.i) kids ∙ sym c.get.ensures ∙ c.in-Some.is in
+    let w = slice_get_within (kids_of c.args.arena.now c.args.block) c.loop-kid.i c.in-Some.kid there in
+    omega (arith, w)
+
+pub overflow_add-i : goal.overflow_add-i
+overflow_add-i g c =
+    let kids : kids_of c.args.arena.now c.args.block ≡ c.in-Block.kids = ap kids_of_entry c.read.ensures.node ∙ ap kids_of_node c.in-Block.is in
+    let there : slice_get (kids_of c.args.arena.now c.args.block) c.loop-kid.i ≡ Some c.in-Some.kid =
+    ap (λ zs. slice_get zs c.loop-kid.i) kids ∙ sym c.get.ensures ∙ c.in-Some.is in
+    let w = slice_get_within (kids_of c.args.arena.now c.args.block) c.loop-kid.i c.in-Some.kid there in
+    omega (arith, w, c.loop-kid.invariant.few)

@@ -49,3 +49,18 @@ returns g c =
     let once : times ks c.args.child ≤ 1 = omega (arith, c.requires.forest.child_once c.args.block c.args.child, points_few (parent_of s c.args.child) c.args.block) in
     let before = before-take ks c.child_place-place.result.0 c.args.child c.child_place-place.ensures.place once in
     omega (arith, all, c.length_between-2.ensures, ap (total f) whole, ap (total f) before)
+
+pub child_place-place-requires-clause-block : goal.child_place-place-requires-clause-block
+child_place-place-requires-clause-block g c = c.requires.block
+
+pub child_place-place-requires-clause-child : goal.child_place-place-requires-clause-child
+child_place-place-requires-clause-child g c = c.requires.child
+
+pub length_between-requires-clause-floors : goal.length_between-requires-clause-floors
+length_between-requires-clause-floors g c = c.requires.floors
+
+pub length_between-requires-2-clause-floors : goal.length_between-requires-2-clause-floors
+length_between-requires-2-clause-floors g c = c.requires.floors
+
+pub length_at-all-requires-clause-kept : goal.length_at-all-requires-clause-kept
+length_at-all-requires-clause-kept g c = c.requires.kept

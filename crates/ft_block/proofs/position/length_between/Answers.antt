@@ -38,3 +38,6 @@ loop-i-preserved g c =
     let there : slice_get ks c.loop-i.i ≡ Some c.in-Some.kid = ap (λ zs. slice_get zs c.loop-i.i) kids ∙ sym c.get.ensures ∙ c.in-Some.is in
     let n : f c.in-Some.kid ≡ c.length_at-sum.result = ap (length_of_entry measure) c.read-in-loop-i.ensures.node ∙ sym c.length_at-sum.ensures in
     omega (arith, n, c.loop-i.invariant, total-take_more f ks c.loop-i.i c.in-Some.kid there)
+
+pub length_at-sum-requires-clause-kept : goal.length_at-sum-requires-clause-kept
+length_at-sum-requires-clause-kept g c = c.requires.kept

@@ -1,15 +1,17 @@
 use Rattle.std.proofs.Common.{ℕ, Option, refl, sym, subst, arith}
-use Rattle.ft_arena.specs.Forest.{with_block}
+use Rattle.ft_arena.specs.Forest.{with_block, block_value, entry}
 use Rattle.ft_partial.specs.Entries.{amount}
 use Rattle.ft_shape.specs.declared.headed.Headed.{Headed}
 use Rattle.ft_block.specs.declared.summaries.Summary.{Summary}
-use Rattle.ft_block.specs.Tree.{shows}
+use Rattle.ft_block.specs.Tree.{shows, SumsKeptBut}
 use Rattle.ft_shape.specs.Tree.{SumsBut, OwesAt}
 use Rattle.ft_block.specs.Tree.{by_view, by_size}
 use Rattle.ft_shape.proofs.FitLemmas.{leaf_total}
 use Rattle.ft_shape.proofs.RefreshLemmas.{SameShape-refl, SameShape-then, SameShape-part}
 use Rattle.ft_block.proofs.Floors.{written_floors}
 use Rattle.ft_block.proofs.ExchangeLemmas.{ex_shape, ex_sums, ex_owes, ex_next, ex_smaller}
+use Rattle.ft_shape.proofs.EditLemmas.{is_some_from}
+use Rattle.ft_shape.proofs.KindLemmas.{block_live, kind_block}
 use Rattle.ft_block.proofs.refresh.exchange_up.Goals as goal
 
 pub up-init : goal.up-init
@@ -74,3 +76,24 @@ returns-clause-shape g c = c.up.invariant.same
 
 pub returns-clause-floors : goal.returns-clause-floors
 returns-clause-floors g c = c.up.invariant.floors
+
+pub block_mut-requires : goal.block_mut-requires
+block_mut-requires g c = c.up.invariant.block c.in-Some.block c.in-Some.is
+
+pub fold_and_exchange-requires : goal.fold_and_exchange-requires
+fold_and_exchange-requires g c = c.up.invariant.floors c.in-Some.block c.block_mut.result.now c.block_mut.ensures.value
+
+pub parent-stale-requires : goal.parent-stale-requires
+parent-stale-requires g c =
+    let s = c.up.arena in
+    let b = c.in-Some.block in
+    let w : Headed Summary = record { height = c.block_mut.result.now.height; sum = c.fold_and_exchange.new.self } in
+    let r = ex_shape g.L.Leaf.size g.L.Leaf.element c.args.floor s c.args._root c.args._apart c.args._short c.up.invariant.tree c.up.invariant.fits b
+    c.block_mut.result.now w
+    c.block_mut.ensures.value refl in
+    block_live (entry (with_block s b w) b) (kind_block (entry s b) (entry (with_block s b w) b) (r.kinds b)
+    (is_some_from (block_value s b) c.block_mut.result.now c.block_mut.ensures.value))
+
+pub returns-clause-sums : goal.returns-clause-sums
+returns-clause-sums g c = subst (λ (o : Option ℕ). SumsKeptBut g.L.Leaf.size g.L.Leaf.element c.args.floor c.up.arena o) c.in_default.is
+    c.up.invariant.sums

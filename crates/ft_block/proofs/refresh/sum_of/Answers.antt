@@ -47,3 +47,9 @@ pub returns-clause-sum : goal.returns-clause-sum
 returns-clause-sum g c = λ view k.
     let e : drop c.loop-kid.i c.args.kids.now ≡ [] = drop_none c.args.kids.now c.loop-kid.i (sym c.get.ensures ∙ c.in_default.is) in
     omega (arith, ap (total (length_of (by_view g.L.Leaf.size g.L.Leaf.element view) c.args.arena.now)) e, c.loop-kid.invariant.so_far view k)
+
+pub add_node-requires-clause-floor : goal.add_node-requires-clause-floor
+add_node-requires-clause-floor g c = c.loop-kid.invariant.floor
+
+pub returns-clause-floor : goal.returns-clause-floor
+returns-clause-floor g c = c.loop-kid.invariant.floor

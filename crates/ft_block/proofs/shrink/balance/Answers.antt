@@ -109,3 +109,15 @@ rebuild-requires-clause-forest g c = c.regroup.ensures.forest
 
 pub rebuild-requires-2-clause-forest : goal.rebuild-requires-2-clause-forest
 rebuild-requires-2-clause-forest g c = c.in_ok-rebuild.ensures.shape.forest
+
+pub regroup-requires-clause-room : goal.regroup-requires-clause-room
+regroup-requires-clause-room g c = omega (
+  arith,
+  c.count_of.ensures.value,
+  c.count_of-2.ensures.value,
+  c.count_of.ensures.few,
+  c.count_of-2.ensures.few,
+)
+
+pub overflow_add-many : goal.overflow_add-many
+overflow_add-many g c = omega (arith, c.count_of.ensures.few, c.count_of-2.ensures.few)

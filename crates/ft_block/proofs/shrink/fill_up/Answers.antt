@@ -112,92 +112,61 @@ child_at-rear-requires-clause-place g c =
       c.if-count-eq1.false,
     )
 
-pub count_of-requires-in-Some : goal.count_of-requires-in-Some
-count_of-requires-in-Some g c =
-    let up : parent_of c.up.arena c.up.block ≡ Some c.in-Some.up = sym c.parent.ensures ∙ c.in-Some.is in
-    (fl_pair c.up.arena c.args.root c.args._id c.up.block c.up.invariant.apart c.in-Some.up up c.up.invariant.block _ c.child_at-front.result c.child_at-rear.result
-    c.child_at-front.ensures c.child_at-rear.ensures).front_block
-
-pub count_of-requires-in-Some-2 : goal.count_of-requires-in-Some-2
-count_of-requires-in-Some-2 g c =
-    let up : parent_of c.up.arena c.up.block ≡ Some c.in-Some.up = sym c.parent.ensures ∙ c.in-Some.is in
-    (fl_pair c.up.arena c.args.root c.args._id c.up.block c.up.invariant.apart c.in-Some.up up c.up.invariant.block _ c.child_at-front.result c.child_at-rear.result
-    c.child_at-front.ensures c.child_at-rear.ensures).rear_block
-
-pub balance-requires-clause-forest : goal.balance-requires-clause-forest
-balance-requires-clause-forest g c = c.up.invariant.apart.shape.forest
-
-pub balance-requires-clause-pair : goal.balance-requires-clause-pair
-balance-requires-clause-pair g c =
-    let up : parent_of c.up.arena c.up.block ≡ Some c.in-Some.up = sym c.parent.ensures ∙ c.in-Some.is in
-    fl_pair c.up.arena c.args.root c.args._id c.up.block c.up.invariant.apart c.in-Some.up up c.up.invariant.block _ c.child_at-front.result c.child_at-rear.result
-    c.child_at-front.ensures c.child_at-rear.ensures
-
-pub balance-requires-clause-many : goal.balance-requires-clause-many
-balance-requires-clause-many g c = omega (arith, c.count_of-in-Some.ensures.value, c.count_of-in-Some-2.ensures.value, c.if-many-gt8.true)
-
-pub balance-requires-clause-fits : goal.balance-requires-clause-fits
-balance-requires-clause-fits g c = λ view k.
-    let up : parent_of c.up.arena c.up.block ≡ Some c.in-Some.up = sym c.parent.ensures ∙ c.in-Some.is in
-    fl_fits c.up.arena c.args.root c.args._id c.up.block c.up.invariant.apart c.in-Some.up up c.up.invariant.block _ c.child_at-front.result c.child_at-rear.result
-    c.child_at-front.ensures c.child_at-rear.ensures g.L.Leaf.size g.L.Leaf.element view (c.up.invariant.sums view k) c.up.invariant.fits
-
-pub returns-then-many-gt8-clause-apart : goal.returns-then-many-gt8-clause-apart
-returns-then-many-gt8-clause-apart g c =
+pub returns-then-not-joined-clause-apart : goal.returns-then-not-joined-clause-apart
+returns-then-not-joined-clause-apart g c =
     let up : parent_of c.up.arena c.up.block ≡ Some c.in-Some.up = sym c.parent.ensures ∙ c.in-Some.is in
     let pair = fl_pair c.up.arena c.args.root c.args._id c.up.block c.up.invariant.apart c.in-Some.up up c.up.invariant.block _ c.child_at-front.result
     c.child_at-rear.result c.child_at-front.ensures c.child_at-rear.ensures in
-    apart_with c.balance.new.arena c.args.root c.args._id c.in-Some.up
-    (share_apart c.up.arena c.balance.new.arena c.args.root c.args._id c.in-Some.up c.child_at-front.result c.child_at-rear.result c.up.block c.up.invariant.apart
+    apart_with c.share.new.arena c.args.root c.args._id c.in-Some.up
+    (share_apart c.up.arena c.share.new.arena c.args.root c.args._id c.in-Some.up c.child_at-front.result c.child_at-rear.result c.up.block
+    c.up.invariant.apart
     pair.front_up pair.rear_up pair.differ (fl_short c.up.arena c.args.root c.args._id c.up.block c.up.invariant.apart c.in-Some.up up c.child_place-place.result.0 _
     c.child_at-front.result c.child_at-rear.result c.child_place-place.ensures.place (omega arith) c.child_at-front.ensures c.child_at-rear.ensures)
-    (fl_two c.up.arena c.args.root c.args._id c.up.block c.up.invariant.apart c.in-Some.up up c.up.invariant.block) c.in_ok-balance.ensures.shares)
+    (fl_two c.up.arena c.args.root c.args._id c.up.block c.up.invariant.apart c.in-Some.up up c.up.invariant.block) c.in_ok-joined.ensures.shares)
     (λ b e d. omega (
       arith,
       fl_up_full c.up.arena c.args.root c.args._id c.up.block c.up.invariant.apart c.in-Some.up up (λ q. d (e ∙ q)),
       ap length
-          (c.in_ok-balance.ensures.up_kids),
-      ap (λ z. length (kids_of c.balance.new.arena z)) e,
+          (c.in_ok-joined.ensures.up_kids c.if-not-joined.true),
+      ap (λ z. length (kids_of c.share.new.arena z)) e,
     ))
 
-pub returns-then-many-gt8-clause-sums : goal.returns-then-many-gt8-clause-sums
-returns-then-many-gt8-clause-sums g c = λ view k.
+pub returns-then-not-joined-clause-sums : goal.returns-then-not-joined-clause-sums
+returns-then-not-joined-clause-sums g c = λ view k.
     let up : parent_of c.up.arena c.up.block ≡ Some c.in-Some.up = sym c.parent.ensures ∙ c.in-Some.is in
     let pair = fl_pair c.up.arena c.args.root c.args._id c.up.block c.up.invariant.apart c.in-Some.up up c.up.invariant.block _ c.child_at-front.result
     c.child_at-rear.result c.child_at-front.ensures c.child_at-rear.ensures in
-    share_sums c.up.arena c.balance.new.arena c.args.root c.args._id c.in-Some.up c.child_at-front.result c.child_at-rear.result c.up.block c.up.invariant.apart
+    share_sums c.up.arena c.share.new.arena c.args.root c.args._id c.in-Some.up c.child_at-front.result c.child_at-rear.result c.up.block
+    c.up.invariant.apart
     pair.front_up pair.rear_up pair.differ (fl_short c.up.arena c.args.root c.args._id c.up.block c.up.invariant.apart c.in-Some.up up c.child_place-place.result.0 _
     c.child_at-front.result c.child_at-rear.result c.child_place-place.ensures.place (omega arith) c.child_at-front.ensures c.child_at-rear.ensures)
-    (fl_two c.up.arena c.args.root c.args._id c.up.block c.up.invariant.apart c.in-Some.up up c.up.invariant.block) c.in_ok-balance.ensures.shares
-    (by_view g.L.Leaf.size g.L.Leaf.element view) (c.up.invariant.sums view k) (c.in_ok-balance.ensures.sums view k).others
-    (c.in_ok-balance.ensures.sums view k).front_sum (c.in_ok-balance.ensures.sums view k).rear_sum (c.in_ok-balance.ensures.sums view k).up_sum
+    (fl_two c.up.arena c.args.root c.args._id c.up.block c.up.invariant.apart c.in-Some.up up c.up.invariant.block) c.in_ok-joined.ensures.shares
+    (by_view g.L.Leaf.size g.L.Leaf.element view) (c.up.invariant.sums view k) (c.in_ok-joined.ensures.sums view k).others
+    (c.in_ok-joined.ensures.sums view k).front_sum (c.in_ok-joined.ensures.sums view k).rear_sum (c.in_ok-joined.ensures.sums view k).up_sum
 
-pub returns-then-many-gt8-clause-leaves : goal.returns-then-many-gt8-clause-leaves
-returns-then-many-gt8-clause-leaves g c = c.in_ok-balance.ensures.shares.leaves ∙ c.up.invariant.leaves
+pub returns-then-not-joined-clause-leaves : goal.returns-then-not-joined-clause-leaves
+returns-then-not-joined-clause-leaves g c = c.in_ok-joined.ensures.shares.leaves ∙ c.up.invariant.leaves
 
-pub returns-then-many-gt8-clause-leaf_values : goal.returns-then-many-gt8-clause-leaf_values
-returns-then-many-gt8-clause-leaf_values g c = λ x. c.in_ok-balance.ensures.shares.leaf_values x ∙ c.up.invariant.leaf_values x
+pub returns-then-not-joined-clause-leaf_values : goal.returns-then-not-joined-clause-leaf_values
+returns-then-not-joined-clause-leaf_values g c = λ x. c.in_ok-joined.ensures.shares.leaf_values x ∙ c.up.invariant.leaf_values x
 
-pub merge-requires-clause-forest : goal.merge-requires-clause-forest
-merge-requires-clause-forest g c = c.up.invariant.apart.shape.forest
+pub share-requires-clause-forest : goal.share-requires-clause-forest
+share-requires-clause-forest g c = c.up.invariant.apart.shape.forest
 
-pub merge-requires-clause-pair : goal.merge-requires-clause-pair
-merge-requires-clause-pair g c =
+pub share-requires-clause-pair : goal.share-requires-clause-pair
+share-requires-clause-pair g c =
     let up : parent_of c.up.arena c.up.block ≡ Some c.in-Some.up = sym c.parent.ensures ∙ c.in-Some.is in
     fl_pair c.up.arena c.args.root c.args._id c.up.block c.up.invariant.apart c.in-Some.up up c.up.invariant.block _ c.child_at-front.result c.child_at-rear.result
     c.child_at-front.ensures c.child_at-rear.ensures
 
-pub merge-requires-clause-few : goal.merge-requires-clause-few
-merge-requires-clause-few g c = omega (arith, c.count_of-in-Some.ensures.value, c.count_of-in-Some-2.ensures.value, c.if-many-gt8.false)
-
-pub merge-requires-clause-many : goal.merge-requires-clause-many
-merge-requires-clause-many g c =
+pub share-requires-clause-many : goal.share-requires-clause-many
+share-requires-clause-many g c =
     let up : parent_of c.up.arena c.up.block ≡ Some c.in-Some.up = sym c.parent.ensures ∙ c.in-Some.is in
     fl_many c.up.arena c.args.root c.args._id c.up.block c.up.invariant.apart c.in-Some.up up c.up.invariant.block _ c.child_at-front.result c.child_at-rear.result
     c.child_at-front.ensures c.child_at-rear.ensures
 
-pub merge-requires-clause-fits : goal.merge-requires-clause-fits
-merge-requires-clause-fits g c = λ view k.
+pub share-requires-clause-fits : goal.share-requires-clause-fits
+share-requires-clause-fits g c = λ view k.
     let up : parent_of c.up.arena c.up.block ≡ Some c.in-Some.up = sym c.parent.ensures ∙ c.in-Some.is in
     fl_fits c.up.arena c.args.root c.args._id c.up.block c.up.invariant.apart c.in-Some.up up c.up.invariant.block _ c.child_at-front.result c.child_at-rear.result
     c.child_at-front.ensures c.child_at-rear.ensures g.L.Leaf.size g.L.Leaf.element view (c.up.invariant.sums view k) c.up.invariant.fits
@@ -207,10 +176,11 @@ up-smaller g c =
     let up : parent_of c.up.arena c.up.block ≡ Some c.in-Some.up = sym c.parent.ensures ∙ c.in-Some.is in
     let pair = fl_pair c.up.arena c.args.root c.args._id c.up.block c.up.invariant.apart c.in-Some.up up c.up.invariant.block _ c.child_at-front.result
     c.child_at-rear.result c.child_at-front.ensures c.child_at-rear.ensures in
-    let h = share_up_high c.up.arena c.merge.new.arena c.args.root c.args._id c.in-Some.up c.child_at-front.result c.child_at-rear.result c.up.block c.up.invariant.apart
+    let h = share_up_high c.up.arena c.share.new.arena c.args.root c.args._id c.in-Some.up c.child_at-front.result c.child_at-rear.result c.up.block
+    c.up.invariant.apart
     pair.front_up pair.rear_up pair.differ (fl_short c.up.arena c.args.root c.args._id c.up.block c.up.invariant.apart c.in-Some.up up c.child_place-place.result.0 _
     c.child_at-front.result c.child_at-rear.result c.child_place-place.ensures.place (omega arith) c.child_at-front.ensures c.child_at-rear.ensures)
-    (fl_two c.up.arena c.args.root c.args._id c.up.block c.up.invariant.apart c.in-Some.up up c.up.invariant.block) c.in_ok-merge.ensures.shares in
+    (fl_two c.up.arena c.args.root c.args._id c.up.block c.up.invariant.apart c.in-Some.up up c.up.invariant.block) c.in_ok-joined.ensures.shares in
     let one : height_of c.up.arena c.in-Some.up ≡ height_of c.up.arena c.up.block + 1 = c.up.invariant.apart.shape.heights c.up.block c.in-Some.up up in
     let low = c.up.invariant.apart.shape.low c.in-Some.up
     (block_live (entry c.up.arena c.in-Some.up) (fl_up_block c.up.arena c.args.root c.args._id c.up.block c.up.invariant.apart c.in-Some.up up)) in
@@ -221,29 +191,41 @@ up-preserved g c =
     let up : parent_of c.up.arena c.up.block ≡ Some c.in-Some.up = sym c.parent.ensures ∙ c.in-Some.is in
     let pair = fl_pair c.up.arena c.args.root c.args._id c.up.block c.up.invariant.apart c.in-Some.up up c.up.invariant.block _ c.child_at-front.result
     c.child_at-rear.result c.child_at-front.ensures c.child_at-rear.ensures in
-    let r = c.in_ok-merge.ensures.shares in
+    let r = c.in_ok-joined.ensures.shares in
     record {
-      apart = share_apart c.up.arena c.merge.new.arena c.args.root c.args._id c.in-Some.up c.child_at-front.result c.child_at-rear.result c.up.block c.up.invariant.apart
+      apart = share_apart c.up.arena c.share.new.arena c.args.root c.args._id c.in-Some.up c.child_at-front.result c.child_at-rear.result c.up.block
+          c.up.invariant.apart
           pair.front_up pair.rear_up pair.differ (fl_short c.up.arena c.args.root c.args._id c.up.block c.up.invariant.apart c.in-Some.up up c.child_place-place.result.0 _
           c.child_at-front.result c.child_at-rear.result c.child_place-place.ensures.place (omega arith) c.child_at-front.ensures c.child_at-rear.ensures)
-          (fl_two c.up.arena c.args.root c.args._id c.up.block c.up.invariant.apart c.in-Some.up up c.up.invariant.block) c.in_ok-merge.ensures.shares;
-      block = share_block c.up.arena c.merge.new.arena c.args.root c.args._id c.in-Some.up c.child_at-front.result c.child_at-rear.result c.up.block c.up.invariant.apart
+          (fl_two c.up.arena c.args.root c.args._id c.up.block c.up.invariant.apart c.in-Some.up up c.up.invariant.block)
+          c.in_ok-joined.ensures.shares;
+      block = share_block c.up.arena c.share.new.arena c.args.root c.args._id c.in-Some.up c.child_at-front.result c.child_at-rear.result c.up.block
+          c.up.invariant.apart
           pair.front_up pair.rear_up pair.differ (fl_short c.up.arena c.args.root c.args._id c.up.block c.up.invariant.apart c.in-Some.up up c.child_place-place.result.0 _
           c.child_at-front.result c.child_at-rear.result c.child_place-place.ensures.place (omega arith) c.child_at-front.ensures c.child_at-rear.ensures)
-          (fl_two c.up.arena c.args.root c.args._id c.up.block c.up.invariant.apart c.in-Some.up up c.up.invariant.block) c.in_ok-merge.ensures.shares;
-      sums = λ view k. share_sums c.up.arena c.merge.new.arena c.args.root c.args._id c.in-Some.up c.child_at-front.result c.child_at-rear.result c.up.block
+          (fl_two c.up.arena c.args.root c.args._id c.up.block c.up.invariant.apart c.in-Some.up up c.up.invariant.block)
+          c.in_ok-joined.ensures.shares;
+      sums = λ view k. share_sums c.up.arena c.share.new.arena c.args.root c.args._id c.in-Some.up c.child_at-front.result c.child_at-rear.result
+          c.up.block
           c.up.invariant.apart pair.front_up pair.rear_up pair.differ
           (fl_short c.up.arena c.args.root c.args._id c.up.block c.up.invariant.apart c.in-Some.up up c.child_place-place.result.0 _ c.child_at-front.result
           c.child_at-rear.result c.child_place-place.ensures.place (omega arith) c.child_at-front.ensures c.child_at-rear.ensures)
-          (fl_two c.up.arena c.args.root c.args._id c.up.block c.up.invariant.apart c.in-Some.up up c.up.invariant.block) c.in_ok-merge.ensures.shares
-          (by_view g.L.Leaf.size g.L.Leaf.element view) (c.up.invariant.sums view k) (c.in_ok-merge.ensures.sums view k).others
-          (c.in_ok-merge.ensures.sums view k).front_sum (c.in_ok-merge.ensures.sums view k).rear_sum (c.in_ok-merge.ensures.sums view k).up_sum;
-      floors = c.in_ok-merge.ensures.floors;
-      fits = omega (arith, leaf_total (by_size g.L.Leaf.size) c.up.arena c.merge.new.arena c.up.invariant.apart.shape.forest r.leaves r.leaf_values, c.up.invariant.fits);
-      high = share_high c.up.arena c.merge.new.arena c.args.root c.args._id c.in-Some.up c.child_at-front.result c.child_at-rear.result c.up.block c.up.invariant.apart
+          (fl_two c.up.arena c.args.root c.args._id c.up.block c.up.invariant.apart c.in-Some.up up c.up.invariant.block)
+          c.in_ok-joined.ensures.shares
+          (by_view g.L.Leaf.size g.L.Leaf.element view) (c.up.invariant.sums view k) (c.in_ok-joined.ensures.sums view k).others
+          (c.in_ok-joined.ensures.sums view k).front_sum (c.in_ok-joined.ensures.sums view k).rear_sum (c.in_ok-joined.ensures.sums view k).up_sum;
+      floors = c.in_ok-joined.ensures.floors;
+      fits = omega (
+        arith,
+        leaf_total (by_size g.L.Leaf.size) c.up.arena c.share.new.arena c.up.invariant.apart.shape.forest r.leaves r.leaf_values,
+        c.up.invariant.fits,
+      );
+      high = share_high c.up.arena c.share.new.arena c.args.root c.args._id c.in-Some.up c.child_at-front.result c.child_at-rear.result c.up.block
+          c.up.invariant.apart
           pair.front_up pair.rear_up pair.differ (fl_short c.up.arena c.args.root c.args._id c.up.block c.up.invariant.apart c.in-Some.up up c.child_place-place.result.0 _
           c.child_at-front.result c.child_at-rear.result c.child_place-place.ensures.place (omega arith) c.child_at-front.ensures c.child_at-rear.ensures)
-          (fl_two c.up.arena c.args.root c.args._id c.up.block c.up.invariant.apart c.in-Some.up up c.up.invariant.block) c.in_ok-merge.ensures.shares
+          (fl_two c.up.arena c.args.root c.args._id c.up.block c.up.invariant.apart c.in-Some.up up c.up.invariant.block)
+          c.in_ok-joined.ensures.shares
           ∙ c.up.invariant.high;
       leaves = r.leaves ∙ c.up.invariant.leaves;
       leaf_values = λ x. r.leaf_values x ∙ c.up.invariant.leaf_values x;
@@ -270,18 +252,19 @@ returns-then-count-eq1-clause-low g c =
     let block : IsSome (block_value c.up.arena c.drop_root.result) = subst (λ (z : ℕ). IsSome (block_value c.up.arena z)) is_top c.up.invariant.block in
     omega (arith, dropped_low c.up.arena c.drop_root.new.arena c.args.root c.args._id c.drop_root.result apart filled block drops, c.up.invariant.high)
 
-pub returns-then-many-gt8-clause-low : goal.returns-then-many-gt8-clause-low
-returns-then-many-gt8-clause-low g c =
+pub returns-then-not-joined-clause-low : goal.returns-then-not-joined-clause-low
+returns-then-not-joined-clause-low g c =
     let up : parent_of c.up.arena c.up.block ≡ Some c.in-Some.up = sym c.parent.ensures ∙ c.in-Some.is in
     let pair = fl_pair c.up.arena c.args.root c.args._id c.up.block c.up.invariant.apart c.in-Some.up up c.up.invariant.block _ c.child_at-front.result
     c.child_at-rear.result c.child_at-front.ensures c.child_at-rear.ensures in
     omega (
       arith,
-      share_high c.up.arena c.balance.new.arena c.args.root c.args._id c.in-Some.up c.child_at-front.result c.child_at-rear.result c.up.block
+      share_high c.up.arena c.share.new.arena c.args.root c.args._id c.in-Some.up c.child_at-front.result c.child_at-rear.result c.up.block
           c.up.invariant.apart pair.front_up pair.rear_up pair.differ
           (fl_short c.up.arena c.args.root c.args._id c.up.block c.up.invariant.apart c.in-Some.up up c.child_place-place.result.0 _ c.child_at-front.result
           c.child_at-rear.result c.child_place-place.ensures.place (omega arith) c.child_at-front.ensures c.child_at-rear.ensures)
-          (fl_two c.up.arena c.args.root c.args._id c.up.block c.up.invariant.apart c.in-Some.up up c.up.invariant.block) c.in_ok-balance.ensures.shares,
+          (fl_two c.up.arena c.args.root c.args._id c.up.block c.up.invariant.apart c.in-Some.up up c.up.invariant.block)
+          c.in_ok-joined.ensures.shares,
       c.up.invariant.high,
     )
 
@@ -313,11 +296,8 @@ returns-then-count_of-ge4-clause-leaves g c = c.up.invariant.leaves
 pub returns-then-count_of-ge4-clause-leaf_values : goal.returns-then-count_of-ge4-clause-leaf_values
 returns-then-count_of-ge4-clause-leaf_values g c = c.up.invariant.leaf_values
 
-pub balance-requires-clause-floors : goal.balance-requires-clause-floors
-balance-requires-clause-floors g c = c.up.invariant.floors
-
-pub merge-requires-clause-floors : goal.merge-requires-clause-floors
-merge-requires-clause-floors g c = c.up.invariant.floors
+pub share-requires-clause-floors : goal.share-requires-clause-floors
+share-requires-clause-floors g c = c.up.invariant.floors
 
 pub returns-clause-sums : goal.returns-clause-sums
 returns-clause-sums g c = c.up.invariant.sums
@@ -337,17 +317,14 @@ parent-requires g c = block_live (entry c.up.arena c.up.block) c.up.invariant.bl
 pub count_of-requires : goal.count_of-requires
 count_of-requires g c = c.up.invariant.block
 
-pub balance-requires-clause-sums : goal.balance-requires-clause-sums
-balance-requires-clause-sums g c = c.up.invariant.sums
+pub share-requires-clause-sums : goal.share-requires-clause-sums
+share-requires-clause-sums g c = c.up.invariant.sums
 
-pub merge-requires-clause-sums : goal.merge-requires-clause-sums
-merge-requires-clause-sums g c = c.up.invariant.sums
+pub share-requires-clause-place : goal.share-requires-clause-place
+share-requires-clause-place g c = c.child_at-front.ensures
 
-pub merge-requires-clause-place : goal.merge-requires-clause-place
-merge-requires-clause-place g c = c.child_at-front.ensures
-
-pub merge-requires-clause-next : goal.merge-requires-clause-next
-merge-requires-clause-next g c = c.child_at-rear.ensures
+pub share-requires-clause-next : goal.share-requires-clause-next
+share-requires-clause-next g c = c.child_at-rear.ensures
 
 pub drop_root-requires-clause-forest : goal.drop_root-requires-clause-forest
 drop_root-requires-clause-forest g c = c.up.invariant.apart.shape.forest
@@ -355,5 +332,13 @@ drop_root-requires-clause-forest g c = c.up.invariant.apart.shape.forest
 pub drop_root-requires-clause-one : goal.drop_root-requires-clause-one
 drop_root-requires-clause-one g c = omega (arith, c.child_place-place.ensures.count, c.if-count-eq1.true)
 
-pub returns-then-many-gt8-clause-floors : goal.returns-then-many-gt8-clause-floors
-returns-then-many-gt8-clause-floors g c = c.in_ok-balance.ensures.floors
+pub returns-then-not-joined-clause-floors : goal.returns-then-not-joined-clause-floors
+returns-then-not-joined-clause-floors g c = c.in_ok-joined.ensures.floors
+
+pub overflow_add-at : goal.overflow_add-at
+overflow_add-at g c =
+    omega (
+      arith,
+      slice_get_within (kids_of c.up.arena c.in-Some.up) c.child_place-place.result.0 c.up.block c.child_place-place.ensures.place,
+      c.child_place-place.ensures.count,
+    )

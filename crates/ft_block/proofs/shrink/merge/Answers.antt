@@ -140,3 +140,16 @@ regroup-requires-clause-enough g c = omega (arith, c.count_of.ensures.value, c.c
 
 pub rebuild-requires-clause-forest : goal.rebuild-requires-clause-forest
 rebuild-requires-clause-forest g c = c.drop_block.ensures.sound
+
+pub regroup-requires-clause-room : goal.regroup-requires-clause-room
+regroup-requires-clause-room g c = omega (arith, c.count_of.ensures.value, c.count_of-2.ensures.value)
+
+pub overflow_add-many : goal.overflow_add-many
+overflow_add-many g c = omega (arith, c.count_of.ensures.few, c.count_of-2.ensures.few)
+
+pub overflow_add-place : goal.overflow_add-place
+overflow_add-place g c = omega (
+  arith,
+  slice_get_within (kids_of c.args.arena.now c.args.up) (c.args.place + 1) c.args.rear c.requires.next,
+  c.requires.forest.few c.args.up,
+)

@@ -1,7 +1,8 @@
-use Rattle.std.proofs.Common.{◌≡◌, ◌≢◌, ◌∷◌, ℕ, List, Option, Some, IsSome, length, ap, sym, subst, ◌∙◌, arith}
+use Rattle.std.proofs.Common.{◌≡◌, ◌≢◌, ◌∷◌, ℕ, List, Option, Some, IsSome, length, ap, sym, subst, ◌∙◌, arith, None}
+use Rattle.std.specs.Prelude.{slice_index_or}
 use Rattle.std.proofs.lemmas.Result.{on_ok_weaker}
 use Rattle.ft_arena.specs.Ids.{times, insert_after, put_after, without, first, after}
-use Rattle.ft_arena.specs.Forest.{Forest, IsPlace, leaf_value}
+use Rattle.ft_arena.specs.Forest.{Forest, IsPlace, leaf_value, Entry, leaf_of_entry}
 use Rattle.ft_arena.proofs.IdLemmas.{times-without_same}
 use Rattle.ft_shape.specs.declared.headed.Headed.{Headed}
 use Rattle.ft_block.specs.declared.summaries.Summary.{Summary}
@@ -182,3 +183,19 @@ returns-clause-moves g c =
           ∙ ap (λ (o : Option ℕ). put_after (without c.args.arena.now.leaves c.args.id) o c.args.id) (sym c.in-None.is);
       values = λ x. h.1 x ∙ stay x ∙ c.in_ok-root.ensures.leaf_values x;
     }) (on_ok_both _ _ c.add_before.result c.add_before.ensures.leaves c.add_before.ensures.leaf_values)
+
+pub nodes_needed-needed-requires : goal.nodes_needed-needed-requires
+nodes_needed-needed-requires g c = c.requires.tree
+
+pub move_after-requires-in-None-clause-place : goal.move_after-requires-in-None-clause-place
+move_after-requires-in-None-clause-place g c = tt
+
+pub move_after-requires-in-None-clause-differ : goal.move_after-requires-in-None-clause-differ
+move_after-requires-in-None-clause-differ g c = λ e. cc e
+
+pub next-requires : goal.next-requires
+next-requires g c =
+    let live = subst (λ (s : Forest g.row.L.Denot (Headed Summary)). IsSome (leaf_value s c.args.id)) (sym c.reserve.ensures.kept)
+    c.in_ok-root.ensures.apart.live in
+    subst (λ (ns : List (Option (Entry g.row.L.Denot (Headed Summary)))). IsSome (leaf_of_entry (slice_index_or ns c.args.id None)))
+    (sym c.move_after-in-None.ensures.nodes) live
