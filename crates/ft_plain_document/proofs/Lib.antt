@@ -1,4 +1,5 @@
 pub mod IntervalTaken
 pub mod RenamedNames
 pub mod ShownStages
+mod OwnAnswers
 mod OwnSteps

@@ -1,8 +1,9 @@
 -- What a document answers to the client's own sub-operations. Of the document after OutOfMemory the answers say nothing.
-use Rattle.std.specs.Prelude.{◌≡◌, ⊤, ℕ, List, ◌++◌, Result, Ok, Err, codes}
+use Rattle.std.specs.Prelude.{◌≡◌, ⊤, ℕ, List, [], ◌∷◌, ◌++◌, Result, Ok, Err, codes}
 use Rattle.ft_msg.specs.declared.faults.EditFault.{EditFault}
 use Rattle.ft_op.specs.Document.{Document}
 use Rattle.ft_op.specs.Intervals.{NamedElements}
+use Rattle.ft_op.specs.Operation.{SubOperation}
 use Rattle.ft_op.specs.Stages.{Stage}
 use Rattle.ft_msg.specs.Client.{EditResult}
 use Rattle.ft_msg.specs.FaultTexts.{edit_fault_text}
@@ -20,6 +21,12 @@ abbrev pub AnswersSubOperation : EditResult → Document → Document → Result
 AnswersSubOperation step old new (Ok names) = step ≡ Ok (new, names)
 AnswersSubOperation step old new (Err OutOfMemory) = ⊤
 AnswersSubOperation step old new (Err (Refused fault)) = (new ≡ old) × (step ≡ Err fault)
+
+-- a sub-operation is taken: the step makes the new document and names elements, and its stage stands behind those before
+pub record TakesStage (step : EditResult) (k : ℕ) (sub : SubOperation) (new : Document) (before after : List Stage) : Type 0 where
+  pub names : NamedElements
+  pub takes : step ≡ Ok (new, names)
+  pub adds : let here : Stage = record { stage = k; sub_operation = sub; names = names } in after ≡ before ++ (here ∷ [])
 
 -- what the sub-operations of an edit make: a document with their stages, or the refusal of the first that can't be taken
 abbrev pub StepsResult : Type 0

@@ -4,6 +4,7 @@
 #![tactic(auto)]
 
 mod documents;
+mod moved;
 mod renamings;
 mod stages;
 

@@ -1,11 +1,12 @@
 //! Pending stages and pending edits.
 
 ghost use Rattle.std.specs.Prelude.{◌≡◌, [], ◌∷◌, IfOk, OnOk, map};
-ghost use Rattle.ft_op.specs.Operation.{OnGrid, OnText, sub_operations};
+ghost use Rattle.ft_op.specs.Operation.{OnGrid, OnIntervals, OnText, sub_operations};
 ghost use Rattle.ft_msg.specs.Acknowledgement.{renamed_stage};
 ghost use Rattle.ft_plain_document.specs.Renamed.{renaming_of};
 ghost use Rattle.ft_plain_document.specs.SubOperations.{sub_operation_of};
 
+use crate::moved::{alone, push_behind};
 use crate::renamings::Renaming;
 use ft_base::{Datum, List, OutOfMemory};
 use ft_op::{BaseOp, CellOp, ChannelOp, GridOp, TextOp};
@@ -44,20 +45,35 @@ pub fn sub_operations(alloc: Global, op: &ChannelOp) -> Result<VecDeque<SubOp>, 
 {
     match op {
         ChannelOp::Text(TextOp::Group(ops)) => text_group(alloc, ops.as_slice()),
-        ChannelOp::Text(TextOp::One(op)) => one(alloc, SubOp::Text(op.copy()?)),
-        ChannelOp::Text(op) => one(alloc, SubOp::Intervals(op.copy()?)),
-        ChannelOp::Grid(GridOp::One(op)) => one(alloc, SubOp::Grid(op.copy()?)),
+        ChannelOp::Text(TextOp::One(op)) => one_of_text(alloc, op),
+        ChannelOp::Text(op) => one_of_intervals(alloc, op),
+        ChannelOp::Grid(GridOp::One(op)) => one_of_grid(alloc, op),
         ChannelOp::Grid(GridOp::Group(ops)) => grid_group(alloc, ops.as_slice()),
     }
 }
 
-/// One sub-operation alone.
-pub fn one(alloc: Global, op: SubOp) -> Result<VecDeque<SubOp>, OutOfMemory>
-    ensures { IfOk result (λ v. v.items ≡ op ∷ []) }
+// A sub-operation of the elements of the text alone.
+fn one_of_text(alloc: Global, op: &BaseOp) -> Result<VecDeque<SubOp>, OutOfMemory>
+    ensures { IfOk result (λ v. map sub_operation_of v.items ≡ OnText op.now ∷ []) }
 {
-    let mut ops = VecDeque::new(alloc);
-    ops.push_back(op)?;
-    Ok(ops)
+    let op = op.copy()?;
+    alone(alloc, SubOp::Text(op))
+}
+
+// A sub-operation of the intervals alone.
+fn one_of_intervals(alloc: Global, op: &TextOp) -> Result<VecDeque<SubOp>, OutOfMemory>
+    ensures { IfOk result (λ v. map sub_operation_of v.items ≡ OnIntervals op.now ∷ []) }
+{
+    let op = op.copy()?;
+    alone(alloc, SubOp::Intervals(op))
+}
+
+// A sub-operation of the grid alone.
+fn one_of_grid(alloc: Global, op: &CellOp) -> Result<VecDeque<SubOp>, OutOfMemory>
+    ensures { IfOk result (λ v. map sub_operation_of v.items ≡ OnGrid op.now ∷ []) }
+{
+    let op = op.copy()?;
+    alone(alloc, SubOp::Grid(op))
 }
 
 // The sub-operations of a group of the text.
@@ -66,7 +82,7 @@ fn text_group(alloc: Global, group: &[BaseOp]) -> Result<VecDeque<SubOp>, OutOfM
 {
     let mut ops = VecDeque::new(alloc);
     for op in group {
-        ops.push_back(SubOp::Text(op.copy()?))?;
+        push_behind(&mut ops, SubOp::Text(op.copy()?))?;
     }
     Ok(ops)
 }
@@ -77,7 +93,7 @@ fn grid_group(alloc: Global, group: &[CellOp]) -> Result<VecDeque<SubOp>, OutOfM
 {
     let mut ops = VecDeque::new(alloc);
     for op in group {
-        ops.push_back(SubOp::Grid(op.copy()?))?;
+        push_behind(&mut ops, SubOp::Grid(op.copy()?))?;
     }
     Ok(ops)
 }

@@ -37,7 +37,7 @@ impl fmt::Display for NotTaken {
 
     fn fmt<W: fmt::Write>(&self, f: &mut fmt::Formatter<W>) -> fmt::Result {
         match *self {
-            NotTaken::OutOfMemory => write!(f, "OutOfMemory"),
+            NotTaken::OutOfMemory => f.write_str("OutOfMemory"),
             NotTaken::Refused(fault) => write!(f, "{fault}"),
         }
     }

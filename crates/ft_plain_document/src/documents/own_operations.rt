@@ -1,13 +1,14 @@
 //! What the client's own operations make of a document.
 
-ghost use Rattle.std.specs.Prelude.{◌≡◌, ◌≤◌, ◌++◌, IfOk, length, map};
+ghost use Rattle.std.specs.Prelude.{◌≡◌, ◌≤◌, ◌++◌, [], Err, IfErr, IfOk, Ok, OnOk, length, map};
 ghost use Rattle.ft_op.specs.Operation.{sub_operations};
 ghost use Rattle.ft_msg.specs.Client.{local_sub_operation, local_sub_operations};
-ghost use Rattle.ft_plain_document.specs.OwnEdits.{AnswersSteps, AnswersSubOperation, LeavesRefused};
+ghost use Rattle.ft_plain_document.specs.OwnEdits.{AnswersSteps, AnswersSubOperation, LeavesRefused, TakesStage};
 ghost use Rattle.ft_plain_document.specs.SubOperations.{sub_operation_of};
 
 use crate::documents::PlainDocument;
 use crate::documents::own_edits::NotTaken;
+use crate::moved::{both, fill_with, given, made_beside};
 use crate::stages::{PlainStage, PlainStages, SubOp, sub_operations};
 use ft_base::OutOfMemory;
 use ft_op::ChannelOp;
@@ -29,10 +30,22 @@ impl PlainDocument {
         if ops.len() <= 1 {
             return self.edit_all(pending, first, ops);
         }
-        let mut copy = self.copy()?;
-        let stages = copy.edit_all(pending, first, ops)?;
-        *self = copy;
-        Ok(stages)
+        self.edit_copy(pending, first, ops)
+    }
+
+    // Takes these sub-operations in order, first in a copy: a refusal leaves the document as it was.
+    fn edit_copy(
+        &mut self,
+        pending: &[PlainStage],
+        first: u64,
+        ops: VecDeque<SubOp>,
+    ) -> Result<PlainStages, NotTaken>
+        ensures answers { AnswersSteps (local_sub_operations self.old pending.now first (map sub_operation_of ops.items)) self.new result }
+        ensures refused { LeavesRefused self.old self.new result }
+    {
+        let (mut copy, ops) = made_beside(self.copy(), ops)?;
+        let stages = copy.edit_all(pending, first, ops);
+        fill_with(self, copy, stages)
     }
 
     // Takes these sub-operations in order.
@@ -46,13 +59,48 @@ impl PlainDocument {
         ensures refused { length ops.items ≤ 1 → LeavesRefused self.old self.new result }
     {
         let mut stages = PlainStages::new(self.alloc());
+        let done = self.take_all(pending, first, &mut ops, &mut stages);
+        given(done, stages)
+    }
+
+    // Takes these sub-operations in order as stages from `first` on, of which there are none so far.
+    fn take_all(
+        &mut self,
+        pending: &[PlainStage],
+        first: u64,
+        ops: &mut VecDeque<SubOp>,
+        stages: &mut PlainStages,
+    ) -> Result<(), NotTaken>
+        requires { stages.old ≡ [] }
+        ensures taken { OnOk result (local_sub_operations self.old pending.now first (map sub_operation_of ops.old.items) ≡ Ok (self.new, stages.new)) }
+        ensures answers { IfErr result (λ why. AnswersSteps (local_sub_operations self.old pending.now first (map sub_operation_of ops.old.items)) self.new (Err why)) }
+        ensures refused { length ops.old.items ≤ 1 → IfErr result (λ why. LeavesRefused self.old self.new (Err why)) }
+    {
         let mut stage = first;
         while let Some(op) = ops.pop_front() {
-            let names = self.edit_one(pending, stages.as_slice(), stage, &op)?;
-            stages.push(PlainStage::new(stage, op, names))?;
+            self.take_one(pending, stages, stage, op)?;
             stage = stage.checked_add(1).ok_or(OutOfMemory)?;
         }
-        Ok(stages)
+        Ok(())
+    }
+
+    // Takes one sub-operation as a stage behind these, after these pending ones.
+    fn take_one(
+        &mut self,
+        pending: &[PlainStage],
+        stages: &mut PlainStages,
+        stage: u64,
+        op: SubOp,
+    ) -> Result<(), NotTaken>
+        ensures taken { OnOk result (TakesStage (local_sub_operation self.old (pending.now ++ stages.old) stage (sub_operation_of op)) stage (sub_operation_of op)
+            self.new stages.old stages.new) }
+        ensures refused { IfErr result (λ why. AnswersSubOperation (local_sub_operation self.old (pending.now ++ stages.old) stage (sub_operation_of op))
+            self.old self.new (Err why)) }
+    {
+        let names = self.edit_one(pending, stages.as_slice(), stage, &op);
+        let (names, op) = made_beside(names, op)?;
+        stages.push(PlainStage::new(stage, op, names))?;
+        Ok(())
     }
 
     // Takes one sub-operation, after these pending stages and those of its own edit before it.
@@ -77,12 +125,16 @@ impl PlainDocument {
     fn copy(&self) -> Result<PlainDocument, OutOfMemory>
         ensures { IfOk result (λ copy. copy ≡ self.now) }
     {
+        let texts = both(self.text.copy(), self.intervals.copy());
+        let units = both(self.rows.copy(), self.cols.copy());
+        let grid = both(units, self.cells.copy());
+        let ((text, intervals), ((rows, cols), cells)) = both(texts, grid)?;
         Ok(PlainDocument {
-            text: self.text.copy()?,
-            rows: self.rows.copy()?,
-            cols: self.cols.copy()?,
-            intervals: self.intervals.copy()?,
-            cells: self.cells.copy()?,
+            text,
+            rows,
+            cols,
+            intervals,
+            cells,
             skipped: self.skipped,
             other: self.other,
             number: self.number,

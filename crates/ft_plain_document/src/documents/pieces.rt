@@ -1,6 +1,6 @@
 //! How pending stages are sent again after a reconnection.
 
-ghost use Rattle.std.specs.Prelude.{◌≡◌, ℕ, ◌↔◌, ◌-◌, ◌<◌, ◌^◌, ◌&&◌, [], ◌∷◌, IfOk, IsTrue, cond, length, map, nat_eq};
+ghost use Rattle.std.specs.Prelude.{◌≡◌, ℕ, ◌↔◌, ◌-◌, ◌<◌, ◌^◌, ◌&&◌, [], ◌∷◌, Some, IfOk, IsTrue, cond, length, map, nat_eq};
 ghost use Rattle.std.specs.List.{list_any};
 ghost use Rattle.ft_props.specs.Element.{has_id, seen};
 ghost use Rattle.ft_props.specs.Steps.{is_annotated_by, is_removed_by, lowered_runs, marked_runs, stage_position};
@@ -9,8 +9,9 @@ ghost use Rattle.ft_op.specs.Pieces.{ends_in, grid_pieces, interval_piece, is_na
 ghost use Rattle.ft_plain_document.specs.SubOperations.{sub_operation_of};
 
 use crate::documents::PlainDocument;
-use crate::stages::{PlainStage, SubOp, one};
-use ft_base::{Datum, OutOfMemory};
+use crate::moved::{alone, both, push_behind};
+use crate::stages::{PlainStage, SubOp};
+use ft_base::{Datum, OutOfMemory, Text};
 use ft_json::ValText;
 use ft_op::{BaseOp, CellOp, Ends, Seg, Target, TextOp};
 use ft_plain_lists::{
@@ -32,7 +33,7 @@ impl PlainDocument {
                 let items = self.text.as_slice();
                 let names = stage.names().settled(items, stage.stage());
                 let piece = interval_piece(items, stage.stage(), &names, op)?;
-                one(self.alloc(), SubOp::Intervals(piece))
+                alone(self.alloc(), SubOp::Intervals(piece))
             }
             SubOp::Grid(op) => self.grid_pieces(stage.stage(), stage.names(), op),
         }
@@ -76,7 +77,7 @@ impl PlainDocument {
         {
             return Ok(VecDeque::new(self.alloc()));
         }
-        one(
+        alone(
             self.alloc(),
             SubOp::Grid(CellOp::Set {
                 row: position_of_named(rows, Before(stage), names.first()),
@@ -117,14 +118,16 @@ fn segment_piece(
     if is_empty(seg) {
         return Ok(VecDeque::new(alloc));
     }
-    one(
-        alloc,
-        SubOp::Text(BaseOp::Insert {
-            pos: stage_position(items, stage),
-            seg: seg.copy()?,
-            props: props.copy()?,
-        }),
-    )
+    let insertion = insertion_of(stage_position(items, stage), seg, props)?;
+    alone(alloc, SubOp::Text(insertion))
+}
+
+// The insertion of the segment with these properties after `pos` elements.
+fn insertion_of(pos: u64, seg: &Seg, props: &PropSet) -> Result<BaseOp, OutOfMemory>
+    ensures { IfOk result (λ op. op ≡ BaseOp.Insert pos seg.now props.now) }
+{
+    let (seg, props) = both(seg.copy(), props.copy())?;
+    Ok(BaseOp::Insert { pos, seg, props })
 }
 
 // Whether the segment puts nothing in.
@@ -156,10 +159,11 @@ fn removals_of(alloc: Global, runs: &[(u64, u64)]) -> Result<VecDeque<SubOp>, Ou
 {
     let mut ops = VecDeque::new(alloc);
     for (pos1, pos2) in runs {
-        ops.push_back(SubOp::Text(BaseOp::Remove {
+        let removal = BaseOp::Remove {
             pos1: *pos1,
             pos2: *pos2,
-        }))?;
+        };
+        push_behind(&mut ops, SubOp::Text(removal))?;
     }
     Ok(ops)
 }
@@ -187,11 +191,12 @@ fn annotations_of(
 {
     let mut ops = VecDeque::new(alloc);
     for (pos1, pos2) in runs {
-        ops.push_back(SubOp::Text(BaseOp::Annotate {
+        let annotation = BaseOp::Annotate {
             pos1: *pos1,
             pos2: *pos2,
             changes: changes.copy()?,
-        }))?;
+        };
+        push_behind(&mut ops, SubOp::Text(annotation))?;
     }
     Ok(ops)
 }
@@ -209,7 +214,7 @@ fn insertion_piece(
     if count == 0 {
         return Ok(VecDeque::new(alloc));
     }
-    one(
+    alone(
         alloc,
         SubOp::Grid(CellOp::SpliceIn {
             target,
@@ -244,11 +249,12 @@ fn splices_of(
 {
     let mut ops = VecDeque::new(alloc);
     for (pos1, pos2) in runs {
-        ops.push_back(SubOp::Grid(CellOp::SpliceOut {
+        let removal = CellOp::SpliceOut {
             target,
             pos1: *pos1,
             pos2: *pos2,
-        }))?;
+        };
+        push_behind(&mut ops, SubOp::Grid(removal))?;
     }
     Ok(ops)
 }
@@ -269,28 +275,56 @@ fn interval_piece(
             id,
             props,
             ..
-        } => Ok(TextOp::IntervalAdd {
-            label: label.copy()?,
-            id: id.copy()?,
-            ends: ends_in(items, stage, names),
-            props: props.copy()?,
-        }),
+        } => interval_addition(label, id, ends_in(items, stage, names), props),
         TextOp::IntervalChange {
             label,
             id,
             ends: Some(_),
             props,
-        } => Ok(TextOp::IntervalChange {
-            label: label.copy()?,
-            id: id.copy()?,
-            ends: Some(ends_in(items, stage, names)),
-            props: props.copy()?,
-        }),
+        } => interval_change(label, id, ends_in(items, stage, names), props),
         TextOp::IntervalChange { ends: None, .. }
         | TextOp::IntervalDelete { .. }
         | TextOp::One(_)
         | TextOp::Group(_) => op.copy(),
     }
+}
+
+// The operation that adds an interval with these parts.
+fn interval_addition(
+    label: &Text,
+    id: &Text,
+    ends: Ends,
+    props: &PropSet,
+) -> Result<TextOp, OutOfMemory>
+    ensures { IfOk result (λ op. op ≡ TextOp.IntervalAdd label.now id.now ends props.now) }
+{
+    let texts = both(label.copy(), id.copy());
+    let ((label, id), props) = both(texts, props.copy())?;
+    Ok(TextOp::IntervalAdd {
+        label,
+        id,
+        ends,
+        props,
+    })
+}
+
+// The operation that gives an interval these ends, and sets properties of it.
+fn interval_change(
+    label: &Text,
+    id: &Text,
+    ends: Ends,
+    props: &PropSet,
+) -> Result<TextOp, OutOfMemory>
+    ensures { IfOk result (λ op. op ≡ TextOp.IntervalChange label.now id.now (Some ends) props.now) }
+{
+    let texts = both(label.copy(), id.copy());
+    let ((label, id), props) = both(texts, props.copy())?;
+    Ok(TextOp::IntervalChange {
+        label,
+        id,
+        ends: Some(ends),
+        props,
+    })
 }
 
 // The elements as numbers at the stage.

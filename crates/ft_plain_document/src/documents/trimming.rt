@@ -4,6 +4,7 @@ ghost use Rattle.std.specs.Prelude.{◌≡◌, IfOk};
 ghost use Rattle.ft_msg.specs.Summary.{trim};
 
 use crate::documents::PlainDocument;
+use crate::moved::both;
 use ft_base::OutOfMemory;
 
 impl PlainDocument {
@@ -13,14 +14,19 @@ impl PlainDocument {
         ensures { IfOk result (λ doc. doc ≡ trim self.now) }
     {
         let min = self.minimum;
+        let texts = both(self.text.trimmed(min), self.intervals.copy());
+        let units = both(self.rows.trimmed(min), self.cols.trimmed(min));
+        let written = self
+            .cells
+            .trimmed(self.rows.as_slice(), self.cols.as_slice());
+        let grid = both(units, written);
+        let ((text, intervals), ((rows, cols), cells)) = both(texts, grid)?;
         Ok(PlainDocument {
-            text: self.text.trimmed(min)?,
-            rows: self.rows.trimmed(min)?,
-            cols: self.cols.trimmed(min)?,
-            intervals: self.intervals.copy()?,
-            cells: self
-                .cells
-                .trimmed(self.rows.as_slice(), self.cols.as_slice())?,
+            text,
+            rows,
+            cols,
+            intervals,
+            cells,
             skipped: self.skipped,
             other: self.other,
             number: self.number,

@@ -1,10 +1,10 @@
-use Rattle.std.proofs.Common.{rules, ◌≡◌, ◌++◌, ◌∷◌, [], Ok, map, length, ◌+◌, arith, ap, sym, ◌∙◌, length-append}
+use Rattle.std.proofs.Common.{rules, ◌≡◌, ◌++◌, ◌∷◌, [], map, length, ◌+◌, arith, ap, sym, ◌∙◌, length-append}
 use Rattle.ft_op.specs.Stages.{Stage}
-use Rattle.ft_msg.specs.Client.{local_sub_operation, local_sub_operations}
+use Rattle.ft_msg.specs.Client.{local_sub_operations}
 use Rattle.ft_plain_document.specs.OwnEdits.{with_stages}
 use Rattle.ft_plain_document.specs.SubOperations.{sub_operation_of}
 use Rattle.ft_plain_document.proofs.OwnSteps.{first_taken}
-use Rattle.ft_plain_document.proofs.documents.PlainDocument.edit_all.Goals as goal
+use Rattle.ft_plain_document.proofs.documents.PlainDocument.take_all.Goals as goal
 
 pub loop-op-preserved : goal.loop-op-preserved
 loop-op-preserved c =
@@ -12,15 +12,15 @@ loop-op-preserved c =
     let pending = c.args.pending.now in
     let op = c.in-Some.op in
     let rest = c.pop_front.new.self.items in
-    let new = c.edit_one.new.self in
-    let names = c.in_ok-names.names in
+    let new = c.take_one.new.self in
+    let taken = c.in_ok-take_one.ensures.taken in
+    let names = taken.names in
     let here : Stage = record { stage = l.stage; sub_operation = sub_operation_of op; names = names } in
     let popped : l.ops.items ≡ op ∷ rest = search rules in
-    let takes : local_sub_operation l.self (pending ++ l.stages) l.stage (sub_operation_of op) ≡ Ok (new, names) = search rules in
-    let pushed : c.push.new.self ≡ l.stages ++ (here ∷ []) = search rules in
+    let pushed : c.take_one.new.stages ≡ l.stages ++ (here ∷ []) = taken.adds in
     let next : c.in_ok-stage.stage ≡ l.stage + 1 = search rules in
     let one_longer = length-append l.stages (here ∷ []) in
-    let made = sym (first_taken l.self pending l.stages l.stage (sub_operation_of op) (map sub_operation_of rest) (new, names) takes)
+    let made = sym (first_taken l.self pending l.stages l.stage (sub_operation_of op) (map sub_operation_of rest) (new, names) taken.takes)
     ∙ ap (λ ops. with_stages l.stages (local_sub_operations l.self (pending ++ l.stages) l.stage (map sub_operation_of ops))) (sym popped)
     ∙ l.invariant.made in
     record {

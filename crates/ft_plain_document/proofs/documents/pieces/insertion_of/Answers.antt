@@ -1,0 +1,10 @@
+use Rattle.std.proofs.Common.{◌≡◌, refl}
+use Rattle.std.proofs.lemmas.Result.{IfOk-at_ok}
+use Rattle.ft_plain_document.proofs.documents.pieces.insertion_of.Goals as goal
+
+pub returns : goal.returns
+returns c =
+    let copies = c.in_ok-seg.ensures in
+    let seg = IfOk-at_ok (λ s. s ≡ c.args.seg.now) copies.first c.copy.ensures in
+    let props = IfOk-at_ok (λ ps. ps ≡ c.args.props.now) copies.second c.copy-2.ensures in
+    rw (seg, props) refl

@@ -1,0 +1,81 @@
+//! Values that are moved without a look at what they are. So the proofs of those who move large ones take none of them apart.
+
+ghost use Rattle.std.specs.Prelude.{◌≡◌, ◌++◌, ◌∷◌, [], IfErr, IfOk, Err, Ok, OnErr, OnOk};
+ghost use Rattle.std.specs.Result.{result_map_both};
+
+use ft_base::OutOfMemory;
+use std::alloc::Global;
+use std::collections::VecDeque;
+
+/// Both values, if both were made.
+pub fn both<A: Drop, B: Drop>(
+    first: Result<A, OutOfMemory>,
+    second: Result<B, OutOfMemory>,
+) -> Result<(A, B), OutOfMemory>
+    ensures first { IfOk result (λ pair. first ≡ Ok pair.0) }
+    ensures second { IfOk result (λ pair. second ≡ Ok pair.1) }
+{
+    let first = first?;
+    let second = second?;
+    Ok((first, second))
+}
+
+/// Adds an item behind the others of a queue.
+///
+/// Returns `OutOfMemory` where there is no room for it.
+pub fn push_behind<T: Drop>(items: &mut VecDeque<T>, item: T) -> Result<(), OutOfMemory>
+    ensures { OnOk result (items.new.items ≡ items.old.items ++ item ∷ []) }
+{
+    items.push_back(item)?;
+    Ok(())
+}
+
+/// A queue of the item alone.
+pub fn alone<T: Drop>(alloc: Global, item: T) -> Result<VecDeque<T>, OutOfMemory>
+    ensures { IfOk result (λ queue. queue.items ≡ item ∷ []) }
+{
+    let mut queue = VecDeque::new(alloc);
+    queue.push_back(item)?;
+    Ok(queue)
+}
+
+/// What was made, and the value beside it, if it was made.
+pub fn made_beside<A: Drop, B: Drop, E: Drop>(made: Result<A, E>, value: B) -> Result<(A, B), E>
+    ensures made { IfOk result (λ pair. made ≡ Ok pair.0) }
+    ensures value { IfOk result (λ pair. pair.1 ≡ value) }
+    ensures err { IfErr result (λ why. made ≡ Err why) }
+{
+    match made {
+        Ok(made) => Ok((made, value)),
+        Err(why) => Err(why),
+    }
+}
+
+/// The value in the place of what was done, if it was done.
+pub fn given<D: Drop, T: Drop, E: Drop>(done: Result<D, E>, value: T) -> Result<T, E>
+    ensures { result ≡ result_map_both (λ _. value) (λ why. why) done }
+{
+    match done {
+        Ok(_) => Ok(value),
+        Err(why) => Err(why),
+    }
+}
+
+/// Puts a value in the place of another, if what was to be made with it was made, and hands that on.
+pub fn fill_with<T: Drop, A: Drop, E: Drop>(
+    place: &mut T,
+    value: T,
+    made: Result<A, E>,
+) -> Result<A, E>
+    ensures same { result ≡ made }
+    ensures ok { OnOk result (place.new ≡ value) }
+    ensures err { OnErr result (place.new ≡ place.old) }
+{
+    match made {
+        Ok(made) => {
+            *place = value;
+            Ok(made)
+        }
+        Err(why) => Err(why),
+    }
+}
