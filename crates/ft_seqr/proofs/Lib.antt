@@ -4,6 +4,7 @@ pub mod ConnectionNames
 pub mod RefusalKinds
 pub mod EventsBack
 pub mod EventWords
+pub mod AddressedEdits
 pub mod SameMessages
 pub mod SequencedDrafts
 pub mod WrittenMembers

@@ -68,6 +68,13 @@ is_known_address address =
     if bytes_eq address (codes "text") then Ok address
     else (if bytes_eq address (codes "grid") then Ok address else Err (cause.WrongKind Address))
 
+-- the operation of an edit, for the address that the edit gives
+unfoldable pub addressed_op : Data → Result ChannelOp Cause
+addressed_op d = do
+  word ← with_fault cause_of_field (text_field d Address)
+  address ← is_known_address word
+  edit_op address (field d Op)
+
 -- a range whose end isn't before its start
 abbrev pub checked_range : ℕ → ℕ → Result (ℕ × ℕ) Cause
 checked_range a b = if nat_lt b a then Err (cause.Reversed (pos a) (pos b)) else Ok (a, b)

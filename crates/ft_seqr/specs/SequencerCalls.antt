@@ -1,5 +1,6 @@
 -- Why a call of the sequencer answers a fault.
 use Rattle.std.specs.Prelude.{◌≡◌, ⊤, ℕ, ◌+◌, ◌<◌, ◌^◌, cond, Some, None, Err, find, map, pos}
+use Rattle.ft_props.specs.Properties.{Characters}
 use Rattle.ft_msg.specs.declared.messages.Draft.{Draft}
 use Rattle.ft_msg.specs.declared.messages.Entry.{Entry}
 use Rattle.ft_seqr.specs.declared.nacks.LeaveFault.{LeaveFault}
@@ -18,6 +19,10 @@ IsLeaveFault q conn leaving.OutOfMemory = ⊤
 abbrev pub IsSubmitFault : NaiveSequencer → ℕ → Draft → SubmitFault → Type 0
 IsSubmitFault q conn draft (submitting.Nack nack) = submit q conn draft ≡ Err nack
 IsSubmitFault q conn draft submitting.OutOfMemory = ⊤
+
+-- the connection of this number and name as it joins, while this is the minimum
+abbrev pub newcomer : ℕ → Characters → ℕ → JoinedConnection
+newcomer conn name minimum = record { conn = conn; name = name; ref_seq = minimum; client_seq = 0 }
 
 -- the sender of a connection's message under this number
 abbrev pub sender_of : JoinedConnection → ℕ → Sender

@@ -1,26 +1,27 @@
 //! The JSON texts that a session writes of a client: its intervals that meet a range, and who inserted
 //! its visible text.
 
-ghost use Rattle.std.specs.Prelude.{◌≡◌, [], ◌∷◌, ◌++◌, IfOk, OnOk, map, option_copied};
+ghost use Rattle.std.specs.Prelude.{◌≡◌, [], ◌++◌, IfOk, OnOk, map, option_copied};
 ghost use Rattle.std.specs.List.{AllByRecursion};
-ghost use Rattle.serde_json.specs.Data.{array, no_members, object, string};
-ghost use Rattle.serde_json.specs.View.{items_of, members_view, view};
+ghost use Rattle.serde_json.specs.Data.{array, no_members, object};
+ghost use Rattle.serde_json.specs.View.{items_view, members_view, view};
 ghost use Rattle.serde_json.specs.Written.{compact_text};
 ghost use Rattle.ft_json.specs.Canonical.{IsCanonical, value_of};
 ghost use Rattle.ft_attrib.specs.Totals.{count_of};
 ghost use Rattle.ft_op.specs.Representable.{IsKeyed};
-ghost use Rattle.ft_op.specs.Written.{written_count, written_number, written_text};
+ghost use Rattle.ft_op.specs.Written.{written_count, written_text};
 ghost use Rattle.ft_sumdoc.specs.Written.{written_props};
 ghost use Rattle.ft_seqr.specs.AnswerTexts.{counted_author, counted_nameless, known_authors, origin_name, origin_number, written_author, written_authors, written_name, written_nameless, written_origin_run, written_overlap};
 
+use crate::moved::push;
 use crate::writing::{put_number, put_text};
 use ft_attrib::{AttrRun, Attribution, Origin, Total};
 use ft_base::{OutOfMemory, Text};
 use ft_json::{ValText, compact};
 use ft_msg::Names;
 use ft_props::Props;
-use ft_sumdoc::{Ends2, IntervalRec};
-use serde_json::{Map, Value, json, put};
+use ft_sumdoc::IntervalRec;
+use serde_json::{Map, Value, put};
 use std::alloc::Global;
 
 /// The text of an interval that meets a range: the array of its id, its ends and its properties, where
@@ -37,18 +38,25 @@ fn overlap_value(alloc: Global, interval: &IntervalRec) -> Result<Value, OutOfMe
     ensures value { IfOk result (λ v. view v ≡ written_overlap interval.now) }
     ensures canonical { IfOk result (λ _. IsCanonical (written_overlap interval.now)) }
 {
-    let props = props_value(alloc, &interval.props)?;
-    overlap_array(alloc, interval.id.as_str(), interval.ends, props)
+    let mut items = Vec::new(alloc);
+    push_overlap(&mut items, alloc, interval)?;
+    Ok(Value::Array(items))
 }
 
-// The array of an id, two ends and properties.
-fn overlap_array(alloc: Global, id: &str, ends: Ends2, props: Value) -> Result<Value, OutOfMemory>
-    ensures value { IfOk result (λ v. view v
-        ≡ array (items_of (string id.now ∷ written_number ends.start ∷ written_number ends.end ∷ view props ∷ []))) }
-    ensures start { IsCanonical (written_number ends.start) }
-    ensures end { IsCanonical (written_number ends.end) }
+// Adds the id, the ends and the properties of an interval to no values.
+fn push_overlap(
+    items: &mut Vec<Value>,
+    alloc: Global,
+    interval: &IntervalRec,
+) -> Result<(), OutOfMemory>
+    requires { items.old.items ≡ [] }
+    ensures value { OnOk result (array (items_view items.new.items) ≡ written_overlap interval.now) }
+    ensures canonical { OnOk result (IsCanonical (written_overlap interval.now)) }
 {
-    Ok(json!(in alloc; [id, ends.start, ends.end, props])?)
+    push(items, text_value(alloc, &interval.id)?)?;
+    push(items, Value::from(interval.ends.start))?;
+    push(items, Value::from(interval.ends.end))?;
+    push(items, props_value(alloc, &interval.props)?)
 }
 
 // A count.
@@ -222,8 +230,7 @@ fn push_author(
         return Ok(());
     }
     let value = author_value(alloc, name, count)?;
-    texts.push(compact(alloc, &value)?)?;
-    Ok(())
+    push(texts, compact(alloc, &value)?)
 }
 
 // The object of how many characters the connection of that name inserted.
@@ -265,8 +272,7 @@ fn push_nameless(
         return Ok(());
     }
     let value = nameless_value(alloc, pending, count)?;
-    texts.push(compact(alloc, &value)?)?;
-    Ok(())
+    push(texts, compact(alloc, &value)?)
 }
 
 // The object of how many characters have no name, pending or not.

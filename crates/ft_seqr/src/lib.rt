@@ -9,6 +9,7 @@ pub mod events;
 mod faults;
 pub mod laws;
 mod limits;
+mod moved;
 pub mod nacks;
 pub mod reading;
 pub mod refusals;

@@ -1,8 +1,23 @@
 //! What the sequencer refuses.
 
+ghost use Rattle.std.specs.Prelude.{◌++◌, codes, decimal};
+ghost use Rattle.std.specs.Fmt.{WritesOnOk};
+
 use ft_base::OutOfMemory;
 use std::error::Error;
 use std::fmt;
+
+// Writes two numbers behind these words, the one that was to be and the one that came.
+pub(crate) fn write_numbers<W: fmt::Write>(
+    f: &mut fmt::Formatter<W>,
+    words: &str,
+    number: u64,
+    got: u64,
+) -> fmt::Result
+    ensures { WritesOnOk W.write_str_gives f.old result (words.now ++ (decimal number ++ (codes " got " ++ decimal got))) f.new }
+{
+    write!(f, "{words}{number} got {got}")
+}
 
 /// Why a draft is refused: the first of these that holds.
 #[derive(Clone, Copy, Debug, PartialEq, Eq)]
@@ -27,13 +42,13 @@ impl fmt::Display for Nack {
 
     fn fmt<W: fmt::Write>(&self, f: &mut fmt::Formatter<W>) -> fmt::Result {
         match *self {
-            Nack::NotJoined => write!(f, "NotJoined"),
+            Nack::NotJoined => f.write_str("NotJoined"),
             Nack::ClientSeq { expected, got } => {
-                write!(f, "ClientSeq expected {expected} got {got}")
+                write_numbers(f, "ClientSeq expected ", expected, got)
             }
-            Nack::RefBelow { min, got } => write!(f, "RefBelow min {min} got {got}"),
-            Nack::RefBack { last, got } => write!(f, "RefBack last {last} got {got}"),
-            Nack::RefAhead { seq, got } => write!(f, "RefAhead seq {seq} got {got}"),
+            Nack::RefBelow { min, got } => write_numbers(f, "RefBelow min ", min, got),
+            Nack::RefBack { last, got } => write_numbers(f, "RefBack last ", last, got),
+            Nack::RefAhead { seq, got } => write_numbers(f, "RefAhead seq ", seq, got),
         }
     }
 }
@@ -57,8 +72,8 @@ impl fmt::Display for LeaveFault {
 
     fn fmt<W: fmt::Write>(&self, f: &mut fmt::Formatter<W>) -> fmt::Result {
         match *self {
-            LeaveFault::NotJoined => write!(f, "NotJoined"),
-            LeaveFault::OutOfMemory => write!(f, "OutOfMemory"),
+            LeaveFault::NotJoined => f.write_str("NotJoined"),
+            LeaveFault::OutOfMemory => f.write_str("OutOfMemory"),
         }
     }
 }
@@ -93,8 +108,8 @@ impl fmt::Display for SubmitFault {
 
     fn fmt<W: fmt::Write>(&self, f: &mut fmt::Formatter<W>) -> fmt::Result {
         match *self {
-            SubmitFault::Nack(nack) => write!(f, "{nack}"),
-            SubmitFault::OutOfMemory => write!(f, "OutOfMemory"),
+            SubmitFault::Nack(nack) => fmt::Display::fmt(&nack, f),
+            SubmitFault::OutOfMemory => f.write_str("OutOfMemory"),
         }
     }
 }

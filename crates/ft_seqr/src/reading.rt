@@ -9,7 +9,7 @@ ghost use Rattle.ft_op.specs.Reading.{with_fault};
 ghost use Rattle.ft_seqr.specs.Addresses.{word_of};
 ghost use Rattle.ft_seqr.specs.ClientEvents.{event_that};
 ghost use Rattle.ft_seqr.specs.declared.events.Event.TheVariants.{Guest as Enter, Part, Ticket, Deliver};
-ghost use Rattle.ft_seqr.specs.EventGrammar.{blame_event, client_name_field, count_or_all, counted_event, edit_event, edit_op, event, event_for, event_of, event_of_client, given_count, given_from, guest_event, is_known_address, later_event, offer_event, op_for, overlap_event, places, start_event, submit_event};
+ghost use Rattle.ft_seqr.specs.EventGrammar.{addressed_op, blame_event, client_name_field, count_or_all, counted_event, edit_event, edit_op, event, event_for, event_of, event_of_client, given_count, given_from, guest_event, is_known_address, later_event, offer_event, op_for, overlap_event, places, start_event, submit_event};
 ghost use Rattle.ft_seqr.specs.EventReader.{ReadsEvent};
 
 use crate::events::{Event, HowMany};
@@ -240,14 +240,21 @@ enum Address {
 }
 
 // An edit of the client's own.
-#[tactic(auto, unfolding(crate::specs::EventGrammar::edit_event))]
 fn read_edit(alloc: Global, value: &Value) -> Result<Event, Cause>
     ensures { Gives Cause.OutOfMemory (edit_event (view value.now)) result }
 {
     let client = read_client(alloc, value)?;
-    let address = known_address(address_word(value)?)?;
-    let op = read_edit_op(alloc, address, field(value, Field::Op))?;
+    let op = read_addressed_op(alloc, value)?;
     Ok(Event::Edit { client, op })
+}
+
+// The operation of an edit, for the address that the edit gives.
+#[tactic(auto, unfolding(crate::specs::EventGrammar::addressed_op))]
+fn read_addressed_op(alloc: Global, value: &Value) -> Result<ChannelOp, Cause>
+    ensures { Gives Cause.OutOfMemory (addressed_op (view value.now)) result }
+{
+    let address = known_address(address_word(value)?)?;
+    read_edit_op(alloc, address, field(value, Field::Op))
 }
 
 // The word in the field `address`.

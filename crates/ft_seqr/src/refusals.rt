@@ -1,10 +1,11 @@
 //! Why a line is refused.
 
-ghost use Rattle.std.specs.Prelude.{◌≡◌};
+ghost use Rattle.std.specs.Prelude.{◌≡◌, Some};
+ghost use Rattle.std.specs.Fmt.{◌++?◌, DisplaysOnOk};
 ghost use Rattle.ft_seqr.specs.RefusalKinds.{is_want};
 ghost use Rattle.ft_seqr.specs.Refusals.{phrase, refusal_number, refusal_of_cause, refusal_of_process};
 
-use crate::nacks::Nack;
+use crate::nacks::{Nack, write_numbers};
 use ft_json::Field;
 use ft_msg::{Cause, ProcessFault};
 use ft_sumdoc::SumFault;
@@ -58,6 +59,17 @@ pub enum Refusal {
     Stopped,
 }
 
+// Writes a part behind these words.
+fn write_behind<W: fmt::Write, D: fmt::Display>(
+    f: &mut fmt::Formatter<W>,
+    words: &str,
+    part: &D,
+) -> fmt::Result
+    ensures { DisplaysOnOk W.write_str_gives f.old result (Some words.now ++? D.output part.now) f.new }
+{
+    write!(f, "{words}{part}")
+}
+
 impl fmt::Display for Refusal {
     ghost use Rattle.std.specs.Prelude.{Some};
     ghost use Rattle.ft_seqr.specs.Refusals.{refusal_text};
@@ -66,20 +78,20 @@ impl fmt::Display for Refusal {
 
     fn fmt<W: fmt::Write>(&self, f: &mut fmt::Formatter<W>) -> fmt::Result {
         match *self {
-            Refusal::Malformed(cause) => write!(f, "Malformed {cause}"),
-            Refusal::OutOfRange { length } => write!(f, "OutOfRange length {length}"),
-            Refusal::NothingToTicket { have } => write!(f, "NothingToTicket have {have}"),
-            Refusal::NothingToDeliver { have } => write!(f, "NothingToDeliver have {have}"),
+            Refusal::Malformed(cause) => write_behind(f, "Malformed ", &cause),
+            Refusal::OutOfRange { length } => write_behind(f, "OutOfRange length ", &length),
+            Refusal::NothingToTicket { have } => write_behind(f, "NothingToTicket have ", &have),
+            Refusal::NothingToDeliver { have } => write_behind(f, "NothingToDeliver have ", &have),
             Refusal::OutOfOrder { expected, got } => {
-                write!(f, "OutOfOrder expected {expected} got {got}")
+                write_numbers(f, "OutOfOrder expected ", expected, got)
             }
-            Refusal::Foreign { number } => write!(f, "Foreign {number}"),
-            Refusal::Pending { count } => write!(f, "Pending {count}"),
-            Refusal::Nacked(nack) => write!(f, "Nacked {nack}"),
+            Refusal::Foreign { number } => write_behind(f, "Foreign ", &number),
+            Refusal::Pending { count } => write_behind(f, "Pending ", &count),
+            Refusal::Nacked(nack) => write_behind(f, "Nacked ", &nack),
             Refusal::BadNumbers { field, kept, got } => {
                 write!(f, "BadNumbers {field} kept {kept} got {got}")
             }
-            Refusal::Summary(fault) => write!(f, "Summary {fault}"),
+            Refusal::Summary(fault) => write_behind(f, "Summary ", &fault),
             Refusal::UnknownClient
             | Refusal::NameInUse
             | Refusal::AlreadyConnected

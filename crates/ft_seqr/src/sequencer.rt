@@ -3,8 +3,9 @@
 
 ghost use Rattle.std.specs.Prelude.{◌≡◌, ℕ, ◌+◌, ◌<◌, ◌^◌, pos, cond, Some, Ok, IfOk, IfErr, OnOk, OnErr, map, find, option_copied};
 ghost use Rattle.ft_seqr.specs.Sequencer.{draft_kind, is_joined, join, least_ref, leave, nack_of, new_sequencer, next, notice, submit, submitted};
-ghost use Rattle.ft_seqr.specs.SequencerCalls.{AreSmall, IsLeaveFault, IsSubmitFault, Sends, sender_of, sent_message, sequencer_after};
+ghost use Rattle.ft_seqr.specs.SequencerCalls.{AreSmall, IsLeaveFault, IsSubmitFault, Sends, newcomer, sender_of, sent_message, sequencer_after};
 
+use crate::moved::{both, push_beside};
 use crate::nacks::{LeaveFault, Nack, SubmitFault};
 use ft_base::{Datum, OutOfMemory, Text};
 use ft_msg::{Body, Draft, Entry, Message, MsgKind};
@@ -57,6 +58,18 @@ impl Joined {
             number,
         })
     }
+}
+
+// The connection of that number and name as it joins, while this is the minimum.
+fn newcomer(conn: u32, name: &Text, minimum: u64) -> Result<Joined, OutOfMemory>
+    ensures { IfOk result (λ joined. joined ≡ newcomer conn name.now minimum) }
+{
+    Ok(Joined {
+        conn,
+        name: name.copy()?,
+        ref_seq: minimum,
+        client_seq: 0,
+    })
 }
 
 // The sender of a message: the number and the name of its connection, and the number of the message.
@@ -190,13 +203,8 @@ impl Sequencer {
         ensures err { OnErr result (self.new ≡ self.old) }
     {
         let number = self.next_number()?;
-        let sender = name.copy()?;
-        self.joined.push(Joined {
-            conn,
-            name: name.copy()?,
-            ref_seq: self.minimum,
-            client_seq: 0,
-        })?;
+        let made = both(newcomer(conn, name, self.minimum), name.copy());
+        let sender = push_beside(&mut self.joined, made)?;
         self.advance(number);
         Ok(self.notice(conn, sender, MsgKind::Join))
     }
@@ -213,8 +221,8 @@ impl Sequencer {
         let Some(joined) = find_joined(self.joined.as_slice(), conn) else {
             return Err(LeaveFault::NotJoined);
         };
-        let sender = joined.name.copy()?;
         let number = self.next_number()?;
+        let sender = joined.name.copy()?;
         self.joined.retain(|other| !other.is(conn));
         self.advance(number);
         Ok(self.notice(conn, sender, MsgKind::Leave))
