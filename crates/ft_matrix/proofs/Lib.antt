@@ -1,4 +1,3 @@
-mod MovedValues
 mod Freed
 mod AckedGrids
 mod AckedUnits

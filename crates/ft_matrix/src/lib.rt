@@ -9,7 +9,7 @@ mod compaction;
 mod grid;
 pub mod matrix;
 mod messages;
-mod moves;
+mod moved;
 mod own_edits;
 mod reconnection;
 mod saved;

@@ -27,12 +27,12 @@ ghost use Rattle.ft_rebase.specs.StageLists.{StandSideBySide};
 ghost use Rattle.ft_sumdoc.specs.Valid.{IsValidSummary};
 
 use crate::grid::Grid;
-use crate::moves::{fill, when_done};
 use crate::own_edits::{first_leaf, sub_operation_count};
 use crate::saved::saved_units;
 use crate::seen::LOCAL;
 use crate::splices::seen_count;
 use ft_arena::NodeId;
+use ft_base::moved::{after, fill};
 use ft_base::{OutOfMemory, Perspective, Steps};
 use ft_msg::{EditFault, View};
 use ft_op::GridOp;
@@ -323,7 +323,7 @@ impl SharedMatrix {
             given: 0,
             usable,
         };
-        when_done(loaded, table)
+        after(loaded, table)
     }
 
     /// Fills what a summary at the minimum `doc.min` has of the table: its rows, its columns and its cells.

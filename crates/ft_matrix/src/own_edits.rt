@@ -19,11 +19,11 @@ ghost use Rattle.ft_matrix.specs.Units.{shown_units};
 
 use crate::grid::Grid;
 use crate::messages::more;
-use crate::moves::push_behind;
 use crate::seen::LOCAL;
 use crate::splices::{insert_own_units, remove_own_units, seen_count};
 use crate::stages::GridStage;
 use ft_arena::NodeId;
+use ft_base::moved::push_behind;
 use ft_base::{Datum, OutOfMemory, Steps};
 use ft_cells::Cells;
 use ft_json::ValText;

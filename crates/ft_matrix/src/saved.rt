@@ -11,8 +11,9 @@ ghost use Rattle.ft_matrix.specs.SavedUnits.{AddsLeaf, Joins, continued, saved_r
 ghost use Rattle.ft_matrix.specs.Units.{units_of};
 
 use crate::messages::more;
-use crate::moves::{push_unless, when_done};
+use crate::moved::push_unless;
 use ft_arena::NodeId;
+use ft_base::moved::after;
 use ft_base::{Element, OutOfMemory};
 use ft_marks::{insertion_of, is_collectable, marks_of, same_stamps};
 use ft_perm::{Handles, Vector};
@@ -89,7 +90,7 @@ fn saved_elements(tree: &Tree<Handles>, min: u64) -> Result<RunRecs, OutOfMemory
 {
     let mut runs = Vec::new(tree.allocator());
     let added = add_leaves(tree, min, &mut runs);
-    when_done(added, RunRecs::of(runs))
+    after(added, RunRecs::of(runs))
 }
 
 // Adds the units of all leaves, unless they were removed at or below the minimum.

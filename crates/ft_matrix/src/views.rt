@@ -6,8 +6,9 @@ ghost use Rattle.ft_matrix.specs.Seen.{ArePlaced, HoldsRuns, PlacesCell, cell_of
 ghost use Rattle.ft_matrix.specs.Sound.{IsSound};
 
 use crate::grid::Grid;
-use crate::moves::{put_at, when_done};
+use crate::moved::put_at;
 use crate::seen::{SeenRuns, seen_runs};
+use ft_base::moved::after;
 use ft_base::{Datum, OutOfMemory};
 use ft_cells::{CellKey, Cells};
 use ft_json::ValText;
@@ -62,7 +63,7 @@ fn placed_cells(
 {
     let mut placed = BTreeMap::new(alloc);
     let done = place_cells(cells, rows, cols, &mut placed);
-    when_done(done, placed)
+    after(done, placed)
 }
 
 // Puts the shown values of cells at their places.

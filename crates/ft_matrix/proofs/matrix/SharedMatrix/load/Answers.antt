@@ -1,5 +1,5 @@
 use Rattle.std.proofs.Common.{◌∙◌, sym}
-use Rattle.ft_matrix.proofs.MovedValues.{ok-holds}
+use Rattle.ft_base.proofs.Results.{ok-holds}
 use Rattle.ft_matrix.proofs.matrix.SharedMatrix.load.Goals as goal
 
 pub invariant_of-table : goal.invariant_of-table

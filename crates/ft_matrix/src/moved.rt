@@ -1,21 +1,11 @@
 //! Values that are moved without a look at what they are. So the proofs of those who move large ones take none of them apart.
 
-ghost use Rattle.std.specs.Prelude.{◌≡◌, ℕ, [], ◌∷◌, ◌++◌, IfOk, IsOk, Ok, OnOk, Some, cond, if◌then◌else◌};
+ghost use Rattle.std.specs.Prelude.{◌≡◌, ℕ, [], ◌∷◌, ◌++◌, IfOk, IsOk, OnOk, Some, cond, if◌then◌else◌};
 ghost use Rattle.std.specs.BTreeMap as tree;
 ghost use Rattle.ft_matrix.specs.Seen.{place_cmp};
 
 use ft_base::OutOfMemory;
-use std::collections::{BTreeMap, VecDeque};
-
-/// Adds an item behind the others.
-///
-/// Returns `OutOfMemory` where there is no room for it.
-pub(crate) fn push_behind<T: Drop>(items: &mut VecDeque<T>, item: T) -> Result<(), OutOfMemory>
-    ensures { OnOk result (items.new.items ≡ items.old.items ++ item ∷ []) }
-{
-    items.push_back(item)?;
-    Ok(())
-}
+use std::collections::BTreeMap;
 
 /// Adds an item at the end, unless it is there already.
 ///
@@ -47,21 +37,4 @@ pub(crate) fn put_at<V: Drop>(
 {
     placed.insert(place, value)?;
     Ok(())
-}
-
-/// Puts a value in the place of another, if it could be made.
-pub(crate) fn fill<T: Drop>(place: &mut T, made: Result<T, OutOfMemory>) -> Result<(), OutOfMemory>
-    ensures { OnOk result (made ≡ Ok place.new) }
-{
-    *place = made?;
-    Ok(())
-}
-
-/// The value, if what was to be done before is done.
-pub(crate) fn when_done<T: Drop>(done: Result<(), OutOfMemory>, value: T) -> Result<T, OutOfMemory>
-    ensures value { IfOk result (λ made. made ≡ value) }
-    ensures done { OnOk result (IsOk done) }
-{
-    done?;
-    Ok(value)
 }
