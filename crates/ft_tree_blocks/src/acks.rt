@@ -14,12 +14,12 @@ ghost use Rattle.ft_tree_blocks.specs.Touched.{HaveAllOf, Tracks};
 ghost use Rattle.ft_tree_blocks.specs.Unsettled.{IsSoundOn};
 
 use crate::leaf_refs::LeafRefs;
-use crate::moved::after;
 use crate::reads;
 use crate::stage_nodes::{StageNodes, TouchedNode};
 use crate::touched::take_stage;
 use ft_arena::NodeId;
 use ft_base::OutOfMemory;
+use ft_base::moved::after;
 use ft_block::Blocks;
 use ft_tree_leaves::block_leaf::acked_stamps;
 use ft_tree_leaves::stamps::is_of_stage;

@@ -1,5 +1,4 @@
-//! Steps on leaves in blocks that keep the references on them right, beside the lists of what each pending stage
-//! touched.
+//! Steps on leaves in blocks that keep the references on them right, and the lists of what each pending stage touched.
 
 ghost use Rattle.std.specs.Prelude.{[], ◌≡◌, ◌≢◌, ℕ, ◌+◌, ◌<◌, ◌^◌, ◌≤◌, IfOk, IfSome, IsSomeAnd, IsTrue, None, OnOk, Some, false, length, option_map, true};
 ghost use Rattle.ft_block.specs.Leaves.{IsLeafIn, IsPlaceIn, change_leaf, join_leaf, length_by, move_leaf, value_at, without_leaf};
@@ -19,8 +18,10 @@ use crate::reads;
 use crate::settling::settled_on;
 use crate::slides::slide_leaves;
 use crate::stage_nodes::StageNodes;
-use crate::tracked::{change_in, insert_in, join_in, move_in, set_stamps_in, split_in, take_in};
+use crate::touched::{note_stamps, purge};
+use crate::tracked::{note_change, note_new, note_rear};
 use ft_arena::NodeId;
+use ft_base::moved::after;
 use ft_base::{Element, OutOfMemory};
 use ft_block::Blocks;
 use ft_refs::{Place, RefId};
@@ -28,7 +29,8 @@ use ft_tree_leaves::leaves::Standing;
 use ft_tree_leaves::{Content, LeafChange, TreeLeaf};
 use std::collections::VecDeque;
 
-/// Puts a new leaf in, as `insert_in` does. References go with their elements.
+/// Puts a new leaf in, as `Blocks::insert_after` does. Nothing is pending in its properties. References go with their
+/// elements.
 pub(crate) fn insert_anchored<C: Content + Drop>(
     blocks: &mut Blocks<TreeLeaf<C>>,
     touched: &mut VecDeque<StageNodes>,
@@ -53,12 +55,13 @@ pub(crate) fn insert_anchored<C: Content + Drop>(
 {
     // What holds of the leaves at any time is read off its contract.
     let _first = reads::first(blocks);
-    let id = insert_in(blocks, touched, at, leaf)?;
+    let id = blocks.insert_after(at, leaf)?;
+    note_new(touched, &reads::leaf(blocks, id).stamps, id)?;
     refs.hold(id)?;
     Ok(id)
 }
 
-/// Cuts a leaf in two, as `split_in` does. References stay on their elements.
+/// Cuts a leaf in two, as `Blocks::split` does. References stay on their elements.
 pub(crate) fn split_anchored<C: Content>(
     blocks: &mut Blocks<TreeLeaf<C>>,
     touched: &mut VecDeque<StageNodes>,
@@ -83,12 +86,13 @@ pub(crate) fn split_anchored<C: Content>(
     // What holds of the leaves at any time is read off its contract.
     let _first = reads::first(blocks);
     let stands = reads::leaf(blocks, leaf).stands(Standing::Unremoved);
-    let rear = split_in(blocks, touched, leaf, at)?;
+    let rear = blocks.split(leaf, at)?;
+    note_rear(touched, reads::leaf(blocks, rear), leaf, rear)?;
     refs.cut(leaf, at, rear, stands)?;
     Ok(rear)
 }
 
-/// Replaces the stamps of a leaf, as `set_stamps_in` does. References stay on their elements; acknowledged ones
+/// Replaces the stamps of a leaf, as `Blocks::set_stamps` does. References stay on their elements; acknowledged ones
 /// may have to slide then.
 pub(crate) fn set_stamps_anchored<C: Content>(
     blocks: &mut Blocks<TreeLeaf<C>>,
@@ -112,12 +116,14 @@ pub(crate) fn set_stamps_anchored<C: Content>(
 {
     // What holds of the leaves at any time is read off its contract.
     let _first = reads::first(blocks);
-    set_stamps_in(blocks, touched, id, e)?;
+    let noted = note_stamps(touched, &reads::leaf(blocks, id).stamps, &e, id);
+    let stamps = after(noted, e)?;
+    blocks.set_stamps(id, stamps)?;
     let stands = reads::leaf(blocks, id).stands(Standing::Unremoved);
     refs.unsettle(id, stands)
 }
 
-/// Joins the next leaf to a leaf, as `join_in` does. References stay on their elements.
+/// Joins the next leaf to a leaf, as `Blocks::join_next` does. References stay on their elements.
 pub(crate) fn join_anchored<C: Content + Drop>(
     blocks: &mut Blocks<TreeLeaf<C>>,
     touched: &mut VecDeque<StageNodes>,
@@ -147,11 +153,12 @@ pub(crate) fn join_anchored<C: Content + Drop>(
     };
     // That there is a leaf is read off its contract.
     let _next = reads::leaf(blocks, next);
-    join_in(blocks, touched, id)?;
+    purge(touched, next);
+    blocks.join_next(id)?;
     refs.join(next, id, count, stands)
 }
 
-/// Makes a change of a leaf, as `change_in` does. References stay on their elements.
+/// Makes a change of a leaf, as `Blocks::change` does. References stay on their elements.
 pub(crate) fn change_anchored<C: Content>(
     blocks: &mut Blocks<TreeLeaf<C>>,
     touched: &mut VecDeque<StageNodes>,
@@ -174,10 +181,11 @@ pub(crate) fn change_anchored<C: Content>(
 {
     // What holds of the leaves at any time is read off its contract.
     let _first = reads::first(blocks);
-    change_in(blocks, touched, id, c)
+    note_change(touched, c, id)?;
+    blocks.change(id, c)
 }
 
-/// Takes a leaf out on which no reference is, as `take_in` does. References go with their elements.
+/// Takes a leaf out on which no reference is, as `Blocks::take` does. References go with their elements.
 pub(crate) fn take_anchored<C: Content>(
     blocks: &mut Blocks<TreeLeaf<C>>,
     touched: &mut VecDeque<StageNodes>,
@@ -200,10 +208,11 @@ pub(crate) fn take_anchored<C: Content>(
 {
     // What holds of the leaves at any time is read off its contract.
     let _first = reads::first(blocks);
-    take_in(blocks, touched, id)
+    purge(touched, id);
+    blocks.take(id)
 }
 
-/// Moves a leaf, as `move_in` does. References go with their elements.
+/// Moves a leaf, as `Blocks::move_after` does. References go with their elements.
 pub(crate) fn move_anchored<C: Content>(
     blocks: &mut Blocks<TreeLeaf<C>>,
     touched: &VecDeque<StageNodes>,
@@ -227,7 +236,7 @@ pub(crate) fn move_anchored<C: Content>(
 {
     // What holds of the leaves at any time is read off its contract.
     let _first = reads::first(blocks);
-    move_in(blocks, touched, id, at)
+    blocks.move_after(id, at)
 }
 
 /// Puts a new pending reference on an element.

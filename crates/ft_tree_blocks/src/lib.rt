@@ -10,7 +10,6 @@ mod anchored;
 pub mod anchors;
 pub mod leaf_blocks;
 mod leaf_refs;
-mod moved;
 mod next_stages;
 mod pruning;
 mod reads;

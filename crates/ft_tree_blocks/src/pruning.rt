@@ -10,6 +10,7 @@ ghost use Rattle.ft_tree_blocks.specs.Wanted.{is_wanted_at};
 use crate::acks::is_touched_by;
 use crate::reads;
 use crate::stage_nodes::{Nodes, StageNodes, TouchedNode};
+use crate::touched::{allocator_of, drop_empty};
 use ft_base::OutOfMemory;
 use ft_block::Blocks;
 use ft_tree_leaves::{Content, TreeLeaf};
@@ -77,7 +78,7 @@ fn prune_all<C: Content>(
     requires tracks { Tracks blocks.now.leaves touched.old.items }
     ensures { OnOk result (touched.new.items ≡ map (pruned blocks.now.leaves) touched.old.items) }
 {
-    let alloc = *touched.allocator();
+    let alloc = allocator_of(touched);
     prune_each(blocks, touched.make_contiguous(), alloc)
 }
 
@@ -92,6 +93,6 @@ pub(crate) fn prune_in<C: Content>(
     ensures tracks { OnOk result (Tracks blocks.now.leaves touched.new.items) }
 {
     prune_all(blocks, touched)?;
-    touched.retain(|list| list.is_some());
+    drop_empty(touched);
     Ok(())
 }

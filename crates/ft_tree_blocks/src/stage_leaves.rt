@@ -9,7 +9,7 @@ ghost use Rattle.ft_tree_blocks.specs.Touched.{Tracks};
 use crate::acks::is_touched_by;
 use crate::reads;
 use crate::stage_nodes::{StageNodes, TouchedNode};
-use crate::touched::nodes_of;
+use crate::touched::{allocator_of, nodes_of};
 use ft_arena::NodeId;
 use ft_base::OutOfMemory;
 use ft_block::{Blocks, LenView};
@@ -74,7 +74,7 @@ pub(crate) fn stage_leaves_in<C: Content>(
 {
     // What holds of the leaves at any time is read off its contract.
     let _first = reads::first(blocks);
-    let alloc = *touched.allocator();
+    let alloc = allocator_of(touched);
     let mut places = touched_places(blocks, alloc, nodes_of(touched, stage), stage)?;
     places.sort_unstable_by_key(|p| p.0);
     unrepeated(alloc, places.as_slice())

@@ -1,16 +1,22 @@
 //! Which leaves each pending stage touched: lists of nodes by rising stage.
 
-ghost use Rattle.std.specs.Prelude.{◌≡◌, ◌≢◌, ◌≤◌, ℕ, OnOk, false, length, map, slice_get, true};
+ghost use Rattle.std.specs.Prelude.{◌≡◌, ◌≢◌, ◌≤◌, ℕ, OnOk, false, filter, length, map, slice_get, true};
 ghost use Rattle.std.specs.List.{list_any};
 ghost use Rattle.ft_base.specs.Visibility.{is_of_stage};
-ghost use Rattle.ft_tree_blocks.specs.Touched.{AreRising, Notes, all_purged, holds, is_list_of, is_listed, is_stamped_by, purged, stages_below, with_heir};
+ghost use Rattle.ft_tree_blocks.specs.Touched.{AreRising, Notes, all_purged, holds, is_list_of, is_listed, is_some_node, is_stamped_by, purged, stages_below, with_heir};
 
 use crate::stage_nodes::{Nodes, StageNodes, TouchedNode};
 use ft_arena::NodeId;
 use ft_base::{Element, OutOfMemory, Stamp};
 use ft_tree_leaves::stamps::{has_stage, is_of_stage};
 use smallvec::SmallVec;
+use std::alloc::Global;
 use std::collections::VecDeque;
+
+/// Where the lists take their memory.
+pub(crate) fn allocator_of(touched: &VecDeque<StageNodes>) -> Global {
+    *touched.allocator()
+}
 
 /// How many lists are of lower stages.
 pub(crate) fn stage_place(touched: &VecDeque<StageNodes>, stage: u64) -> usize
@@ -45,7 +51,7 @@ pub(crate) fn note(
     if is_at(touched, i, stage) {
         return touched[i].add(id);
     }
-    let list = StageNodes::of(*touched.allocator(), stage, id)?;
+    let list = StageNodes::of(allocator_of(touched), stage, id)?;
     touched.insert(i, list)?;
     Ok(())
 }
@@ -135,6 +141,13 @@ pub(crate) fn purge(touched: &mut VecDeque<StageNodes>, id: NodeId)
     ensures { touched.new.items ≡ all_purged id touched.old.items }
 {
     purge_all(touched, id);
+    drop_empty(touched);
+}
+
+/// Lists without any node go.
+pub(crate) fn drop_empty(touched: &mut VecDeque<StageNodes>)
+    ensures { touched.new.items ≡ filter (λ s. is_some_node s.nodes) touched.old.items }
+{
     touched.retain(|list| list.is_some());
 }
 
@@ -174,7 +187,7 @@ pub(crate) fn take_stage(touched: &mut VecDeque<StageNodes>, stage: u64) -> Node
     ensures others { (k id : ℕ) → k ≢ stage → is_listed touched.new.items k id ≡ is_listed touched.old.items k id }
     ensures rising { AreRising touched.new.items }
 {
-    let alloc = *touched.allocator();
+    let alloc = allocator_of(touched);
     let i = stage_place(touched, stage);
     if !is_at(touched, i, stage) {
         return SmallVec::new(alloc);

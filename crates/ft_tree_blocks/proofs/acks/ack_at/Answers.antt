@@ -1,4 +1,4 @@
-use Rattle.std.proofs.Common.{ℕ, List, sym, ◌∙◌, ap, arith}
+use Rattle.std.proofs.Common.{ℕ, List, sym, ◌∙◌, ap, arith, refl}
 use Rattle.ft_base.specs.declared.elements.Element.{Element as ElementStamps}
 use Rattle.ft_base.specs.Visibility.{is_of_stage}
 use Rattle.ft_block.specs.Leaves.{change_leaf, times_leaf}
@@ -48,3 +48,33 @@ returns-clause-leaves g c =
     c.in_ok-set_stamps.ensures.ok ∙ ap (λ (zs : List (ℕ × TreeLeaf g.row.C.Denot)). change_leaf h zs id) changed ∙ change-twice h f xs id
     ∙ change-here (λ x. h (f x)) (acked_leaf g.C.Content.stamped c.args.stage c.args.seq c.args.conn) xs id v c.first-first.ensures.once c.leaf-leaf.ensures
     (ap (λ (s : ElementStamps). with_leaf_stamps (λ t. s) (f v)) (c.in_ok-stamps.ensures.value ∙ c.in_ok-e.ensures))
+
+pub first-first-requires : goal.first-first-requires
+first-first-requires g c = c.requires.usable
+
+pub leaf-leaf-requires-clause-usable : goal.leaf-leaf-requires-clause-usable
+leaf-leaf-requires-clause-usable g c = c.requires.usable
+
+pub leaf-leaf-requires-clause-live : goal.leaf-leaf-requires-clause-live
+leaf-leaf-requires-clause-live g c = c.requires.live
+
+pub ack_changes-changed-requires-clause-usable : goal.ack_changes-changed-requires-clause-usable
+ack_changes-changed-requires-clause-usable g c = c.requires.usable
+
+pub ack_changes-changed-requires-clause-lowest : goal.ack_changes-changed-requires-clause-lowest
+ack_changes-changed-requires-clause-lowest g c = c.requires.lowest
+
+pub returns-then-not-is_touched_by-clause-usable : goal.returns-then-not-is_touched_by-clause-usable
+returns-then-not-is_touched_by-clause-usable g c = c.requires.usable
+
+pub returns-then-not-is_touched_by-clause-floor : goal.returns-then-not-is_touched_by-clause-floor
+returns-then-not-is_touched_by-clause-floor g c = refl
+
+pub returns-clause-usable : goal.returns-clause-usable
+returns-clause-usable g c = c.in_ok-set_stamps.ensures.usable
+
+pub returns-in_err-e-clause-floor : goal.returns-in_err-e-clause-floor
+returns-in_err-e-clause-floor g c = refl
+
+pub returns-in_err-stamps-clause-floor : goal.returns-in_err-stamps-clause-floor
+returns-in_err-stamps-clause-floor g c = c.ack_changes-changed.ensures.floor
