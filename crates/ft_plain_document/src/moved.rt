@@ -1,37 +1,14 @@
 //! Values that are moved without a look at what they are. So the proofs of those who move large ones take none of them apart.
 
-ghost use Rattle.std.specs.Prelude.{◌≡◌, ◌++◌, ◌∷◌, [], IfErr, IfOk, Err, Ok, OnErr, OnOk};
+ghost use Rattle.std.specs.Prelude.{◌≡◌, ◌∷◌, [], IfErr, IfOk, Err, Ok, OnErr, OnOk};
 ghost use Rattle.std.specs.Result.{result_map_both};
 
 use ft_base::OutOfMemory;
 use std::alloc::Global;
 use std::collections::VecDeque;
 
-/// Both values, if both were made.
-pub fn both<A: Drop, B: Drop>(
-    first: Result<A, OutOfMemory>,
-    second: Result<B, OutOfMemory>,
-) -> Result<(A, B), OutOfMemory>
-    ensures first { IfOk result (λ pair. first ≡ Ok pair.0) }
-    ensures second { IfOk result (λ pair. second ≡ Ok pair.1) }
-{
-    let first = first?;
-    let second = second?;
-    Ok((first, second))
-}
-
-/// Adds an item behind the others of a queue.
-///
-/// Returns `OutOfMemory` where there is no room for it.
-pub fn push_behind<T: Drop>(items: &mut VecDeque<T>, item: T) -> Result<(), OutOfMemory>
-    ensures { OnOk result (items.new.items ≡ items.old.items ++ item ∷ []) }
-{
-    items.push_back(item)?;
-    Ok(())
-}
-
 /// A queue of the item alone.
-pub fn alone<T: Drop>(alloc: Global, item: T) -> Result<VecDeque<T>, OutOfMemory>
+pub fn queue_of<T: Drop>(alloc: Global, item: T) -> Result<VecDeque<T>, OutOfMemory>
     ensures { IfOk result (λ queue. queue.items ≡ item ∷ []) }
 {
     let mut queue = VecDeque::new(alloc);

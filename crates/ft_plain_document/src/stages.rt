@@ -6,8 +6,9 @@ ghost use Rattle.ft_msg.specs.Acknowledgement.{renamed_stage};
 ghost use Rattle.ft_plain_document.specs.Renamed.{renaming_of};
 ghost use Rattle.ft_plain_document.specs.SubOperations.{sub_operation_of};
 
-use crate::moved::{alone, push_behind};
+use crate::moved::queue_of;
 use crate::renamings::Renaming;
+use ft_base::moved::push_behind;
 use ft_base::{Datum, List, OutOfMemory};
 use ft_op::{BaseOp, CellOp, ChannelOp, GridOp, TextOp};
 use ft_plain_lists::ElementNames;
@@ -57,7 +58,7 @@ fn one_of_text(alloc: Global, op: &BaseOp) -> Result<VecDeque<SubOp>, OutOfMemor
     ensures { IfOk result (λ v. map sub_operation_of v.items ≡ OnText op.now ∷ []) }
 {
     let op = op.copy()?;
-    alone(alloc, SubOp::Text(op))
+    queue_of(alloc, SubOp::Text(op))
 }
 
 // A sub-operation of the intervals alone.
@@ -65,7 +66,7 @@ fn one_of_intervals(alloc: Global, op: &TextOp) -> Result<VecDeque<SubOp>, OutOf
     ensures { IfOk result (λ v. map sub_operation_of v.items ≡ OnIntervals op.now ∷ []) }
 {
     let op = op.copy()?;
-    alone(alloc, SubOp::Intervals(op))
+    queue_of(alloc, SubOp::Intervals(op))
 }
 
 // A sub-operation of the grid alone.
@@ -73,7 +74,7 @@ fn one_of_grid(alloc: Global, op: &CellOp) -> Result<VecDeque<SubOp>, OutOfMemor
     ensures { IfOk result (λ v. map sub_operation_of v.items ≡ OnGrid op.now ∷ []) }
 {
     let op = op.copy()?;
-    alone(alloc, SubOp::Grid(op))
+    queue_of(alloc, SubOp::Grid(op))
 }
 
 // The sub-operations of a group of the text.

@@ -13,9 +13,9 @@ ghost use Rattle.ft_op.specs.Written.{written_count, written_text};
 ghost use Rattle.ft_sumdoc.specs.Written.{written_props};
 ghost use Rattle.ft_seqr.specs.AnswerTexts.{counted_author, counted_nameless, known_authors, origin_name, origin_number, written_author, written_authors, written_name, written_nameless, written_origin_run, written_overlap};
 
-use crate::moved::push;
 use crate::writing::{put_number, put_text};
 use ft_attrib::{AttrRun, Attribution, Origin, Total};
+use ft_base::moved::push;
 use ft_base::{OutOfMemory, Text};
 use ft_json::{ValText, compact};
 use ft_msg::Names;

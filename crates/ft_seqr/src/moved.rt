@@ -1,32 +1,8 @@
 //! Values that are moved without a look at what they are. So the proofs of those who move large ones take none of them apart.
 
-ghost use Rattle.std.specs.Prelude.{◌≡◌, ◌++◌, ◌∷◌, [], IfOk, Ok, OnErr, OnOk};
+ghost use Rattle.std.specs.Prelude.{◌≡◌, ◌++◌, ◌∷◌, [], IfOk, Ok, OnErr};
 
 use ft_base::OutOfMemory;
-
-/// Both values, if both were made.
-pub fn both<A: Drop, B: Drop>(
-    first: Result<A, OutOfMemory>,
-    second: Result<B, OutOfMemory>,
-) -> Result<(A, B), OutOfMemory>
-    ensures first { IfOk result (λ pair. first ≡ Ok pair.0) }
-    ensures second { IfOk result (λ pair. second ≡ Ok pair.1) }
-{
-    let first = first?;
-    let second = second?;
-    Ok((first, second))
-}
-
-/// Adds an item behind the others.
-///
-/// Returns `OutOfMemory` where there is no room for it, and then nothing changed.
-pub fn push<T: Drop>(items: &mut Vec<T>, item: T) -> Result<(), OutOfMemory>
-    ensures items { OnOk result (items.new.items ≡ items.old.items ++ item ∷ []) }
-    ensures err { OnErr result (items.new.items ≡ items.old.items) }
-{
-    items.push(item)?;
-    Ok(())
-}
 
 /// Adds an item behind the others, and gives the value beside it, if both were made.
 ///

@@ -8,9 +8,10 @@ ghost use Rattle.ft_plain_document.specs.SubOperations.{sub_operation_of};
 
 use crate::documents::PlainDocument;
 use crate::documents::own_edits::NotTaken;
-use crate::moved::{both, fill_with, given, made_beside};
+use crate::moved::{fill_with, given, made_beside};
 use crate::stages::{PlainStage, PlainStages, SubOp, sub_operations};
 use ft_base::OutOfMemory;
+use ft_base::moved::both;
 use ft_op::ChannelOp;
 use ft_plain_lists::ElementNames;
 use std::collections::VecDeque;

@@ -9,8 +9,9 @@ ghost use Rattle.ft_op.specs.Pieces.{ends_in, grid_pieces, interval_piece, is_na
 ghost use Rattle.ft_plain_document.specs.SubOperations.{sub_operation_of};
 
 use crate::documents::PlainDocument;
-use crate::moved::{alone, both, push_behind};
+use crate::moved::queue_of;
 use crate::stages::{PlainStage, SubOp};
+use ft_base::moved::{both, push_behind};
 use ft_base::{Datum, OutOfMemory, Text};
 use ft_json::ValText;
 use ft_op::{BaseOp, CellOp, Ends, Seg, Target, TextOp};
@@ -33,7 +34,7 @@ impl PlainDocument {
                 let items = self.text.as_slice();
                 let names = stage.names().settled(items, stage.stage());
                 let piece = interval_piece(items, stage.stage(), &names, op)?;
-                alone(self.alloc(), SubOp::Intervals(piece))
+                queue_of(self.alloc(), SubOp::Intervals(piece))
             }
             SubOp::Grid(op) => self.grid_pieces(stage.stage(), stage.names(), op),
         }
@@ -77,7 +78,7 @@ impl PlainDocument {
         {
             return Ok(VecDeque::new(self.alloc()));
         }
-        alone(
+        queue_of(
             self.alloc(),
             SubOp::Grid(CellOp::Set {
                 row: position_of_named(rows, Before(stage), names.first()),
@@ -119,7 +120,7 @@ fn segment_piece(
         return Ok(VecDeque::new(alloc));
     }
     let insertion = insertion_of(stage_position(items, stage), seg, props)?;
-    alone(alloc, SubOp::Text(insertion))
+    queue_of(alloc, SubOp::Text(insertion))
 }
 
 // The insertion of the segment with these properties after `pos` elements.
@@ -214,7 +215,7 @@ fn insertion_piece(
     if count == 0 {
         return Ok(VecDeque::new(alloc));
     }
-    alone(
+    queue_of(
         alloc,
         SubOp::Grid(CellOp::SpliceIn {
             target,

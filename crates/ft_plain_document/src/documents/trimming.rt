@@ -4,8 +4,8 @@ ghost use Rattle.std.specs.Prelude.{◌≡◌, IfOk};
 ghost use Rattle.ft_msg.specs.Summary.{trim};
 
 use crate::documents::PlainDocument;
-use crate::moved::both;
 use ft_base::OutOfMemory;
+use ft_base::moved::both;
 
 impl PlainDocument {
     /// The document as a summary keeps it: without collectable elements and cells of removed rows and

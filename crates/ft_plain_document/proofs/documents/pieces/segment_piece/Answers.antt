@@ -18,7 +18,7 @@ returns c p =
     let props = c.args.props.now in
     let pieces = text_pieces c.args.stage c.args.items.now (Insert p seg props) in
     let full : segment_contents seg ≡ [] → ⊥ = λ e. (let none = c.is_empty.ensures.1 e in absurd cc) in
-    IfOk-weaker c.alone.result (λ v. v.items ≡ Text c.in_ok-insertion.insertion ∷ []) (λ v. map sub_operation_of v.items ≡ pieces)
+    IfOk-weaker c.queue_of.result (λ v. v.items ≡ Text c.in_ok-insertion.insertion ∷ []) (λ v. map sub_operation_of v.items ≡ pieces)
     (λ v e. ap (map sub_operation_of) e
     ∙ ap (λ op. OnText op ∷ []) (c.in_ok-insertion.ensures ∙ ap (λ k. Insert k seg props) c.stage_position.ensures)
-    ∙ sym (filled (segment_contents seg) _ full)) c.alone.ensures
+    ∙ sym (filled (segment_contents seg) _ full)) c.queue_of.ensures
