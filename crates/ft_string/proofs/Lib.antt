@@ -30,7 +30,6 @@ pub mod GivenEdits
 pub mod GivenIntervals
 pub mod Reconnected
 pub mod SentSoFar
-mod DoneFirst
 pub mod ShownElements
 pub mod ShownOrigins
 pub mod FrontSegments

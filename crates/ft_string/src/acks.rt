@@ -11,10 +11,10 @@ ghost use Rattle.ft_string.specs.Holds.{HoldsText, IsTextSound};
 ghost use Rattle.ft_string.specs.Acks.{AcksStage, AcksStages, AreNoted, OpsRise, first_op, least_of, next_below};
 ghost use Rattle.ft_string.specs.State.{KeepsRest};
 
-use crate::moved::drop_first;
 use crate::pending::PendingOp;
 use crate::strings::SharedString;
 use ft_base::OutOfMemory;
+use ft_base::moved::drop_first;
 use ft_interval::Collections;
 use ft_tree::{TextContent, Tree};
 use std::collections::VecDeque;

@@ -23,10 +23,10 @@ ghost use Rattle.ft_string.specs.State.{KeepsRest};
 
 use crate::contents::insert_local;
 use crate::lengths::{have_room, put_in_by_all, test_all};
-use crate::moved::push_behind;
 use crate::pending::PendingOp;
 use crate::strings::SharedString;
 use ft_arena::NodeId;
+use ft_base::moved::push_behind;
 use ft_base::{Datum, OutOfMemory, Steps};
 use ft_block::LenView;
 use ft_interval::Collections;

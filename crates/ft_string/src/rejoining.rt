@@ -13,9 +13,10 @@ ghost use Rattle.ft_string.specs.Holds.{IsTextSound};
 ghost use Rattle.ft_string.specs.Rejoins.{Gives, GivesOps, NextDue, again_of, due, has_any, has_piece, one_of, piece_op};
 
 use crate::lengths::made_in;
-use crate::moved::{after, push_if};
+use crate::moved::push_if;
 use crate::pending::PendingOp;
 use crate::strings::SharedString;
+use ft_base::moved::after;
 use ft_base::{Datum, OutOfMemory};
 use ft_interval::Collections;
 use ft_op::{BaseOp, BaseOps, TextOp};

@@ -21,10 +21,11 @@ ghost use Rattle.ft_tree_leaves.specs.TextLeaves.{text_units};
 ghost use Rattle.ft_msg.specs.declared.views.Run.{Run};
 
 use crate::lengths::made_in;
-use crate::moved::{push, put};
+use crate::moved::put;
 use crate::strings::SharedString;
 use ft_arena::NodeId;
 use ft_attrib::{Attribution, Origin};
+use ft_base::moved::push;
 use ft_base::{Datum, List, OutOfMemory, Stamp, Steps, Text, seen_at};
 use ft_interval::Collections;
 use ft_msg::{Run, Spot, Spots, View};

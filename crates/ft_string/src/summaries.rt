@@ -20,9 +20,10 @@ ghost use Rattle.ft_string.specs.Parts.{AreSound, state_of};
 
 use crate::contents::{Contents, runs_of};
 use crate::lengths::{have_room, made_in};
-use crate::moved::{beside, both, put};
+use crate::moved::put;
 use crate::segments::segments_of;
 use crate::strings::SharedString;
+use ft_base::moved::{all_three, beside, both};
 use ft_base::{Datum, List, OutOfMemory, Perspective, Text};
 use ft_interval::Collections;
 use ft_json::ValText;
@@ -143,8 +144,7 @@ fn given_ends(ends: Ends2) -> Ends
 fn add_of(i: &IntervalRec) -> Result<TextOp, OutOfMemory>
     ensures { IfOk result (λ op. IsAddOf i.now op) }
 {
-    let names = both(i.label.copy(), i.id.copy());
-    let ((label, id), props) = both(names, set_of(&i.props))?;
+    let (label, id, props) = all_three(i.label.copy(), i.id.copy(), set_of(&i.props))?;
     Ok(TextOp::IntervalAdd {
         label,
         id,

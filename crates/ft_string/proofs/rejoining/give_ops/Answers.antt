@@ -1,7 +1,7 @@
 use Rattle.std.proofs.Common.{◌+◌}
+use Rattle.ft_base.proofs.Results.{after-done}
 use Rattle.ft_interval_store.specs.State.{text_elements}
 use Rattle.ft_string.specs.Rejoins.{GivesOps}
-use Rattle.ft_string.proofs.DoneFirst.{after-done}
 use Rattle.ft_string.proofs.rejoining.give_ops.Goals as goal
 
 pub returns : goal.returns

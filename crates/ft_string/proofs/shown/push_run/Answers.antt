@@ -11,7 +11,7 @@ pub returns-then-same : goal.returns-then-same
 returns-then-same c =
     let filled : c.args.props.now ≡ [] → ⊥ = λ e. (let full = c.is_empty.ensures.1 e in absurd cc) in
     on_ok_weaker c.push.result (run-joined c.args.start c.args.end c.args.props.now c.args.runs.now.items c.push.new.items.items filled c.pop.new.self.items c.in-Some.last
-    c.in-Some.ensures.items c.if-last-start.true (c.same.ensures.0 c.if-same.true)) c.push.ensures
+    c.in-Some.ensures.items c.if-last-start.true (c.same.ensures.0 c.if-same.true)) c.push.ensures.items
 
 pub returns : goal.returns
 returns c =
@@ -25,5 +25,5 @@ returns c =
     ] in
     on_ok_weaker c.begin_run-2.result (λ made. run-apart c.args.start c.args.end c.args.props.now c.args.runs.now.items c.begin_run-2.new.runs.items filled
     c.pop.new.self.items last c.in-Some.ensures.items differs
-    (cc (made, c.in_ok-push.ensures)))
+    (cc (made, c.in_ok-push.ensures.items)))
     c.begin_run-2.ensures

@@ -1,5 +1,6 @@
 use Rattle.std.proofs.Common.{◌≡◌, ◌∙◌, IsTrue, List, [], ap, length, refl, subst, sym, true}
 use Rattle.std.proofs.lemmas.Result.{IfOk-weaker}
+use Rattle.ft_base.proofs.Results.{whenever}
 use Rattle.ft_interval.specs.Indexes.{IndexedState}
 use Rattle.ft_interval_store.specs.State.{text_elements}
 use Rattle.ft_tree_leaves.specs.declared.text.TextContent.{TextContent}
@@ -13,7 +14,6 @@ use Rattle.ft_string.specs.Holds.{HoldsText}
 use Rattle.ft_string.specs.Loads.{AllFitOn, HasIntervals, summary_elements}
 use Rattle.ft_string.specs.Parts.{AreSound, TextElements, state_of}
 use Rattle.ft_string.proofs.LoadedTexts.{filled, summary-fits, summary-held}
-use Rattle.ft_string.proofs.DoneFirst.{whenever}
 use Rattle.ft_string.proofs.summaries.fill.Goals as goal
 
 pub append_all-requires : goal.append_all-requires
