@@ -4,7 +4,7 @@ ghost use Rattle.std.specs.Prelude.{◌≡◌, IfOk, encode_utf8_all};
 ghost use Rattle.ft_msg.specs.MessageGrammar.{draft, message};
 ghost use Rattle.ft_session.specs.Acts.{IsAct};
 
-use crate::handing::boxed;
+use ft_base::moved::boxed;
 use ft_base::{OutOfMemory, Text};
 use ft_msg::{Cause, Draft, Message, read_draft, read_message};
 use ft_op::ChannelOp;

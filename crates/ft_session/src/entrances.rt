@@ -13,10 +13,10 @@ ghost use Rattle.ft_session.specs.Worlds.{AnswersHappening, SessionStands, Stand
 
 use crate::asked::summary_of;
 use crate::guests::has_guest;
-use crate::handing::push;
 use crate::members::{Member, has_member, member_place};
 use crate::outputs::BoxedOut;
 use crate::session::Session;
+use ft_base::moved::push;
 use ft_base::{Datum, OutOfMemory, Text};
 use ft_msg::Replica;
 use ft_seqr::{NAME_LIMIT, Refusal};

@@ -12,10 +12,10 @@ ghost use Rattle.ft_session.specs.Acts.{submitted_guest, submitted_or_refused};
 ghost use Rattle.ft_session.specs.Services.{AnswersService};
 ghost use Rattle.ft_session.specs.Worlds.{AnswersHappening, SessionStands, StandsForSome, service_of};
 
-use crate::handing::push;
 use crate::outputs::{BoxedOut, Values, push_text};
 use crate::service::Service;
 use crate::session::Session;
+use ft_base::moved::push;
 use ft_base::{Datum, OutOfMemory, Text};
 use ft_msg::{Cause, Draft, Entry, Replica, write_message};
 use ft_seqr::{Refusal, connection_name};

@@ -10,7 +10,6 @@ mod deliveries;
 mod edits;
 mod entrances;
 mod guests;
-mod handing;
 mod laws;
 mod links;
 mod loads;

@@ -4,7 +4,7 @@ ghost use Rattle.std.specs.Prelude.{◌≡◌, OnOk};
 ghost use Rattle.ft_session.specs.declared.outputs.Out.TheVariants as out;
 ghost use Rattle.ft_session.specs.Outputs.{AddsText, Writes, WritesAs};
 
-use crate::handing::{both, boxed};
+use ft_base::moved::{beside, boxed};
 use ft_base::{List, OutOfMemory, Text};
 use ft_json::ValText;
 use ft_msg::View;
@@ -26,8 +26,8 @@ pub enum Out {
     Texts(Values),
 }
 
-/// What an event writes, as the functions of this crate hand it on: one word, which takes no memory where
-/// nothing is written. Contracts see what is written.
+/// What an event writes, as the functions of this crate hand it on: two words, and no memory where nothing is
+/// written. Contracts see what is written.
 #[derive(Drop)]
 pub(crate) struct BoxedOut {
     // None where nothing is written.
@@ -84,7 +84,7 @@ impl BoxedOut {
     ) -> Result<BoxedOut, Refusal>
         ensures { WritesAs (λ name. out.View name view) name result }
     {
-        let (name, view) = both(name, view)?;
+        let (name, view) = beside(name, view)?;
         BoxedOut::of(alloc, Out::View { name, view })
     }
 

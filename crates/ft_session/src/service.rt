@@ -7,7 +7,7 @@ ghost use Rattle.ft_laws_sessions.specs.NewNames.{IsNewName};
 ghost use Rattle.ft_session.specs.Services.{AnswersService, left_or_refused};
 ghost use Rattle.ft_session.specs.Worlds.{service_of};
 
-use crate::handing::push;
+use ft_base::moved::push;
 use ft_base::{OutOfMemory, Text};
 use ft_msg::{Draft, Entry, Names};
 use ft_seqr::{Refusal, Sequencer};

@@ -11,12 +11,12 @@ ghost use Rattle.ft_session.specs.Steps.{AnswersStep, StandsAtLoad, further_numb
 ghost use Rattle.ft_session.specs.Worlds.{AnswersEvent, MembersStand, WorldStands};
 
 use crate::acts::{Act, act_of};
-use crate::handing::both;
 use crate::loads::act_load;
 use crate::members::Member;
 use crate::outputs::{BoxedOut, Counts, Out};
 use crate::session::Session;
 use ft_base::OutOfMemory;
+use ft_base::moved::beside;
 use ft_msg::{Numbers, Replica};
 use ft_seqr::{Event, Refusal};
 use std::alloc::Global;
@@ -180,7 +180,7 @@ fn take_act<R: Replica + Drop>(
     ensures effect { IfOk result (λ taken. ActEffect R.COMPACTS act.entry session.old session.new taken.out) }
 {
     let raised = load_after(load, &act);
-    let (load, act) = both(raised, act)?;
+    let (load, act) = beside(raised, act)?;
     let out = session.happen(act)?;
     let counts = furthest_counts(session.members.as_slice());
     Ok(Taken { out, load, counts })
