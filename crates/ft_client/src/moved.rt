@@ -5,17 +5,6 @@ ghost use Rattle.std.specs.Prelude.{◌≡◌, ◌++◌, ◌∷◌, [], List, If
 use ft_base::{List, OutOfMemory};
 use std::alloc::Global;
 
-/// What was made, and the value beside it, if it was made.
-pub(crate) fn beside<A: Drop, B: Drop>(
-    made: Result<A, OutOfMemory>,
-    value: B,
-) -> Result<(A, B), OutOfMemory>
-    ensures made { IfOk result (λ pair. made ≡ Ok pair.0) }
-    ensures value { IfOk result (λ pair. pair.1 ≡ value) }
-{
-    Ok((made?, value))
-}
-
 /// The item alone.
 pub(crate) fn alone<T: Drop>(alloc: Global, item: T) -> Result<List<T>, OutOfMemory>
     ensures { IfOk result (λ items. items ≡ item ∷ []) }

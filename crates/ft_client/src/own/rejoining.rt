@@ -15,10 +15,11 @@ ghost use Rattle.ft_client.specs.Holds.{HoldsTree};
 ghost use Rattle.ft_client.specs.Parts.{are_of_one_edit, is_text_part, own_stage};
 ghost use Rattle.ft_client.specs.Rejoins.{AddsPieces, GivesEdit, GivesEdits, GivesFirst, GivesNext, GivesPart, GivesSome, GivesStage, GivesTree, Joins, are_of_one_part, base_ops, cell_ops};
 
-use crate::moved::{alone, beside, joined};
+use crate::moved::{alone, joined};
 use crate::own::TreeOwn;
 use crate::stages::{OwnStage, Part};
 use ft_base::OutOfMemory;
+use ft_base::moved::beside;
 use ft_msg::Entry;
 use ft_op::{BaseOps, CellOps, ChannelOp, GridOp, TextOp};
 use ft_replica::Resent;
