@@ -1,9 +1,11 @@
 //! What operations of the grid make of a document.
 
-ghost use Rattle.std.specs.Prelude.{◌≡◌, ℕ, OnOk, map};
+ghost use Rattle.std.specs.Prelude.{◌≡◌, ℕ, [], None, OnOk, map, replicate};
+ghost use Rattle.ft_props.specs.Element.{GridUnit};
+ghost use Rattle.ft_props.specs.Steps.{after_insertion};
 ghost use Rattle.ft_op.specs.declared.operations.ChannelOp.TheVariants.{Grid};
 ghost use Rattle.ft_op.specs.Operation.{OnGrid, sub_operations};
-ghost use Rattle.ft_op.specs.Document.{effects, grid_effect, rows_or_cols};
+ghost use Rattle.ft_op.specs.Document.{effects, grid_effect, rows_or_cols, with_rows_or_cols};
 
 use crate::documents::PlainDocument;
 use ft_base::{OutOfMemory, Perspective};
@@ -81,6 +83,20 @@ impl PlainDocument {
         if !self.list(target).is_within(p, at) {
             return self.skip();
         }
+        self.put_units(target, p, count, seq, at)
+    }
+
+    // Puts so many new rows or columns in after `p`.
+    fn put_units(
+        &mut self,
+        target: Target,
+        p: u64,
+        count: u64,
+        seq: u64,
+        at: Perspective,
+    ) -> Result<(), OutOfMemory>
+        ensures { OnOk result (self.new ≡ with_rows_or_cols target self.old (after_insertion seq at.c at.r p None [] (replicate count GridUnit) (rows_or_cols target self.old))) }
+    {
         match target {
             Target::Rows => self.rows.insert_units(p, count, seq, at),
             Target::Cols => self.cols.insert_units(p, count, seq, at),
