@@ -1,3 +1,4 @@
+mod DoneFirst
 pub mod FrontRuns
 pub mod FrontSegments
 pub mod MadeSegments

@@ -1,3 +1,4 @@
+pub mod FilledLists
 pub mod NamedPlaces
 pub mod OpenRuns
 pub mod OpenSegments

@@ -7,6 +7,7 @@ ghost use Rattle.ft_msg.specs.Summary.{list_of, run_items, segment_bodies, segme
 ghost use Rattle.ft_plain_lists.specs.Contents.{content_of};
 
 use ft_base::OutOfMemory;
+use ft_base::moved::push;
 use ft_marks::{stamp_of, stamps_of};
 use ft_plain_lists::{Content, PlainList, characters, units};
 use ft_props::Props;
@@ -56,7 +57,7 @@ fn segment_contents(alloc: Global, seg: &Seg) -> Result<Vec<Content>, OutOfMemor
         Seg::Chars { text } => characters(alloc, text.as_str()),
         Seg::Marker { ref_type } => {
             let mut contents = Vec::new(alloc);
-            contents.push(Content::Marker(*ref_type))?;
+            push(&mut contents, Content::Marker(*ref_type))?;
             Ok(contents)
         }
     }

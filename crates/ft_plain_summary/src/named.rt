@@ -5,6 +5,7 @@ ghost use Rattle.std.specs.Prelude.{◌≡◌, ◌++◌, IfOk, OnOk, map, slice_
 ghost use Rattle.ft_msg.specs.Summary.{cells_of, interval_of};
 ghost use Rattle.ft_plain_summary.specs.NamedPlaces.{named_cell, named_cells, named_end, named_interval, unremoved_names};
 
+use ft_base::moved::{both, push};
 use ft_base::{Datum, OutOfMemory};
 use ft_plain_lists::{
     ElementName, ElementNames, PlainCells, PlainElement, PlainInterval, PlainIntervals,
@@ -19,7 +20,7 @@ fn unremoved_names(alloc: Global, items: &[PlainElement]) -> Result<Vec<ElementN
     let mut names = Vec::new(alloc);
     for e in items {
         if e.is_unremoved() {
-            names.push(e.name())?;
+            push(&mut names, e.name())?;
         }
     }
     Ok(names)
@@ -56,11 +57,20 @@ fn named_intervals(
 fn named_interval(names: &[ElementName], rec: &IntervalRec) -> Result<PlainInterval, OutOfMemory>
     ensures { IfOk result (λ interval. interval ≡ named_interval names.now rec.now) }
 {
-    let ends = ElementNames::new(
+    let ends = named_ends(names, rec);
+    let texts = both(rec.label.copy(), rec.id.copy());
+    let ((label, id), props) = both(texts, rec.props.copy())?;
+    Ok(PlainInterval::new(label, id, &ends, props))
+}
+
+// The names at the ends of the interval.
+fn named_ends(names: &[ElementName], rec: &IntervalRec) -> ElementNames
+    ensures { result ≡ record { first = named_end names.now rec.now.ends.start; second = named_end names.now rec.now.ends.end } }
+{
+    ElementNames::new(
         named_end(names, rec.ends.start),
         named_end(names, rec.ends.end),
-    );
-    Ok(PlainInterval::new(rec.label.copy()?, rec.id.copy()?, &ends, rec.props.copy()?))
+    )
 }
 
 // The name at an end: None exactly where it is detached or behind all.

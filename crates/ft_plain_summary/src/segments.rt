@@ -1,7 +1,8 @@
 //! The segments of the text of a summary. They are made from the front: one is open, and the next element goes
 //! on with it or ends it.
 
-ghost use Rattle.std.specs.Prelude.{◌≡◌, ◌++◌, true, IfOk, OnOk, map};
+ghost use Rattle.std.specs.Prelude.{◌≡◌, ◌++◌, true, IfOk, OnOk, chars, map, string_bytes};
+ghost use Rattle.ft_msg.specs.Content.{content_characters};
 ghost use Rattle.ft_msg.specs.OpenSegments.{ended_segments, open_segment};
 ghost use Rattle.ft_marks.specs.Marks.{mark_of};
 ghost use Rattle.ft_msg.specs.SummaryOf.{element_body, joined_bodies, segment_of, segments_from};
@@ -9,6 +10,7 @@ ghost use Rattle.ft_sumdoc.specs.WellFormed.{are_alike, are_characters};
 ghost use Rattle.ft_plain_lists.specs.Contents.{content_of};
 ghost use Rattle.ft_plain_summary.specs.OpenSegments.{reference_type};
 
+use ft_base::moved::{beside, both};
 use ft_base::{Datum, OutOfMemory, Text};
 use ft_marks::{author_of, mark_of, marks_of, same_mark, same_props, same_stamps};
 use ft_plain_lists::{Content, PlainElement, push_character};
@@ -46,12 +48,12 @@ impl OpenSegment {
         ensures { IfOk result (λ seg. seg ≡ segment_of e.now) }
     {
         let content = e.content();
-        let mut text = String::new(alloc);
-        push_character(&mut text, content)?;
+        let made = both(character_text(alloc, content), e.props().copy());
+        let ((text, props), dels) = beside(made, dels)?;
         Ok(OpenSegment {
             marker: reference_type(content),
             text,
-            props: e.props().copy()?,
+            props,
             by: author_of(e.by()),
             ins: mark_of(&e.ins()),
             dels,
@@ -114,6 +116,15 @@ impl OpenSegment {
     }
 }
 
+// The text of the character, if the content is one.
+fn character_text(alloc: Global, content: Content) -> Result<String, OutOfMemory>
+    ensures { IfOk result (λ text. chars (string_bytes text) ≡ content_characters (content_of content)) }
+{
+    let mut text = String::new(alloc);
+    push_character(&mut text, content)?;
+    Ok(text)
+}
+
 // The reference type, if it is a marker.
 fn reference_type(content: Content) -> Option<u64>
     ensures { result ≡ reference_type content }
@@ -151,7 +162,7 @@ fn extend(
     ensures last { IfOk result (λ seg. seg ≡ open_segment begins last (segment_of e.now)) }
 {
     let alloc = segs.allocator();
-    let dels = marks_of(alloc, e.dels())?;
+    let (dels, last) = marks_beside(alloc, e, last)?;
     if let Some(last) = last {
         if !begins && last.is_alike(e, &dels) {
             return last.joined(e.content());
@@ -159,4 +170,16 @@ fn extend(
         segs.push(last.into_segment())?;
     }
     OpenSegment::new(alloc, e, dels)
+}
+
+// The removals of the element, and the open segment beside them.
+fn marks_beside(
+    alloc: Global,
+    e: &PlainElement,
+    last: Option<OpenSegment>,
+) -> Result<(Marks, Option<OpenSegment>), OutOfMemory>
+    ensures dels { IfOk result (λ pair. pair.0 ≡ map mark_of e.now.dels) }
+    ensures last { IfOk result (λ pair. pair.1 ≡ last) }
+{
+    beside(marks_of(alloc, e.dels()), last)
 }

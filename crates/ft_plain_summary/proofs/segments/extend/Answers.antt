@@ -12,6 +12,7 @@ returns-then-is_alike-clause-last c =
     let next = segment_of c.args.e.now in
     IfOk-weaker c.joined.result (λ seg. seg ≡ record last { body = joined_bodies last.body (element_body (content_of c.content.result)) })
     (λ seg. seg ≡ open_segment c.args.begins c.args.last next)
-    (λ seg made. segment-joined c.args.begins c.args.last last next seg c.in-Some.is c.if-not-begins.true (sym c.is_alike.ensures ∙ c.if-is_alike.true)
+    (λ seg made. segment-joined c.args.begins c.args.last last next seg (sym c.in_ok-dels.ensures.last ∙ c.in-Some.is)
+    c.if-not-begins.true (sym c.is_alike.ensures ∙ c.if-is_alike.true)
     (made ∙ ap (λ content. record last { body = joined_bodies last.body (element_body content) }) c.content.ensures))
     c.joined.ensures
