@@ -1,9 +1,11 @@
 mod Observing
 mod Written
 mod Walking
+mod Hearing
 mod RunLaws
 mod SessionLaws
 mod SessionSteps
+mod MapSteps
 mod GeneratedLaws
 mod PlayLaws
 mod LastLines

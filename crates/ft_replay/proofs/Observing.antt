@@ -1,15 +1,13 @@
 -- What an observer makes of a message, in the steps in which the code comes to it, and the lines of its view.
 use Rattle.std.proofs.Common.{◌≡◌, ℕ, ◌+◌, ◌<◌, ◌≤◌, Bool, true, false, cond, not, ◌&&◌, List, [], ◌∷◌, ◌++◌, Option, Some, None, Result, Ok, Err, bytes_eq, length, arith, refl, sym, ◌∙◌, ap, subst, nat_eq, nat_lt, int_lt, pos, if◌then◌else◌, append_assoc, length-append, drop, drop-cons, get_or, suc, add-one}
 use Rattle.std.specs.List.{list_any}
-use Rattle.std.specs.Prelude.{IfOk}
+use Rattle.std.specs.Prelude.{IfOk, OnErr, OnOk}
 use Rattle.std.proofs.lemmas.Bool.{not-true}
 use Rattle.ft_base.specs.declared.memory.OutOfMemory.{OutOfMemory}
 use Rattle.ft_base.proofs.Booleans.{both}
 use Rattle.ft_json.specs.declared.fields.Field.TheVariants.{MinimumSequenceNumber, ReferenceSequenceNumber}
 use Rattle.ft_op.specs.Document.{Document}
 use Rattle.ft_op.proofs.ReadSteps.{same_value}
-use Rattle.ft_sumdoc.specs.declared.summary.SumDoc.{SumDoc}
-use Rattle.ft_sumdoc.specs.declared.summary.SumFault.{SumFault}
 use Rattle.ft_sumdoc.specs.Counts.{are_distinct_names}
 use Rattle.ft_sumdoc.specs.Summary.{summary}
 use Rattle.ft_msg.specs.declared.faults.ProcessFault.{ProcessFault}
@@ -31,7 +29,6 @@ use Rattle.ft_msg.specs.WellFormed.{IsWellFormedMessage}
 use Rattle.ft_msg.proofs.NameLemmas.{names_after-next}
 use Rattle.ft_msg.proofs.ReachedSteps.{reached-process}
 use Rattle.ft_seqr.specs.declared.refusals.Refusal.{Refusal}
-use Rattle.ft_seqr.specs.declared.refusals.Refusal.TheVariants.{Summary}
 use Rattle.ft_seqr.specs.Refusals.{refusal_of_process}
 use Rattle.ft_seqr.specs.ViewLines.{content_lines, numbers_line}
 use Rattle.ft_session.specs.declared.outputs.Counts.{Counts}
@@ -40,9 +37,9 @@ use Rattle.ft_seqr.specs.Walk.{Step}
 use Rattle.ft_replay.specs.declared.listener.Told.{Told}
 use Rattle.ft_replay.specs.declared.listener.Told.TheVariants.{Nothing, Refused}
 use Rattle.ft_replay.specs.LineForm.{bytes_of}
-use Rattle.ft_replay.specs.Listening.{IsStep, counts_in}
-use Rattle.ft_replay.specs.Loading.{Loading, load_line, load_reading, load_step, observation_of}
-use Rattle.ft_replay.specs.Observation.{Observation, numbered_entry, names_with, nothing_observed, observe, observe_answer, observe_message, observer_numbers}
+use Rattle.ft_replay.specs.Listening.{IsStep, counts_in, told_refusal, told_text}
+use Rattle.ft_replay.specs.Loading.{Loading, load_line, load_reading, load_step}
+use Rattle.ft_replay.specs.Observation.{Observation, numbered_entry, names_with, observe, observe_answer, observe_message, observer_numbers}
 use Rattle.ft_replay.specs.Observers.{Observes}
 use Rattle.ft_replay.specs.Forms.{view_lines}
 
@@ -174,6 +171,25 @@ module _ (old new : ReplicaState) (entry : Entry) where
       (given-refused fault n (refusal_of_process n fault) refl found a seen h)
   given-fault fault n (Err e) is found a seen h = tt
 
+-- the same for a message that was made
+pub given-made : {E : Type 0} (old new : ReplicaState) (made : Result Entry E) (entry : Entry) (r : Result Told OutOfMemory) → made ≡ Ok entry
+    → ((seen : Observation) → Observes seen.names old seen → IfOk r (λ told. IsStep (Observes seen.names new) told (observe_answer seen (process (client_over seen.doc) entry))))
+    → IfOk r (λ told. (e : Entry) × (made ≡ Ok e) × ((seen : Observation) → Observes seen.names old seen
+    → IsStep (Observes seen.names new) told (observe_answer seen (process (client_over seen.doc) e))))
+given-made old new made entry (Ok told) is given = (entry, is, given)
+given-made old new made entry (Err want) is given = tt
+
+-- the message with the number of its sender is well formed, and adds at most one name, if there was memory for that
+pub numbered-formed : {E : Type 0} (names : List (List ℕ)) (m : Message) (r : Result Entry E) → IsWellFormedMessage m → IfOk r (λ entry. entry ≡ numbered_entry names m)
+    → IfOk r (λ entry. IsWellFormedMessage entry.msg)
+numbered-formed names m (Ok entry) formed is = subst (λ (e : Entry). IsWellFormedMessage e.msg) (sym is) formed
+numbered-formed names m (Err want) formed is = tt
+
+pub length-numbered : {E : Type 0} (names later : List (List ℕ)) (name : Option (List ℕ)) (r : Result Entry E) → OnOk r (later ≡ names_with names name) → OnErr r (later ≡ names)
+    → length later ≤ length names + 1
+length-numbered names later name (Ok entry) ok err = omega (arith, ap length ok, length-names_with names name)
+length-numbered names later name (Err want) ok err = omega (arith, ap length err)
+
 -- the step of a message, from the entry that it makes and the names after it
 pub message-step : (table names : List (List ℕ)) (old new : ReplicaState) (m : Message) (entry : Entry) (told : Told) (seen : Observation) → Observes table old seen
     → entry ≡ numbered_entry table m → names ≡ names_with table m.client_id
@@ -223,17 +239,11 @@ load-next Holds told at line begun s =
     subst (λ b. IsStep (λ (next : Loading). (next.begun ≡ true) × Holds next.seen) told (if b then load_step (observe at.seen line) else load_reading (summary line))) (sym begun)
     (record { holds = (refl, s.holds); text = s.text; refusal = s.refusal })
 
--- the step of the summary's line: the observer starts from it, or with nothing where it is refused
-pub load-begins : (Holds : Observation → Type 0) (line : List ℕ) (sum : SumDoc) → summary line ≡ Ok sum → Holds (observation_of sum)
-    → IsStep (λ (next : Loading). (next.begun ≡ true) × Holds next.seen) Nothing (load_reading (summary line))
-load-begins Holds line sum is h =
-    subst (λ r. IsStep (λ (next : Loading). (next.begun ≡ true) × Holds next.seen) Nothing (load_reading r)) (sym is) (record { holds = (refl, h); text = refl; refusal = refl })
-
-pub load-refused : (Holds : Observation → Type 0) (line : List ℕ) (fault : SumFault) → summary line ≡ Err fault → Holds nothing_observed
-    → IsStep (λ (next : Loading). (next.begun ≡ true) × Holds next.seen) (Refused (Summary fault)) (load_reading (summary line))
-load-refused Holds line fault is h =
-    subst (λ r. IsStep (λ (next : Loading). (next.begun ≡ true) × Holds next.seen) (Refused (Summary fault)) (load_reading r)) (sym is)
-    (record { holds = (refl, h); text = refl; refusal = refl })
+-- the step of the summary's line, of which this is told
+pub load-told : {E : Type 0} (Holds : Loading → Type 0) (r : Result Told E) (told : Told) (step : Step Loading) → IfOk r (λ said. said ≡ told) → OnOk r (Holds step.made)
+    → told_text told ≡ bytes_of step.told → told_refusal told ≡ step.refusal → IfOk r (λ said. IsStep Holds said step)
+load-told Holds (Err want) told step is h text refusal = tt
+load-told Holds (Ok said) told step is h text refusal = subst (λ t. IsStep Holds t step) (sym is) (record { holds = h; text = text; refusal = refusal })
 
 -- ---- the names of a summary
 

@@ -106,10 +106,18 @@ with_fault form IsAfter first left held holds source_rose sink_rose is moves =
     subst (λ r. Moves first left held holds (SaysOfLines form IsAfter left source_rose sink_rose r)) (sym is) moves
 
 -- nothing was read or written, since it was out of memory
-pub moves_nothing : {S : Type 0} (form : LineForm S) (first held : Option (List ℕ)) (source_rose sink_rose : Type 0)
-    → Moves first first held held (Says (account_by form) (IsAtEnd first) source_rose sink_rose (Err fault.OutOfMemory))
-moves_nothing form first held source_rose sink_rose =
-    record { given = []; gives = Consumes-nil first; written = []; takes = Appends-nil held; says = inl (begins_nil ((account_by form).report [])) }
+pub moves_nothing : {S : Type 0} (form : LineForm S) (first held : Option (List ℕ)) (source_rose sink_rose : Type 0) (result : Result Ending Fault) → result ≡ Err fault.OutOfMemory
+    → Moves first first held held (Says (account_by form) (IsAtEnd first) source_rose sink_rose result)
+moves_nothing form first held source_rose sink_rose result is =
+    subst (λ r. Moves first first held held (Says (account_by form) (IsAtEnd first) source_rose sink_rose r)) (sym is)
+    (record { given = []; gives = Consumes-nil first; written = []; takes = Appends-nil held; says = inl (begins_nil ((account_by form).report [])) })
+
+-- a fault that is handed on says the same
+pub moves_on : {S : Type 0} (form : LineForm S) (first left held holds : Option (List ℕ)) (source_rose sink_rose : Type 0) {result : Result Ending Fault} {why : Fault}
+    → result ≡ Err why → Moves first left held holds (Says (account_by form) (IsAtEnd left) source_rose sink_rose (Err why))
+    → Moves first left held holds (Says (account_by form) (IsAtEnd left) source_rose sink_rose result)
+moves_on form first left held holds source_rose sink_rose is moves =
+    subst (λ r. Moves first left held holds (Says (account_by form) (IsAtEnd left) source_rose sink_rose r)) (sym is) moves
 
 -- a line was handed out, the bytes given being these
 pub record NextLine (first left : Option (List ℕ)) (old new : Reader) (given : List ℕ) (handed : List (List ℕ)) (line : Line) : Type 0 where
@@ -127,8 +135,9 @@ handed-within limit text End small is = grind (arith, nat_tests)
 module _ {S : Type 0} {form : LineForm S} {IsAfter : Progress S → Type 0} {first next left held holds : Option (List ℕ)} {old new : Reader}
     (stands : Stands form IsAfter first next old held holds) where
   -- the run ends with the input
-  pub moves_end : {before now : ℕ} {line : Line} (line_call : Call old new next left before now (Ok line)) → line ≡ End → Moves first left held holds (AllRead form IsAfter left)
-  moves_end {before} {now} line_call is =
+  pub moves_end : {before now : ℕ} {line : Line} (IsThen : Progress S → Type 0) → ((at : Progress S) → IsAfter at → IsThen at) → (line_call : Call old new next left before now (Ok line))
+      → line ≡ End → Moves first left held holds (AllRead form IsThen left)
+  moves_end {before} {now} IsThen weaken line_call is =
       let call = subst (λ l. Call old new next left before now (Ok l)) is line_call in
       let whole = reading_end stands.reading call in
       record {
@@ -139,7 +148,7 @@ module _ {S : Type 0} {form : LineForm S} {IsAfter : Progress S → Type 0} {fir
         says = record {
           at_end = whole.at_end;
           within = whole.within;
-          after = subst (λ ls. IsAfter (form_after form ls)) (sym whole.lines) stands.after;
+          after = subst (λ ls. IsThen (form_after form ls)) (sym whole.lines) (weaken (form_after form stands.handed) stands.after);
           report = ap (λ ls. bytes_of (form_lines form ls)) (sym whole.lines);
         };
       }

@@ -1,5 +1,5 @@
 -- What the lines of a session write one after another is their report.
-use Rattle.std.proofs.Common.{◌≡◌, ℕ, ◌+◌, ◌≤◌, List, [], ◌∷◌, ◌++◌, length, Option, Some, None, Ok, refl, sym, ◌∙◌, ap, subst, arith}
+use Rattle.std.proofs.Common.{◌≡◌, ℕ, ◌+◌, ◌≤◌, List, [], ◌∷◌, ◌++◌, length, Option, Some, None, sym, ◌∙◌, ap, subst, arith}
 use Rattle.std.proofs.lemmas.Grind.{flat_map-append}
 use Rattle.std.proofs.lemmas.List.{append_cancel_left}
 use Rattle.ft_io.specs.Lines.{with_lf}
@@ -11,7 +11,6 @@ use Rattle.ft_laws_sessions.specs.Reports.{OpenedReportsAreOne}
 use Rattle.ft_replay.specs.Forms.{session_form}
 use Rattle.ft_replay.specs.LineForm.{bytes_of, form_step}
 use Rattle.ft_replay.specs.SessionReplays.{LinesAreCounted, LinesAreRefusedOnce, LinesGrow, ReportsEnd, line_bytes, lines_bytes}
-use Rattle.ft_replay.specs.Writing.{WritesBytes}
 use Rattle.ft_replay.proofs.RunLaws.{after-push, lines-push}
 use Rattle.ft_replay.proofs.SessionLaws.{line-same, lines-same}
 
@@ -38,12 +37,6 @@ line-written opened heard line =
     ∙ sym (lines-push (session_form as_shown) heard line)
     ∙ ap bytes_of (opened (heard ++ line ∷ []))
     ∙ lines-grow heard line)
-
--- all was written, and something else is returned
-pub writes-done : (T U : Type 0) (held holds : Option (List ℕ)) (before now : ℕ) (bytes other : List ℕ) (done : T) (more : U) → bytes ≡ other
-    → WritesBytes {T = T} held holds before now bytes (Ok done) → WritesBytes {T = U} held holds before now other (Ok more)
-writes-done T U held holds before now bytes other done more same h =
-    record { written = h.written; takes = h.takes; later = h.later; says = h.says ∙ same }
 
 -- each line counts
 counted-on : {S : Type 0} (step : S → List ℕ → Step S) (at : Progress S) (lines : List (List ℕ)) → (after_items step at lines).lines ≡ at.lines + length lines

@@ -17,7 +17,7 @@ use Rattle.ft_replay.specs.LineForm.{bytes_of}
 use Rattle.ft_replay.specs.Listening.{IsStep, told_refusal, told_text}
 
 -- what a refusal means that isn't OutOfMemory
-means-refused : (A B : Type 0) (why : Refusal) (kind : RefusalKind) → refusal_kind why ≡ kind → (why ≡ OutOfMemory → ⊥) → MeansOf kind A B → B
+pub means-refused : (A B : Type 0) (why : Refusal) (kind : RefusalKind) → refusal_kind why ≡ kind → (why ≡ OutOfMemory → ⊥) → MeansOf kind A B → B
 means-refused A B why WantsMemory is other h = absurd (wants why is other)
   where
     wants : (why : Refusal) → refusal_kind why ≡ WantsMemory → (why ≡ OutOfMemory → ⊥) → ⊥
@@ -28,22 +28,27 @@ means-refused A B why HadStopped is other h = absurd h
 means-refused A B why Refused is other h = h
 
 -- the line is no event
-pub line-refused : (Holds : NaiveWorld → Type 0) (w : NaiveWorld) (line : List ℕ) (why : Refusal) → IsRefused line why → Holds w
-    → IsStep Holds (told.Refused why) (take_line as_shown w line)
-line-refused Holds w line why (cause, is, same) h =
-    subst (λ a. IsStep Holds (told.Refused why) (answer_reading as_shown w a)) (sym is) (record { holds = h; text = refl; refusal = ap Some same })
+pub line-refused : {E : Type 0} (Holds : NaiveWorld → Type 0) (w : NaiveWorld) (line : List ℕ) (why : Refusal) (r : Result Told E) → IfOk r (λ said. said ≡ told.Refused why)
+    → IfOk r (λ said. why ≡ OutOfMemory → ⊥) → ((why ≡ OutOfMemory → ⊥) → IsRefused line why) → Holds w → IfOk r (λ said. IsStep Holds said (take_line as_shown w line))
+line-refused Holds w line why (Err want) is other refused h = tt
+line-refused Holds w line why (Ok said) is other refused h =
+    let (cause, reads, same) = refused other in
+    subst (λ t. IsStep Holds t (take_line as_shown w line)) (sym is)
+    (subst (λ a. IsStep Holds (told.Refused why) (answer_reading as_shown w a)) (sym reads) (record { holds = h; text = refl; refusal = ap Some same }))
 
 module _ {old new : WorldState} (w : NaiveWorld) (e : Event) (stands : WorldStands old w) where
   -- the world refused the event, and is as it was
   pub event-refused : (why : Refusal) → (why ≡ OutOfMemory → ⊥) → AnswersEvent e old new (Err why) → (new ≡ old) × (step w e ≡ Err why)
   event-refused why other answers = means-refused _ _ why (refusal_kind why) refl other (answers.runs w stands)
 
-  pub told-refused : (why : Refusal) → (why ≡ OutOfMemory → ⊥) → AnswersEvent e old new (Err why)
-      → IsStep (WorldStands new) (told.Refused why) (answer as_shown w (step w e))
-  told-refused why other answers =
+  pub told-refused : {E : Type 0} (why : Refusal) (r : Result Told E) → IfOk r (λ said. said ≡ told.Refused why) → IfOk r (λ said. why ≡ OutOfMemory → ⊥)
+      → AnswersEvent e old new (Err why) → IfOk r (λ said. IsStep (WorldStands new) said (answer as_shown w (step w e)))
+  told-refused why (Err want) is other answers = tt
+  told-refused why (Ok said) is other answers =
       let h = event-refused why other answers in
-      subst (λ s. IsStep (WorldStands new) (told.Refused why) (answer as_shown w s)) (sym h.1)
-      (record { holds = subst (λ x. WorldStands x w) (sym h.0) stands; text = refl; refusal = refl })
+      subst (λ t. IsStep (WorldStands new) t (answer as_shown w (step w e))) (sym is)
+      (subst (λ s. IsStep (WorldStands new) (told.Refused why) (answer as_shown w s)) (sym h.1)
+      (record { holds = subst (λ x. WorldStands x w) (sym h.0) stands; text = refl; refusal = refl }))
 
   -- the world took it
   pub told-taken : (out : Out) (said : Told) → AnswersEvent e old new (Ok out)

@@ -1,6 +1,7 @@
 -- What a sink has taken of some bytes.
-use Rattle.std.proofs.Common.{◌≡◌, ℕ, ◌≤◌, List, [], ◌++◌, Option, Result, Err, take, drop, refl, sym, ◌∙◌, ap, subst, append_assoc}
+use Rattle.std.proofs.Common.{◌≡◌, ℕ, ◌≤◌, List, [], ◌++◌, Option, Result, Ok, Err, IfOk, IfErr, OnOk, take, drop, refl, sym, ◌∙◌, ap, subst, append_assoc}
 use Rattle.std.proofs.lemmas.List.{take-append-drop}
+use Rattle.std.proofs.lemmas.Result.{IfOk-at_ok}
 use Rattle.std.specs.Io.KnownBytes.{Appends}
 use Rattle.ft_io.specs.Streams.{Rose}
 use Rattle.ft_io.proofs.TakenAndLeft.{Appends-nil}
@@ -42,6 +43,26 @@ pub writes_fault : (T U : Type 0) (held holds : Option (List ℕ)) (before now :
 writes_fault T U held holds before now bytes other fault result is same h =
     subst (WritesBytes {T = U} held holds before now other) (sym is) (subst (λ bs. WritesBytes {T = U} held holds before now bs (Err fault)) same
     (record { written = h.written; takes = h.takes; later = h.later; says = said_of_fault T U (Rose before now) bytes h.written fault h.says }))
+
+-- all was written, and something else is returned
+pub writes_done : (T U : Type 0) (held holds : Option (List ℕ)) (before now : ℕ) (bytes other : List ℕ) (done : T) (more : U) → bytes ≡ other
+    → WritesBytes {T = T} held holds before now bytes (Ok done) → WritesBytes {T = U} held holds before now other (Ok more)
+writes_done T U held holds before now bytes other done more same h =
+    record { written = h.written; takes = h.takes; later = h.later; says = h.says ∙ same }
+
+-- what was written says the same where a value is returned once that is done
+pub writes_after : (D T : Type 0) (held holds : Option (List ℕ)) (before now : ℕ) (bytes : List ℕ) (done : Result D Fault) (result : Result T Fault)
+    → OnOk result ((d : D) × (done ≡ Ok d)) → IfErr result (λ fault. done ≡ Err fault) → WritesBytes {T = D} held holds before now bytes done → WritesBytes {T = T} held holds before now bytes result
+writes_after D T held holds before now bytes done (Ok value) (d, is) err h =
+    writes_done D T held holds before now bytes bytes d value refl (subst (WritesBytes {T = D} held holds before now bytes) is h)
+writes_after D T held holds before now bytes done (Err fault) ok is h =
+    writes_fault D T held holds before now bytes bytes fault (Err fault) refl refl (subst (WritesBytes {T = D} held holds before now bytes) is h)
+
+-- and what holds then holds of the value
+pub holds_after : {D T : Type 0} (done : Result D Fault) (result : Result T Fault) (value : T) (P : T → Type 0)
+    → OnOk result ((d : D) × (done ≡ Ok d)) → IfOk result (λ given. given ≡ value) → OnOk done (P value) → IfOk result P
+holds_after done (Err fault) value P ok is h = tt
+holds_after done (Ok given) value P (d, was) is h = subst P (sym is) (IfOk-at_ok (λ _. P value) was h)
 
 -- behind what was written before
 pub begins_append : (done : List ℕ) {front whole : List ℕ} → Begins front whole → Begins (done ++ front) (done ++ whole)

@@ -1,5 +1,5 @@
 -- How far the code of a play follows it.
-use Rattle.std.specs.Prelude.{◌≡◌, ℕ, List, [], ◌∷◌, Option, Some, None, map, option_map, string_bytes}
+use Rattle.std.specs.Prelude.{◌≡◌, ℕ, Bool, ◌&&◌, List, [], ◌∷◌, Option, Some, None, bytes_eq, map, option_map, string_bytes}
 use Rattle.ft_msg.specs.declared.views.View.{View}
 use Rattle.ft_msg.specs.Answers.{view_content}
 use Rattle.ft_session.specs.Worlds.{WorldStands}
@@ -24,6 +24,11 @@ content_text view = bytes_of (content_lines (view_content view))
 pub record Compares (agreement : Agreement) (shown : List NamedClient) : Type 0 where
   pub first : option_map content_text agreement.first ≡ first_shown shown
   pub all : agreement.all ≡ all_agree shown
+
+-- whether all show the same with one more that has this view
+abbrev pub agrees_with : Agreement → View → Bool
+agrees_with agreement view =
+    elim agreement.first as (λ _. Bool) [ None ↦ agreement.all | Some first ↦ agreement.all && bytes_eq (content_text first) (content_text view) ]
 
 -- the clients were shown: their lines were written, and they were compared
 pub record HasShown (showing : Showing) (shown : List NamedClient) : Type 0 where

@@ -24,8 +24,8 @@ impl fmt::Display for Ending {
 
     fn fmt<W: fmt::Write>(&self, f: &mut fmt::Formatter<W>) -> fmt::Result {
         match self {
-            Ending::Done => write!(f, "Done"),
-            Ending::SomeRefused => write!(f, "SomeRefused"),
+            Ending::Done => f.write_str("Done"),
+            Ending::SomeRefused => f.write_str("SomeRefused"),
         }
     }
 }
@@ -51,10 +51,10 @@ impl fmt::Display for Fault {
 
     fn fmt<W: fmt::Write>(&self, f: &mut fmt::Formatter<W>) -> fmt::Result {
         match self {
-            Fault::Read => write!(f, "Read"),
-            Fault::Write => write!(f, "Write"),
-            Fault::OutOfMemory => write!(f, "OutOfMemory"),
-            Fault::InputLimit => write!(f, "InputLimit"),
+            Fault::Read => f.write_str("Read"),
+            Fault::Write => f.write_str("Write"),
+            Fault::OutOfMemory => f.write_str("OutOfMemory"),
+            Fault::InputLimit => f.write_str("InputLimit"),
         }
     }
 }

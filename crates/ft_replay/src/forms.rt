@@ -1,8 +1,8 @@
 //! The commands that read lines.
 
-ghost use Rattle.std.specs.Prelude.{◌≡◌, ◌≤◌, None, OnOk};
+ghost use Rattle.std.specs.Prelude.{◌≡◌, ℕ, ◌≤◌, None, OnOk};
 ghost use Rattle.std.specs.Io.KnownBytes.{IsAtEnd};
-ghost use Rattle.ft_io.specs.Reader.{Call, input_limit};
+ghost use Rattle.ft_io.specs.Reader.{Call, input_limit, new_reader};
 ghost use Rattle.ft_io.specs.Streams.{Rose};
 ghost use Rattle.ft_seqr.specs.Walk.{line_limit};
 ghost use Rattle.ft_replay.specs.Forms.{load_account, log_account, map_account, session_account};
@@ -15,7 +15,7 @@ use crate::listener::{LINE_LIMIT, Listener};
 use crate::loading::LoadRun;
 use crate::maps::MapRun;
 use crate::observer::Observer;
-use crate::replay::Replay;
+use crate::replay::{close_lines, hear_read};
 use crate::session::SessionRun;
 use ft_io::{Line, LineFault, Lines, Sink, Source};
 use ft_laws_sessions::worlds::reports_are_one;
@@ -102,46 +102,73 @@ fn replay_lines<L: Listener, S: Source, K: Sink>(
         (Rose (K.faults out.old) (K.faults out.new)) result) }
     ensures steady { OnOk result ((S.faults src.new ≡ S.faults src.old) × (K.faults out.new ≡ K.faults out.old)) }
 {
-    let replay: Replay<L> = read_lines(alloc, src, out)?;
-    replay.close(alloc, out)
+    let mut listener = L::start(alloc)?;
+    let mut lines = Lines::new(alloc, LINE_LIMIT)?;
+    report_lines(alloc, &mut lines, &mut listener, src, out)
 }
 
-// Reads the lines of a command, and writes what each of them writes.
-fn read_lines<L: Listener, S: Source, K: Sink>(
+// The same with a reader of lines and a listener, both before the first line.
+fn report_lines<L: Listener, S: Source, K: Sink>(
     alloc: Global,
+    lines: &mut Lines,
+    listener: &mut L,
     src: &mut S,
     out: &mut K,
-) -> Result<Replay<L>, Fault>
+) -> Result<Ending, Fault>
+    requires new { lines.old ≡ new_reader line_limit }
+    requires first { L.holds listener.old L.form.first }
+    requires sized { L.size listener.old ≤ input_limit }
     ensures run { Moves (S.remaining src.old) (S.remaining src.new) (K.contents out.old) (K.contents out.new)
-        (SaysOfLines L.form (λ replay at. Follows (L.holds replay.listener) replay.lines replay.refused at) (S.remaining src.new)
+        (Says (account_by L.form) (IsAtEnd (S.remaining src.new)) (Rose (S.faults src.old) (S.faults src.new))
+        (Rose (K.faults out.old) (K.faults out.new)) result) }
+    ensures steady { OnOk result ((S.faults src.new ≡ S.faults src.old) × (K.faults out.new ≡ K.faults out.old)) }
+{
+    let refused = read_lines(alloc, lines, listener, src, out)?;
+    close_lines(alloc, refused, listener, out)
+}
+
+// Reads the lines of a command, and writes what each of them writes. Returns how many of them were refused.
+fn read_lines<L: Listener, S: Source, K: Sink>(
+    alloc: Global,
+    lines: &mut Lines,
+    listener: &mut L,
+    src: &mut S,
+    out: &mut K,
+) -> Result<u64, Fault>
+    requires new { lines.old ≡ new_reader line_limit }
+    requires first { L.holds listener.old L.form.first }
+    requires sized { L.size listener.old ≤ input_limit }
+    ensures run { Moves (S.remaining src.old) (S.remaining src.new) (K.contents out.old) (K.contents out.new)
+        (SaysOfLines L.form (λ refused at. (count : ℕ) × Follows (L.holds listener.new) count refused at) (S.remaining src.new)
         (Rose (S.faults src.old) (S.faults src.new)) (Rose (K.faults out.old) (K.faults out.new)) result) }
     ensures source_later { S.faults src.old ≤ S.faults src.new }
     ensures sink_later { K.faults out.old ≤ K.faults out.new }
     ensures source_steady { OnOk result (S.faults src.new ≡ S.faults src.old) }
     ensures sink_steady { OnOk result (K.faults out.new ≡ K.faults out.old) }
 {
-    let mut lines = Lines::new(alloc, LINE_LIMIT)?;
-    let mut replay = Replay::new(alloc)?;
-    loop {
-        match next_line(&mut lines, &replay, src)? {
-            Line::End => return Ok(replay),
-            line => replay = replay.step(alloc, line, out)?,
+    let mut count = 0;
+    let mut refused = 0;
+    'walk: loop {
+        match next_line(lines, listener, src)? {
+            Line::End => return Ok(refused),
+            line => refused = hear_read(alloc, count, refused, listener, &line, out)?,
         }
+        count += 1;
     }
 }
 
 // The next line, which may be as long as the lines before it allow.
 fn next_line<L: Listener, S: Source>(
     lines: &mut Lines,
-    replay: &Replay<L>,
+    listener: &L,
     src: &mut S,
 ) -> Result<Line, LineFault>
-    ensures call { (made : L.Made) → L.holds replay.now.listener made → lines.old.fault ≡ None
+    ensures call { (made : L.Made) → L.holds listener.now made → lines.old.fault ≡ None
         → Call (record lines.old { limit = L.form.longest made }) lines.new (S.remaining src.old) (S.remaining src.new) (S.faults src.old) (S.faults src.new) result }
-    ensures least { (made : L.Made) → L.holds replay.now.listener made → line_limit ≤ L.form.longest made }
-    ensures most { (made : L.Made) → L.holds replay.now.listener made → L.form.longest made ≤ input_limit }
+    ensures least { (made : L.Made) → L.holds listener.now made → line_limit ≤ L.form.longest made }
+    ensures most { (made : L.Made) → L.holds listener.now made → L.form.longest made ≤ input_limit }
     ensures steady { OnOk result (S.faults src.new ≡ S.faults src.old) }
 {
-    lines.set_limit(replay.limit());
+    lines.set_limit(listener.limit());
     lines.next(src)
 }

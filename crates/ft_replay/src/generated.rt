@@ -10,7 +10,7 @@ ghost use Rattle.ft_replay.specs.Writing.{WritesBytes};
 
 use crate::endings::{Ending, Fault};
 use crate::settings::Settings;
-use crate::writing::put;
+use crate::writing::put_text;
 use ft_base::OutOfMemory;
 use ft_gen::Generator;
 use ft_io::Sink;
@@ -53,8 +53,7 @@ fn write_line<K: Sink>(alloc: Global, event: Event, out: &mut K) -> Result<(), F
     ensures writes { WritesBytes (K.contents out.old) (K.contents out.new) (K.faults out.old) (K.faults out.new) (with_lf (event_line event)) result }
     ensures steady { OnOk result (K.faults out.new ≡ K.faults out.old) }
 {
-    let line = line_of(alloc, event)?;
-    put(out, line.as_bytes())
+    put_text(out, line_of(alloc, event))
 }
 
 // The line of an event that is done with, with its LF.
@@ -62,7 +61,9 @@ fn line_of(alloc: Global, event: Event) -> Result<String, OutOfMemory>
     requires { IsWellFormedEvent event }
     ensures { IfOk result (λ text. string_bytes text ≡ with_lf (event_line event)) }
 {
-    line_text(alloc, &event)
+    let line = line_text(alloc, &event);
+    drop(event);
+    line
 }
 
 // The line of an event, with its LF.

@@ -52,15 +52,15 @@ pub trait Listener: Sized + Drop {
         ensures least { line_limit ≤ result }
         ensures most { result ≤ input_limit };
 
-    /// The listener after a line that is neither blank nor too long, and what is told of it.
+    /// Takes a line that is neither blank nor too long, and returns what is told of it.
     ///
-    /// Returns `OutOfMemory` where there is no room for what the line makes, and then the listener is
-    /// gone.
-    fn take(self, line: &[u8]) -> Result<(Self, Told), OutOfMemory>
-        requires few { size self < 2 ^ 32 - 1 }
+    /// Returns `OutOfMemory` where there is no room for what the line makes, and nothing is said of what the listener
+    /// holds then.
+    fn take(&mut self, line: &[u8]) -> Result<Told, OutOfMemory>
+        requires few { size self.old < 2 ^ 32 - 1 }
         requires within { length line.now ≤ input_limit }
-        ensures step { (made : Made) → holds self made → IfOk result (λ p. IsStep (holds p.0) p.1 (form.read made line.now)) }
-        ensures size { IfOk result (λ p. size p.0 ≤ size self + 1) };
+        ensures step { (made : Made) → holds self.old made → IfOk result (λ told. IsStep (holds self.new) told (form.read made line.now)) }
+        ensures size { size self.new ≤ size self.old + 1 };
 
     /// The lines that show at the end what was made, each with its LF.
     fn view_text(&self) -> Result<String, OutOfMemory>

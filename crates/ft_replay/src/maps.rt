@@ -1,15 +1,19 @@
 //! The map session of a run.
 
-ghost use Rattle.std.specs.Prelude.{◌≡◌, IfOk};
-ghost use Rattle.ft_map.specs.MapReport.{answer};
+ghost use Rattle.std.specs.Prelude.{◌≡◌, ℕ, List, IfOk};
+ghost use Rattle.ft_map.specs.declared.events.MapEvent.{MapEvent};
+ghost use Rattle.ft_map.specs.MapEventReader.{ReadsMapEvent};
+ghost use Rattle.ft_map.specs.MapReport.{answer, take_line};
 ghost use Rattle.ft_map.specs.MapSession.{MapSession, step};
+ghost use Rattle.ft_map.specs.MapWorlds.{AnswersMapEvent, MapWorldState};
 ghost use Rattle.ft_replay.specs.Listening.{IsStep};
 ghost use Rattle.ft_replay.specs.MapRuns.{running};
 
 use crate::listener::{LINE_LIMIT, Listener, Told};
 use crate::map_lines::told_map_output;
+use crate::refusals::told_refused;
 use ft_base::OutOfMemory;
-use ft_map::{MapEvent, MapWorld, read_map_event};
+use ft_map::{MapEvent, MapOut, MapWorld, read_map_event};
 use ft_seqr::Refusal;
 use ft_session::Counts;
 use std::alloc::Global;
@@ -46,12 +50,11 @@ impl Listener for MapRun {
         LINE_LIMIT
     }
 
-    fn take(self, line: &[u8]) -> Result<(MapRun, Told), OutOfMemory> {
-        match read_map_event(self.alloc, line) {
-            Ok(event) => self.take_event(&event),
-            Err(Refusal::OutOfMemory) => Err(OutOfMemory),
-            Err(refusal) => Ok((self, Told::Refused(refusal))),
-        }
+    fn take(&mut self, line: &[u8]) -> Result<Told, OutOfMemory> {
+        let read = read_map_event(self.alloc, line);
+        let told = self.take_read(&read);
+        drop(read);
+        told
     }
 
     fn view_text(&self) -> Result<String, OutOfMemory> {
@@ -64,22 +67,33 @@ impl Listener for MapRun {
 }
 
 impl MapRun {
-    // The session after an event, and what is told of it.
-    fn take_event(mut self, event: &MapEvent) -> Result<(MapRun, Told), OutOfMemory>
-        ensures { (w : MapSession) → self.world ≡ running w → IfOk result (λ p. IsStep (λ v. p.0.world ≡ running v) p.1 (answer w (step w event.now))) }
+    // Takes the event that a line is, if it is one, and says what is told of it.
+    fn take_read(&mut self, read: &Result<MapEvent, Refusal>) -> Result<Told, OutOfMemory>
+        ensures { (w : MapSession) (line : List ℕ) → self.old.world ≡ running w → ReadsMapEvent line read.now
+            → IfOk result (λ told. IsStep (λ v. self.new.world ≡ running v) told (take_line w line)) }
     {
-        let told = self.tell(event)?;
-        Ok((self, told))
+        match read {
+            Ok(event) => self.tell(event),
+            Err(refusal) => told_refused(*refusal),
+        }
     }
 
     // Takes an event, and says what is told of it.
     fn tell(&mut self, event: &MapEvent) -> Result<Told, OutOfMemory>
         ensures { (w : MapSession) → self.old.world ≡ running w → IfOk result (λ told. IsStep (λ v. self.new.world ≡ running v) told (answer w (step w event.now))) }
     {
-        match self.world.step(event) {
-            Ok(out) => told_map_output(self.alloc, &out),
-            Err(Refusal::OutOfMemory) => Err(OutOfMemory),
-            Err(refusal) => Ok(Told::Refused(refusal)),
-        }
+        let answered = self.world.step(event);
+        told_answer(self.alloc, &answered)
+    }
+}
+
+// What is told of an event that the world answered so.
+fn told_answer(alloc: Global, answered: &Result<MapOut, Refusal>) -> Result<Told, OutOfMemory>
+    ensures { (e : MapEvent) (old new : MapWorldState) (w : MapSession) → old ≡ running w → AnswersMapEvent e old new answered.now
+        → IfOk result (λ told. IsStep (λ v. new ≡ running v) told (answer w (step w e))) }
+{
+    match answered {
+        Ok(out) => told_map_output(alloc, out),
+        Err(refusal) => told_refused(*refusal),
     }
 }

@@ -1,21 +1,27 @@
 //! The observer of a log.
 
-ghost use Rattle.std.specs.Prelude.{◌≡◌, ◌≢◌, ◌+◌, ◌-◌, ◌<◌, ◌≤◌, ◌^◌, IfOk, IsTrue, OnOk, OnErr, length};
+ghost use Rattle.std.specs.Prelude.{◌≡◌, ◌≢◌, ◌+◌, ◌-◌, ◌∷◌, ◌<◌, ◌≤◌, ◌^◌, IfOk, IsTrue, Ok, OnOk, OnErr, length, string_bytes};
 ghost use Rattle.ft_sumdoc.specs.Counts.{are_distinct_names};
 ghost use Rattle.ft_sumdoc.specs.Valid.{IsValidSummary};
+ghost use Rattle.ft_msg.specs.declared.messages.Entry.{Entry};
+ghost use Rattle.ft_msg.specs.declared.views.View.{View};
+ghost use Rattle.ft_msg.specs.Answers.{view_content};
 ghost use Rattle.ft_msg.specs.Client.{client_over};
 ghost use Rattle.ft_msg.specs.Process.{process};
 ghost use Rattle.ft_msg.specs.WellFormed.{IsWellFormedMessage};
 ghost use Rattle.ft_seqr.specs.Refusals.{refusal_of_process};
+ghost use Rattle.ft_seqr.specs.ViewLines.{content_lines, numbers_line};
+ghost use Rattle.ft_replay.specs.LineForm.{bytes_of};
 ghost use Rattle.ft_replay.specs.Listening.{IsStep};
 ghost use Rattle.ft_replay.specs.Loading.{observation_of};
-ghost use Rattle.ft_replay.specs.Observation.{Observation, numbered_entry, names_with, observe_answer, observe_message};
+ghost use Rattle.ft_replay.specs.Observation.{Observation, numbered_entry, names_with, observe_answer, observe_message, sender_number};
 ghost use Rattle.ft_replay.specs.Observers.{Observes};
 
 use crate::listener::{LINE_LIMIT, Listener, Told};
+use crate::moved::{both, made_beside};
 use crate::view_lines::view_text;
-use ft_base::OutOfMemory;
-use ft_msg::{Cause, Entry, Message, Names, ProcessFault, Replica, ViewFault, read_message};
+use ft_base::{OutOfMemory, Text};
+use ft_msg::{Cause, Entry, Message, Names, ProcessFault, Replica, View, ViewFault, read_message};
 use ft_seqr::Refusal;
 use ft_session::Counts;
 use ft_sumdoc::{SumDoc, Texts};
@@ -45,10 +51,11 @@ impl<R: Replica + Drop> Listener for Observer<R> {
     ghost size = { λ a. length a.names };
 
     fn start(alloc: Global) -> Result<Observer<R>, OutOfMemory> {
+        let replica = R::start(alloc)?;
         Ok(Observer {
             alloc,
             names: Names::new(alloc),
-            replica: R::start(alloc)?,
+            replica,
         })
     }
 
@@ -56,19 +63,17 @@ impl<R: Replica + Drop> Listener for Observer<R> {
         LINE_LIMIT
     }
 
-    fn take(self, line: &[u8]) -> Result<(Observer<R>, Told), OutOfMemory> {
+    fn take(&mut self, line: &[u8]) -> Result<Told, OutOfMemory> {
         match read_message(self.alloc, line) {
             Ok(message) => self.take_message(message),
             Err(Cause::OutOfMemory) => Err(OutOfMemory),
-            Err(cause) => Ok((self, Told::Refused(Refusal::of_cause(cause)))),
+            Err(cause) => Ok(Told::Refused(Refusal::of_cause(cause))),
         }
     }
 
     fn view_text(&self) -> Result<String, OutOfMemory> {
-        match self.replica.view() {
-            Ok(view) => view_text(self.alloc, &view),
-            Err(ViewFault::OutOfMemory | ViewFault::Stopped { .. }) => Err(OutOfMemory),
-        }
+        let shown = self.replica.view();
+        shown_text(self.alloc, &shown)
     }
 
     fn counts(&self) -> Option<Counts> {
@@ -87,8 +92,9 @@ impl<R: Replica + Drop> Observer<R> {
         requires few { length sum.now.conns < 2 ^ 32 }
         ensures { IfOk result (λ a. Observes a.names (R.state a.replica) (observation_of sum.now)) }
     {
-        let names = table_of(alloc, &sum.conns)?;
-        let replica = R::from_summary(alloc, sum)?;
+        let table = table_of(alloc, &sum.conns);
+        let made = R::from_summary(alloc, sum);
+        let (names, replica) = both(table, made)?;
         Ok(Observer {
             alloc,
             names,
@@ -96,27 +102,28 @@ impl<R: Replica + Drop> Observer<R> {
         })
     }
 
-    // The observer after a message, and what is told of it.
-    fn take_message(self, msg: Message) -> Result<(Observer<R>, Told), OutOfMemory>
-        requires room { length self.names < 2 ^ 32 - 1 }
+    // Takes a message, and says what is told of it.
+    fn take_message(&mut self, msg: Message) -> Result<Told, OutOfMemory>
+        requires room { length self.old.names < 2 ^ 32 - 1 }
         requires formed { IsWellFormedMessage msg }
-        ensures step { (seen : Observation) → Observes self.names (R.state self.replica) seen
-            → IfOk result (λ p. IsStep (Observes p.0.names (R.state p.0.replica)) p.1 (observe_message seen msg)) }
-        ensures names { IfOk result (λ p. length p.0.names ≤ length self.names + 1) }
+        ensures step { (seen : Observation) → Observes self.old.names (R.state self.old.replica) seen
+            → IfOk result (λ told. IsStep (Observes self.new.names (R.state self.new.replica)) told (observe_message seen msg)) }
+        ensures names { length self.new.names ≤ length self.old.names + 1 }
     {
-        let Observer {
-            alloc,
-            mut names,
-            mut replica,
-        } = self;
-        let entry = number_sender(&mut names, msg)?;
-        let told = give(&mut replica, &entry)?;
-        let observer = Observer {
-            alloc,
-            names,
-            replica,
-        };
-        Ok((observer, told))
+        let made = number_sender(&mut self.names, msg);
+        let told = give_made(&mut self.replica, &made);
+        drop(made);
+        told
+    }
+}
+
+// The lines of what is shown, if it is.
+fn shown_text(alloc: Global, shown: &Result<View, ViewFault>) -> Result<String, OutOfMemory>
+    ensures { IfOk result (λ text. (view : View) × (shown.now ≡ Ok view) × (string_bytes text ≡ bytes_of (numbers_line view.numbers ∷ content_lines (view_content view)))) }
+{
+    match shown {
+        Ok(view) => view_text(alloc, view),
+        Err(_) => Err(OutOfMemory),
     }
 }
 
@@ -142,11 +149,39 @@ pub fn number_sender(names: &mut Names, msg: Message) -> Result<Entry, OutOfMemo
     ensures names { OnOk result (names.new ≡ names_with names.old msg.client_id) }
     ensures err { OnErr result (names.new ≡ names.old) }
 {
-    let origin = match &msg.client_id {
-        Some(name) => names.number(name)?,
-        None => 0,
-    };
+    let number = sender_number(names, &msg.client_id);
+    let (origin, msg) = made_beside(number, msg)?;
     Ok(Entry { msg, origin })
+}
+
+/// The number of the connection with this name, a new one where it has none yet; 0 for no name.
+///
+/// Returns `OutOfMemory` where there is no room for a new name, and then nothing changed.
+pub fn sender_number(names: &mut Names, sender: &Option<Text>) -> Result<u32, OutOfMemory>
+    requires { length names.old < 2 ^ 32 - 1 }
+    ensures ok { IfOk result (λ number. number ≡ sender_number names.old sender.now) }
+    ensures names { OnOk result (names.new ≡ names_with names.old sender.now) }
+    ensures err { OnErr result (names.new ≡ names.old) }
+{
+    match sender {
+        Some(name) => names.number(name),
+        None => Ok(0),
+    }
+}
+
+// Gives the replica a message, if it was made, and returns what is told of it.
+fn give_made<R: Replica>(
+    replica: &mut R,
+    made: &Result<Entry, OutOfMemory>,
+) -> Result<Told, OutOfMemory>
+    requires { IfOk made.now (λ entry. IsWellFormedMessage entry.msg) }
+    ensures { IfOk result (λ told. (entry : Entry) × (made.now ≡ Ok entry) × ((seen : Observation) → Observes seen.names (R.state replica.old) seen
+        → IsStep (Observes seen.names (R.state replica.new)) told (observe_answer seen (process (client_over seen.doc) entry)))) }
+{
+    match made {
+        Ok(entry) => give(replica, entry),
+        Err(_) => Err(OutOfMemory),
+    }
 }
 
 // Gives the replica a message, and returns what is told of it.

@@ -1,6 +1,6 @@
 //! A generated session, played.
 
-ghost use Rattle.std.specs.Prelude.{◌≡◌, ◌++◌, List, IfOk, OnOk, string_bytes};
+ghost use Rattle.std.specs.Prelude.{◌≡◌, ◌≢◌, ◌+◌, ◌++◌, List, IfOk, OnOk, string_bytes};
 ghost use Rattle.ft_io.specs.Lines.{with_lf};
 ghost use Rattle.ft_seqr.specs.WellFormedEvent.{IsWellFormedEvent};
 ghost use Rattle.ft_seqr.specs.World.{NamedClient, Output, furthest};
@@ -17,7 +17,7 @@ use crate::report::closing_text;
 use crate::settings::Settings;
 use crate::showing::Showing;
 use crate::sums::added;
-use crate::writing::put;
+use crate::writing::put_text;
 use ft_base::OutOfMemory;
 use ft_io::Sink;
 use ft_msg::Replica;
@@ -50,40 +50,28 @@ pub fn write_play<R: Replica + Drop, K: Sink>(
     ensures writes { WritesBytes (K.contents out.old) (K.contents out.new) (K.faults out.old) (K.faults out.new) (bytes_of (play_lines settings)) result }
     ensures steady { OnOk result (K.faults out.new ≡ K.faults out.old) }
 {
-    let play = play_session::<R>(alloc, settings)?;
-    write_played(&play, settings, out)
+    let mut play = Play::<R>::new(alloc);
+    let played = play.take_session(settings);
+    let ending = write_played(&play, played, settings, out);
+    drop(play);
+    ending
 }
 
-// Writes what became of the clients of a session that was played.
+// Writes what became of the clients of a session, if it was played.
 fn write_played<R: Replica + Drop, K: Sink>(
     play: &Play<R>,
+    played: Result<(), OutOfMemory>,
     settings: Settings,
     out: &mut K,
 ) -> Result<Ending, Fault>
-    ensures ends { (at : Played) → Plays play.now at → IfOk result (λ ending. ending ≡ whole_ending at.refused (furthest at.made)) }
-    ensures writes { (at : Played) → Plays play.now at
+    ensures ends { (at : Played) → OnOk played (Plays play.now at) → IfOk result (λ ending. ending ≡ whole_ending at.refused (furthest at.made)) }
+    ensures writes { (at : Played) → OnOk played (Plays play.now at)
         → WritesBytes (K.contents out.old) (K.contents out.new) (K.faults out.old) (K.faults out.new) (bytes_of (lines_of_play settings at)) result }
     ensures steady { OnOk result (K.faults out.new ≡ K.faults out.old) }
 {
-    let text = play.text(settings)?;
-    put(out, text.as_bytes())?;
+    played?;
+    put_text(out, play.text(settings))?;
     Ok(play.ending())
-}
-
-// The play of the session that is generated with these settings.
-fn play_session<R: Replica + Drop>(
-    alloc: Global,
-    settings: Settings,
-) -> Result<Play<R>, OutOfMemory>
-    requires { IsWithinLimits settings }
-    ensures { IfOk result (λ play. Plays play (session_play settings)) }
-{
-    let mut events = session_events(alloc, settings);
-    let mut play = Play::<R>::new(alloc);
-    while let Some(event) = events.next()? {
-        play.take_whole(event)?;
-    }
-    Ok(play)
 }
 
 impl<R: Replica + Drop> Play<R> {
@@ -99,12 +87,27 @@ impl<R: Replica + Drop> Play<R> {
         }
     }
 
+    // Takes the events of the session that is generated with these settings, behind no other.
+    fn take_session(&mut self, settings: Settings) -> Result<(), OutOfMemory>
+        requires within { IsWithinLimits settings }
+        requires first { Plays self.old nothing_played }
+        ensures { OnOk result (Plays self.new (session_play settings)) }
+    {
+        let mut events = session_events(self.alloc, settings);
+        'session: while let Some(event) = events.next()? {
+            self.take_whole(event)?;
+        }
+        Ok(())
+    }
+
     // Takes an event, which is done with.
     fn take_whole(&mut self, event: Event) -> Result<(), OutOfMemory>
         requires { IsWellFormedEvent event }
         ensures { (at : Played) → Plays self.old at → OnOk result (Plays self.new (after_event at event)) }
     {
-        self.take(&event)
+        let taken = self.take(&event);
+        drop(event);
+        taken
     }
 
     // Takes an event.
@@ -114,8 +117,22 @@ impl<R: Replica + Drop> Play<R> {
     {
         match self.world.step(event) {
             Ok(out) => show(self.alloc, &mut self.showing, out),
-            Err(Refusal::OutOfMemory) => Err(OutOfMemory),
-            Err(_) => {
+            Err(why) => self.count_refused(why),
+        }
+    }
+
+    // Counts an event that is refused so.
+    //
+    // Returns `OutOfMemory` where it is for want of memory, or there are too many.
+    fn count_refused(&mut self, why: Refusal) -> Result<(), OutOfMemory>
+        ensures found { OnOk result (why ≢ Refusal.OutOfMemory) }
+        ensures count { OnOk result (self.new.refused ≡ self.old.refused + 1) }
+        ensures world { self.new.world ≡ self.old.world }
+        ensures showing { self.new.showing ≡ self.old.showing }
+    {
+        match why {
+            Refusal::OutOfMemory => Err(OutOfMemory),
+            _ => {
                 self.refused = added(self.refused, 1)?;
                 Ok(())
             }

@@ -1,19 +1,22 @@
 //! The session of a run.
 
-ghost use Rattle.std.specs.Prelude.{IfOk};
-ghost use Rattle.ft_seqr.specs.SessionReport.{answer, as_shown};
+ghost use Rattle.std.specs.Prelude.{ℕ, List, IfOk};
+ghost use Rattle.ft_seqr.specs.declared.events.Event.{Event};
+ghost use Rattle.ft_seqr.specs.EventReader.{ReadsEvent};
+ghost use Rattle.ft_seqr.specs.SessionReport.{answer, as_shown, take_line};
 ghost use Rattle.ft_seqr.specs.WellFormedEvent.{IsWellFormedEvent};
-ghost use Rattle.ft_seqr.specs.World.{NaiveWorld, step};
-ghost use Rattle.ft_session.specs.Worlds.{WorldStands};
+ghost use Rattle.ft_seqr.specs.World.{NaiveWorld, new_world, step};
+ghost use Rattle.ft_session.specs.Worlds.{AnswersEvent, WorldStands, WorldState};
 ghost use Rattle.ft_replay.specs.Listening.{IsStep};
 
 use crate::event_lines::told_output;
 use crate::listener::{LINE_LIMIT, Listener, Told};
+use crate::refusals::told_refused;
 use ft_base::OutOfMemory;
 use ft_laws_sessions::formed::reads_are_well_formed;
 use ft_msg::Replica;
 use ft_seqr::{Event, Refusal, read_event};
-use ft_session::{Counts, World};
+use ft_session::{Counts, Out, World};
 use std::alloc::Global;
 
 /// The session of a run: a world that takes the events that its lines are, and that always found
@@ -39,25 +42,19 @@ impl<R: Replica + Drop> Listener for SessionRun<R> {
     ghost size = { λ a. 0 };
 
     fn start(alloc: Global) -> Result<SessionRun<R>, OutOfMemory> {
-        Ok(SessionRun {
-            alloc,
-            world: World::new(alloc),
-        })
+        Ok(SessionRun::new(alloc))
     }
 
     fn limit(&self) -> usize {
         LINE_LIMIT
     }
 
-    fn take(self, line: &[u8]) -> Result<(SessionRun<R>, Told), OutOfMemory> {
-        match read_event(self.alloc, line) {
-            Ok(event) => {
-                reads_are_well_formed();
-                self.take_event(&event)
-            }
-            Err(Refusal::OutOfMemory) => Err(OutOfMemory),
-            Err(refusal) => Ok((self, Told::Refused(refusal))),
-        }
+    fn take(&mut self, line: &[u8]) -> Result<Told, OutOfMemory> {
+        reads_are_well_formed();
+        let read = read_event(self.alloc, line);
+        let told = self.take_read(&read);
+        drop(read);
+        told
     }
 
     fn view_text(&self) -> Result<String, OutOfMemory> {
@@ -70,14 +67,26 @@ impl<R: Replica + Drop> Listener for SessionRun<R> {
 }
 
 impl<R: Replica + Drop> SessionRun<R> {
-    // The session after an event, and what is told of it.
-    fn take_event(mut self, event: &Event) -> Result<(SessionRun<R>, Told), OutOfMemory>
-        requires { IsWellFormedEvent event.now }
-        ensures { (w : NaiveWorld) → WorldStands self.world w
-            → IfOk result (λ p. IsStep (WorldStands p.0.world) p.1 (answer as_shown w (step w event.now))) }
+    /// A session before its first event. It takes no memory.
+    pub fn new(alloc: Global) -> SessionRun<R>
+        ensures { WorldStands result.world new_world }
     {
-        let told = self.tell(event)?;
-        Ok((self, told))
+        SessionRun {
+            alloc,
+            world: World::new(alloc),
+        }
+    }
+
+    // Takes the event that a line is, if it is one, and says what is told of it.
+    fn take_read(&mut self, read: &Result<Event, Refusal>) -> Result<Told, OutOfMemory>
+        requires { IfOk read.now IsWellFormedEvent }
+        ensures { (w : NaiveWorld) (line : List ℕ) → WorldStands self.old.world w → ReadsEvent line read.now
+            → IfOk result (λ told. IsStep (WorldStands self.new.world) told (take_line as_shown w line)) }
+    {
+        match read {
+            Ok(event) => self.tell(event),
+            Err(refusal) => told_refused(*refusal),
+        }
     }
 
     // Takes an event, and says what is told of it.
@@ -86,10 +95,18 @@ impl<R: Replica + Drop> SessionRun<R> {
         ensures { (w : NaiveWorld) → WorldStands self.old.world w
             → IfOk result (λ told. IsStep (WorldStands self.new.world) told (answer as_shown w (step w event.now))) }
     {
-        match self.world.step(event) {
-            Ok(out) => told_output(self.alloc, &out),
-            Err(Refusal::OutOfMemory) => Err(OutOfMemory),
-            Err(refusal) => Ok(Told::Refused(refusal)),
-        }
+        let answered = self.world.step(event);
+        told_answer(self.alloc, &answered)
+    }
+}
+
+// What is told of an event that the world answered so.
+fn told_answer(alloc: Global, answered: &Result<Out, Refusal>) -> Result<Told, OutOfMemory>
+    ensures { (e : Event) (old new : WorldState) (w : NaiveWorld) → WorldStands old w → AnswersEvent e old new answered.now
+        → IfOk result (λ told. IsStep (WorldStands new) told (answer as_shown w (step w e))) }
+{
+    match answered {
+        Ok(out) => told_output(alloc, out),
+        Err(refusal) => told_refused(*refusal),
     }
 }

@@ -1,12 +1,11 @@
 //! A session whose lines come one after another.
 
-ghost use Rattle.std.specs.Prelude.{◌≡◌, ℕ, ◌<◌, ◌≤◌, ◌↔◌, IsTrue, List, [], ◌∷◌, ◌++◌, IfOk, OnOk};
+ghost use Rattle.std.specs.Prelude.{◌≡◌, ℕ, ◌<◌, ◌≤◌, ◌↔◌, IsTrue, List, [], ◌∷◌, ◌++◌, Ok, Err, IfErr, IfOk, OnOk};
 ghost use Rattle.ft_io.specs.Reader.{input_limit};
 ghost use Rattle.ft_replay.specs.SessionReplays.{HasHeard, LinesAreCounted, LinesAreRefusedOnce, LinesGrow, ReportsEnd, end_bytes, heard_ending, heard_refused, line_bytes};
 ghost use Rattle.ft_replay.specs.Writing.{WritesBytes};
 
 use crate::endings::{Ending, Fault};
-use crate::listener::Listener;
 use crate::replay::{close_lines, hear_line};
 use crate::session::SessionRun;
 use ft_base::OutOfMemory;
@@ -35,12 +34,11 @@ impl<R: Replica + Drop> SessionReplay<R> {
     pub fn new(alloc: Global) -> Result<SessionReplay<R>, OutOfMemory>
         ensures { IfOk result (λ s. HasHeard s.run.world s.lines s.refused []) }
     {
-        let run = SessionRun::start(alloc)?;
         Ok(SessionReplay {
             alloc,
             lines: 0,
             refused: 0,
-            run,
+            run: SessionRun::new(alloc),
         })
     }
 
@@ -63,7 +61,7 @@ impl<R: Replica + Drop> SessionReplay<R> {
     ///
     /// Returns `Write` only where the sink's count of faults rose, and `OutOfMemory` where there is no room for
     /// what the line makes or writes; then the session is gone.
-    pub fn hear<K: Sink>(self, line: &[u8], out: &mut K) -> Result<SessionReplay<R>, Fault>
+    pub fn hear<K: Sink>(mut self, line: &[u8], out: &mut K) -> Result<SessionReplay<R>, Fault>
         requires few { self.lines ≤ input_limit }
         ensures after { (heard : List (List ℕ)) → HasHeard self.run.world self.lines self.refused heard
             → IfOk result (λ s. HasHeard s.run.world s.lines s.refused (heard ++ line.now ∷ [])) }
@@ -71,21 +69,31 @@ impl<R: Replica + Drop> SessionReplay<R> {
             → WritesBytes (K.contents out.old) (K.contents out.new) (K.faults out.old) (K.faults out.new) (line_bytes heard line.now) result }
         ensures steady { OnOk result (K.faults out.new ≡ K.faults out.old) }
     {
+        let heard = self.hear_next(line, out);
+        after(heard, self)
+    }
+
+    // Hears a line, which is given without its LF, and writes what it writes.
+    fn hear_next<K: Sink>(&mut self, line: &[u8], out: &mut K) -> Result<(), Fault>
+        requires { self.old.lines ≤ input_limit }
+        ensures after { (heard : List (List ℕ)) → HasHeard self.old.run.world self.old.lines self.old.refused heard
+            → OnOk result (HasHeard self.new.run.world self.new.lines self.new.refused (heard ++ line.now ∷ [])) }
+        ensures writes { (heard : List (List ℕ)) → HasHeard self.old.run.world self.old.lines self.old.refused heard
+            → WritesBytes (K.contents out.old) (K.contents out.new) (K.faults out.old) (K.faults out.new) (line_bytes heard line.now) result }
+        ensures steady { OnOk result (K.faults out.new ≡ K.faults out.old) }
+    {
         reports_are_one();
-        let SessionReplay {
-            alloc,
-            lines,
-            refused,
-            run,
-        } = self;
-        let heard = hear_line(alloc, lines, refused, run, line, out)?;
-        let (lines, refused, run) = heard;
-        Ok(SessionReplay {
-            alloc,
-            lines,
-            refused,
-            run,
-        })
+        let refused = hear_line(
+            self.alloc,
+            self.lines,
+            self.refused,
+            &mut self.run,
+            line,
+            out,
+        )?;
+        self.lines += 1;
+        self.refused = refused;
+        Ok(())
     }
 
     /// Writes what stands behind the lines. Returns whether none was refused and no sub-operation skipped.
@@ -99,13 +107,21 @@ impl<R: Replica + Drop> SessionReplay<R> {
             → WritesBytes (K.contents out.old) (K.contents out.new) (K.faults out.old) (K.faults out.new) (end_bytes heard) result }
         ensures steady { OnOk result (K.faults out.new ≡ K.faults out.old) }
     {
-        let SessionReplay {
-            alloc,
-            lines,
-            refused,
-            run,
-        } = self;
-        close_lines(alloc, lines, refused, run, out)
+        let ending = close_lines(self.alloc, self.refused, &self.run, out);
+        drop(self);
+        ending
+    }
+}
+
+// The value, if what was to be done before is done.
+fn after<D: Drop, T: Drop>(done: Result<D, Fault>, value: T) -> Result<T, Fault>
+    ensures done { OnOk result ((d : D) × (done ≡ Ok d)) }
+    ensures value { IfOk result (λ given. given ≡ value) }
+    ensures err { IfErr result (λ fault. done ≡ Err fault) }
+{
+    match done {
+        Ok(_) => Ok(value),
+        Err(fault) => Err(fault),
     }
 }
 

@@ -1,13 +1,12 @@
 //! What is written of the clients that a play shows.
 
-ghost use Rattle.std.specs.Prelude.{◌≡◌, ◌+◌, ◌∷◌, ◌++◌, ◌&&◌, List, [], true, IfOk, OnOk, bytes_eq, chars, length, string_bytes};
+ghost use Rattle.std.specs.Prelude.{◌≡◌, ◌+◌, ◌∷◌, ◌++◌, ◌&&◌, List, [], Some, true, IfOk, OnOk, bytes_eq, chars, length, string_bytes, unwrap_or};
 ghost use Rattle.ft_io.specs.Lines.{with_lf};
 ghost use Rattle.ft_msg.specs.Answers.{view_content};
-ghost use Rattle.ft_msg.specs.Content.{content};
 ghost use Rattle.ft_seqr.specs.World.{NamedClient};
 ghost use Rattle.ft_session.specs.Outputs.{IsViewOf};
 ghost use Rattle.ft_replay.specs.Play.{client_line, client_numbers, content_numbers, text_hash};
-ghost use Rattle.ft_replay.specs.Playing.{Compares, HasShown, content_text};
+ghost use Rattle.ft_replay.specs.Playing.{HasShown, agrees_with, content_text};
 
 use crate::sums::added;
 use crate::view_lines::push_content;
@@ -51,26 +50,50 @@ impl Showing {
         ensures { (shown : List NamedClient) (c : NamedClient) → HasShown self.old shown → IsViewOf c name.now view
             → OnOk result (HasShown self.new (shown ++ c ∷ [])) }
     {
-        let line = client_line(alloc, name, &view)?;
+        let added = self.add_line(alloc, name, &view);
+        keep_first(added, &mut self.agreement.first, view)
+    }
+
+    // Adds the line of one more client, and compares what its view shows with that of the first one, if there is one.
+    fn add_line(&mut self, alloc: Global, name: &Text, view: &View) -> Result<(), OutOfMemory>
+        ensures lines { (c : NamedClient) → IsViewOf c name.now view.now
+            → OnOk result (string_bytes self.new.lines ≡ string_bytes self.old.lines ++ with_lf (client_line c)) }
+        ensures first { self.new.agreement.first ≡ self.old.agreement.first }
+        ensures all { OnOk result (self.new.agreement.all ≡ agrees_with self.old.agreement view.now) }
+    {
+        let line = client_line(alloc, name, view)?;
         self.lines.push_str(line.as_str())?;
-        self.agreement.compare(alloc, view)
+        self.agreement.all = self.agreement.all_with(alloc, view)?;
+        Ok(())
     }
 }
 
 impl Agreement {
-    // Compares one more client, which has this view.
+    // Whether all show the same, with one more that has this view.
     //
-    // Returns `OutOfMemory` where there is no room for what it shows.
-    fn compare(&mut self, alloc: Global, view: View) -> Result<(), OutOfMemory>
-        ensures { (shown : List NamedClient) (c : NamedClient) → Compares self.old shown → view_content view ≡ content c.client
-            → OnOk result (Compares self.new (shown ++ c ∷ [])) }
+    // Returns `OutOfMemory` where there is no room for what they show.
+    fn all_with(&self, alloc: Global, view: &View) -> Result<bool, OutOfMemory>
+        ensures { IfOk result (λ all. all ≡ agrees_with self.now view.now) }
     {
         match &self.first {
-            None => self.first = Some(view),
-            Some(first) => self.all = all_same(alloc, self.all, first, &view)?,
+            None => Ok(self.all),
+            Some(first) => all_same(alloc, self.all, first, view),
         }
-        Ok(())
     }
+}
+
+// Keeps the value as the first one, if what was to be done before is done and there is no first one.
+fn keep_first<T: Drop>(
+    done: Result<(), OutOfMemory>,
+    first: &mut Option<T>,
+    value: T,
+) -> Result<(), OutOfMemory>
+    ensures done { result ≡ done }
+    ensures first { OnOk result (first.new ≡ Some (unwrap_or first.old value)) }
+{
+    done?;
+    *first = Some(first.take().unwrap_or(value));
+    Ok(())
 }
 
 // Whether all showed the same, and the next one shows what the first does. What they show is written only where it isn't

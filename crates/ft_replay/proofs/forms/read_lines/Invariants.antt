@@ -1,14 +1,16 @@
-use Rattle.std.proofs.Common.{◌≡◌, ◌≤◌}
-use Rattle.ft_io.specs.Reader.{to_come}
+use Rattle.std.proofs.Common.{◌≡◌, ◌≤◌, ◌+◌}
+use Rattle.ft_io.specs.Reader.{input_limit, to_come}
 use Rattle.ft_replay.specs.Listening.{Follows}
 use Rattle.ft_replay.proofs.RunLaws.{Stands}
 use Rattle.ft_replay.proofs.forms.read_lines.Given as goal
 
 -- where the run stands, and that counts of faults are as they were
-abbrev pub invariant-loop-replay : goal.invariant-loop-replay
-invariant-loop-replay g l = record {
-  stands : Stands g.L.Listener.form (λ at. Follows (g.L.Listener.holds l.replay.listener) l.replay.lines l.replay.refused at)
+abbrev pub invariant-walk : goal.invariant-walk
+invariant-walk g l = record {
+  stands : Stands g.L.Listener.form (λ at. Follows (g.L.Listener.holds l.listener) l.count l.refused at)
       (g.S.Source.remaining l.initial.src) (g.S.Source.remaining l.src) l.lines (g.K.Sink.contents l.initial.out) (g.K.Sink.contents l.out);
+  counted : l.refused ≤ l.count;
+  sized : g.L.Listener.size l.listener ≤ input_limit + l.count;
   source_later : g.S.Source.faults l.initial.src ≤ g.S.Source.faults l.src;
   sink_later : g.K.Sink.faults l.initial.out ≤ g.K.Sink.faults l.out;
   source_steady : g.S.Source.faults l.src ≡ g.S.Source.faults l.initial.src;
@@ -16,5 +18,5 @@ invariant-loop-replay g l = record {
 }
 
 -- each line brings the input nearer to its end
-abbrev pub decreases-loop-replay : goal.decreases-loop-replay
-decreases-loop-replay g l = to_come l.lines
+abbrev pub decreases-walk : goal.decreases-walk
+decreases-walk g l = to_come l.lines

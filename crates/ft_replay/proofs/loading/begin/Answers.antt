@@ -1,14 +1,15 @@
-use Rattle.std.proofs.Common.{rules}
-use Rattle.ft_replay.specs.Observers.{Observes}
-use Rattle.ft_replay.proofs.Observing.{load-begins, load-refused}
+use Rattle.std.proofs.Common.{arith}
+use Rattle.std.proofs.lemmas.Result.{IfOk-weaker}
 use Rattle.ft_replay.proofs.loading.begin.Goals as goal
 
-pub returns-in_ok-observer-in-Ok-clause-step : goal.returns-in_ok-observer-in-Ok-clause-step
-returns-in_ok-observer-in-Ok-clause-step g c =
-    let a = c.in_ok-observer-in-Ok.observer in
-    load-begins (Observes a.names (g.R.Replica.state a.replica)) c.args.line.now c.in-Ok.sum c.in-Ok.ensures.reads.ok c.in_ok-observer-in-Ok.ensures
+pub begin_read-requires : goal.begin_read-requires
+begin_read-requires g c = record {
+  valid = c.read_summary-read.ensures.reads.formed;
+  few = IfOk-weaker c.read_summary-read.result _ _ (λ sum is. omega (arith, c.read_summaries_name_few.ensures c.args.line.now sum is, c.requires)) c.read_summary-read.ensures.reads.ok;
+}
 
-pub returns-in_ok-observer-in-Err-clause-step : goal.returns-in_ok-observer-in-Err-clause-step
-returns-in_ok-observer-in-Err-clause-step g c =
-    let a = c.in_ok-observer-in-Err.observer in
-    load-refused (Observes a.names (g.R.Replica.state a.replica)) c.args.line.now c.in-Err.fault (c.in-Err.ensures.reads.err (search rules)) c.in_ok-observer-in-Err.ensures.first
+pub returns-clause-step : goal.returns-clause-step
+returns-clause-step g c = c.begin_read.ensures.step c.args.line.now c.read_summary-read.ensures.reads
+
+pub returns-clause-size : goal.returns-clause-size
+returns-clause-size g c = c.begin_read.ensures.size

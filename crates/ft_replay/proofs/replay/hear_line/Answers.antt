@@ -1,17 +1,17 @@
-use Rattle.std.proofs.Common.{◌∙◌, ap, arith, sym, Err}
-use Rattle.std.proofs.lemmas.Result.{err_from_is_err_and}
-use Rattle.ft_replay.proofs.Written.{writes_fault, writes_nothing}
+use Rattle.std.proofs.lemmas.Result.{IfOk-weaker}
+use Rattle.ft_seqr.specs.Walk.{written_by_item}
+use Rattle.ft_replay.specs.LineForm.{bytes_of, form_step}
+use Rattle.ft_replay.proofs.Hearing.{follows-on, told-written}
 use Rattle.ft_replay.proofs.replay.hear_line.Goals as goal
 
-pub returns-in_err-heard-clause-writes : goal.returns-in_err-heard-clause-writes
-returns-in_err-heard-clause-writes g c at follows =
-    let p = err_from_is_err_and c.from_residual.result c.from_residual.ensures.1 in
-    writes_nothing (g.K.Sink.contents c.args.out.now) (g.K.Sink.faults c.args.out.now) _ c.from_residual.result (p.1 ∙ ap Err p.2) (omega arith)
+pub returns-clause-after : goal.returns-clause-after
+returns-clause-after g c = λ at follows.
+    follows-on (g.L.Listener.holds c.args.listener.now) (g.L.Listener.holds c.hear_text-told.new.listener) c.args.lines c.args.refused at (form_step g.L.Listener.form at.made c.args.line.now)
+    c.hear_text-told.result c.write_heard.result follows (c.hear_text-told.ensures.step at.made follows.holds) c.write_heard.ensures.count
 
-pub returns-in_err-write_told-clause-writes : goal.returns-in_err-write_told-clause-writes
-returns-in_err-write_told-clause-writes g c at follows =
-    let r = c.from_residual-in_err-write_told in
-    let p = err_from_is_err_and r.result r.ensures.1 in
-    writes_fault (Unit {0}) _ (g.K.Sink.contents c.args.out.now) (g.K.Sink.contents c.write_told.new.out)
-    (g.K.Sink.faults c.args.out.now) (g.K.Sink.faults c.write_told.new.out) _ _ _ r.result
-    (p.1 ∙ ap Err p.2) (sym (c.in_ok-heard.ensures.told at follows)) c.in_err-write_told.ensures.writes
+pub returns-clause-writes : goal.returns-clause-writes
+returns-clause-writes g c = λ at follows.
+    let step = form_step g.L.Listener.form at.made c.args.line.now in
+    c.write_heard.ensures.writes (bytes_of (written_by_item (form_step g.L.Listener.form) at c.args.line.now))
+    (IfOk-weaker c.hear_text-told.result _ _ (λ told is. told-written (g.L.Listener.holds c.hear_text-told.new.listener) c.args.lines at told step follows.lines is)
+    (c.hear_text-told.ensures.step at.made follows.holds))

@@ -11,16 +11,18 @@ use Rattle.ft_replay.proofs.observer.ObserverListener.take.Goals as goal
 
 pub returns-in-Ok-clause-step : goal.returns-in-Ok-clause-step
 returns-in-Ok-clause-step g c = λ made h.
+    let new = c.take_message.new.self in
     let state = g.R.Replica.state in
-    subst (λ (r : Result Message Cause). IfOk c.take_message.result (λ p. IsStep (Observes p.0.names (state p.0.replica)) p.1 (observe_reading made r))) (sym c.in-Ok.ensures.reads.ok)
+    subst (λ (r : Result Message Cause). IfOk c.take_message.result (λ told. IsStep (Observes new.names (state new.replica)) told (observe_reading made r))) (sym c.in-Ok.ensures.reads.ok)
     (c.take_message.ensures.step made h)
 
 pub returns-in-Err : goal.returns-in-Err
 returns-in-Err g c =
+    let self = c.args.self.now in
     let state = g.R.Replica.state in
     let is : message c.args.line.now ≡ Err c.in-Err.cause = c.in-Err.ensures.reads.err (search rules) in
     record {
-      step = λ made h. subst (λ (r : Result Message Cause). IsStep (Observes c.args.self.names (state c.args.self.replica)) (Refused c.of_cause.result) (observe_reading made r)) (sym is)
+      step = λ made h. subst (λ (r : Result Message Cause). IsStep (Observes self.names (state self.replica)) (Refused c.of_cause.result) (observe_reading made r)) (sym is)
           (record { holds = h; text = refl; refusal = ap Some c.of_cause.ensures });
       size = omega arith;
     }

@@ -1,10 +1,8 @@
-use Rattle.std.proofs.Common.{arith, rules}
-use Rattle.ft_session.specs.Worlds.{WorldStands}
-use Rattle.ft_replay.proofs.SessionSteps.{line-refused}
+use Rattle.std.proofs.lemmas.Result.{IfOk-weaker}
 use Rattle.ft_replay.proofs.session.SessionRunListener.take.Goals as goal
 
-pub returns-in-Err : goal.returns-in-Err
-returns-in-Err g c = record {
-  step = λ made h. line-refused (λ w. WorldStands c.args.self.world w) made c.args.line.now c.in-Err.refusal (c.in-Err.ensures.err (search rules)) h;
-  size = omega arith;
-}
+pub take_read-told-requires : goal.take_read-told-requires
+take_read-told-requires g c = IfOk-weaker c.read_event-read.result _ _ (λ e is. c.reads_are_well_formed.ensures.events c.args.line.now e is) c.read_event-read.ensures.ok
+
+pub returns-clause-step : goal.returns-clause-step
+returns-clause-step g c = λ w h. c.take_read-told.ensures w c.args.line.now h c.read_event-read.ensures
