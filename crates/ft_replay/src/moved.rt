@@ -15,16 +15,3 @@ pub fn made_beside<A: Drop, B: Drop>(
 {
     Ok((made?, value))
 }
-
-/// Both values, if both were made.
-pub fn both<A: Drop, B: Drop>(
-    first: Result<A, OutOfMemory>,
-    second: Result<B, OutOfMemory>,
-) -> Result<(A, B), OutOfMemory>
-    ensures first { IfOk result (λ pair. first ≡ Ok pair.0) }
-    ensures second { IfOk result (λ pair. second ≡ Ok pair.1) }
-{
-    let first = first?;
-    let second = second?;
-    Ok((first, second))
-}

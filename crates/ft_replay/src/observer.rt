@@ -18,8 +18,9 @@ ghost use Rattle.ft_replay.specs.Observation.{Observation, numbered_entry, names
 ghost use Rattle.ft_replay.specs.Observers.{Observes};
 
 use crate::listener::{LINE_LIMIT, Listener, Told};
-use crate::moved::{both, made_beside};
+use crate::moved::made_beside;
 use crate::view_lines::view_text;
+use ft_base::moved::both;
 use ft_base::{OutOfMemory, Text};
 use ft_msg::{Cause, Entry, Message, Names, ProcessFault, Replica, View, ViewFault, read_message};
 use ft_seqr::Refusal;
@@ -154,10 +155,10 @@ pub fn number_sender(names: &mut Names, msg: Message) -> Result<Entry, OutOfMemo
     Ok(Entry { msg, origin })
 }
 
-/// The number of the connection with this name, a new one where it has none yet; 0 for no name.
-///
-/// Returns `OutOfMemory` where there is no room for a new name, and then nothing changed.
-pub fn sender_number(names: &mut Names, sender: &Option<Text>) -> Result<u32, OutOfMemory>
+// The number of the connection with this name, a new one where it has none yet; 0 for no name.
+//
+// Returns `OutOfMemory` where there is no room for a new name, and then nothing changed.
+fn sender_number(names: &mut Names, sender: &Option<Text>) -> Result<u32, OutOfMemory>
     requires { length names.old < 2 ^ 32 - 1 }
     ensures ok { IfOk result (λ number. number ≡ sender_number names.old sender.now) }
     ensures names { OnOk result (names.new ≡ names_with names.old sender.now) }
