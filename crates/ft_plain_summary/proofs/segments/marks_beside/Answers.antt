@@ -1,6 +1,6 @@
 use Rattle.std.proofs.Common.{◌≡◌, ◌∙◌, Ok, ap, map}
 use Rattle.std.proofs.lemmas.Result.{IfOk-at_ok, IfOk-weaker}
-use Rattle.ft_msg.specs.SummaryOf.{mark_of}
+use Rattle.ft_marks.specs.Marks.{mark_of}
 use Rattle.ft_plain_summary.proofs.segments.marks_beside.Goals as goal
 
 pub returns-clause-dels : goal.returns-clause-dels
