@@ -7,5 +7,6 @@ pub mod CompactedList
 pub mod Utf8Order
 pub mod RisingKeys
 pub mod Digits
+pub mod DoneBefore
 pub mod CanonicalNumbers
 pub mod PendingStages

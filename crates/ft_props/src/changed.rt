@@ -6,6 +6,7 @@ ghost use Rattle.ft_props.specs.Properties.{adj, adjust, apply, change, number_o
 
 use crate::numbers::adjusted_value;
 use crate::properties::{AdjSet, Adjust, Changes, PropSet, Props};
+use ft_base::moved::after;
 use ft_base::{Datum, OutOfMemory, Text};
 use ft_json::ValText;
 
@@ -67,9 +68,9 @@ impl Props {
         ensures { IfOk result (λ props. props ≡ apply self.now set.now) }
     {
         let mut props = self.copy()?;
-        apply_all(&mut props, set)?;
+        let done = apply_all(&mut props, set);
         props.tighten();
-        Ok(props)
+        after(done, props)
     }
 
     /// The properties with the changes made: first each key is set, and then each adjustment is
@@ -78,8 +79,8 @@ impl Props {
         ensures { IfOk result (λ props. props ≡ change self.now changes.now) }
     {
         let mut props = self.copy()?;
-        make_changes(&mut props, changes)?;
+        let done = make_changes(&mut props, changes);
         props.tighten();
-        Ok(props)
+        after(done, props)
     }
 }

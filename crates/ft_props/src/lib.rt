@@ -5,6 +5,7 @@
 
 mod changed;
 pub mod keys;
+mod moved;
 mod numbers;
 pub mod overlay;
 pub mod pairs;

@@ -7,7 +7,9 @@ ghost use Rattle.ft_props.specs.Overlay.{IsReady, StagesRise, kept_acked, kept_p
 ghost use Rattle.ft_props.specs.Steps.{acked_props};
 
 use crate::changed::make_changes;
+use crate::moved::{list_of, push_beside};
 use crate::properties::{Changes, Props};
+use ft_base::moved::{both, boxed};
 use ft_base::{Datum, OutOfMemory};
 use ft_json::ValText;
 use std::alloc::Global;
@@ -79,6 +81,13 @@ fn place_of_stage(pending: &[(u64, Changes)], stage: u64) -> Option<usize>
     pending.iter().position(|change| change.0 == stage)
 }
 
+// Equal changes, of this stage.
+fn copy_change(stage: u64, changes: &Changes) -> Result<(u64, Changes), OutOfMemory>
+    ensures { IfOk result (λ copy. copy ≡ (stage, changes.now)) }
+{
+    Ok((stage, changes.copy()?))
+}
+
 // Equal changes of the same stages.
 fn copy_pending(
     alloc: Global,
@@ -88,7 +97,7 @@ fn copy_pending(
 {
     let mut copy = Vec::with_capacity(alloc, pending.len())?;
     for (stage, changes) in pending {
-        copy.push((*stage, changes.copy()?))?;
+        copy.push(copy_change(*stage, changes)?)?;
     }
     Ok(copy)
 }
@@ -119,21 +128,25 @@ impl Ahead {
         ensures shown { IfOk result (λ b. b.value.shown ≡ change acked.old set.now) }
         ensures err { OnErr result (acked.new ≡ acked.old) }
     {
-        let alloc = acked.allocator();
-        let shown = acked.changed(set)?;
-        let mut pending = Vec::with_capacity(alloc, 1)?;
-        pending.push((stage, set.copy()?))?;
-        let none = Props::new(alloc);
-        let mut ahead = Box::new(
-            alloc,
-            Ahead {
-                acked: none,
-                pending,
-                shown,
-            },
-        )?;
+        let mut ahead = boxed(acked.allocator(), Ahead::over(acked, stage, set))?;
         swap(&mut ahead.acked, acked);
         Ok(ahead)
+    }
+
+    // The changes of one stage alone, and what is shown with them over these acknowledged properties,
+    // but none acknowledged yet.
+    fn over(acked: &Props, stage: u64, set: &Changes) -> Result<Ahead, OutOfMemory>
+        ensures pending { IfOk result (λ a. a.pending.items ≡ (stage, set.now) ∷ []) }
+        ensures shown { IfOk result (λ a. a.shown ≡ change acked.now set.now) }
+    {
+        let alloc = acked.allocator();
+        let only = list_of(alloc, copy_change(stage, set));
+        let (shown, pending) = both(acked.changed(set), only)?;
+        Ok(Ahead {
+            acked: Props::new(alloc),
+            pending,
+            shown,
+        })
     }
 
     // Takes the acknowledged properties, and leaves none.
@@ -154,8 +167,8 @@ impl Ahead {
         ensures err_pending { OnErr result (self.new.pending.items ≡ self.old.pending.items) }
         ensures err_shown { OnErr result (self.new.shown ≡ self.old.shown) }
     {
-        let shown = self.shown.changed(set)?;
-        self.pending.push((stage, set.copy()?))?;
+        let made = both(copy_change(stage, set), self.shown.changed(set));
+        let shown = push_beside(&mut self.pending, made)?;
         self.shown = shown;
         Ok(())
     }
@@ -228,15 +241,22 @@ impl Ahead {
         ensures shown { IfOk result (λ b. b.value.shown ≡ self.now.shown) }
     {
         let alloc = *self.pending.allocator();
-        let acked = self.acked.copy()?;
-        let shown = self.shown.copy()?;
-        let pending = copy_pending(alloc, &self.pending)?;
-        let ahead = Ahead {
+        boxed(alloc, self.copy_parts(alloc))
+    }
+
+    // The same, not yet on the heap.
+    fn copy_parts(&self, alloc: Global) -> Result<Ahead, OutOfMemory>
+        ensures acked { IfOk result (λ a. a.acked ≡ self.now.acked) }
+        ensures pending { IfOk result (λ a. a.pending.items ≡ self.now.pending.items) }
+        ensures shown { IfOk result (λ a. a.shown ≡ self.now.shown) }
+    {
+        let props = both(self.acked.copy(), self.shown.copy());
+        let ((acked, shown), pending) = both(props, copy_pending(alloc, &self.pending))?;
+        Ok(Ahead {
             acked,
             pending,
             shown,
-        };
-        Ok(Box::new(alloc, ahead)?)
+        })
     }
 }
 

@@ -1,6 +1,6 @@
 //! Lists of pairs of a key and a value by rising keys.
 
-ghost use Rattle.std.specs.Prelude.{◌≡◌, ◌↔◌, [], IsOk, IsTrue, OnOk, OnErr, chars, length, slice_get, option_copied, option_map, is_some};
+ghost use Rattle.std.specs.Prelude.{◌≡◌, ◌↔◌, [], IfOk, IsOk, IsTrue, OnOk, OnErr, chars, length, slice_get, option_copied, option_map, is_some};
 ghost use Rattle.ft_props.specs.Keys.{KeysRise, key_cmp, key_place, put_rising, remove_rising, value_of};
 
 use crate::keys::compare;
@@ -140,11 +140,25 @@ impl<V: Drop> Pairs<V> {
     }
 }
 
+// An equal pair.
+fn copy_pair<V: Datum>(pair: &(Text, V)) -> Result<(Text, V), OutOfMemory>
+    ensures { IfOk result (λ copy. copy ≡ pair.now) }
+{
+    Ok((pair.0.copy()?, pair.1.copy()?))
+}
+
+// Whether both pairs are equal.
+fn is_same_pair<V: Datum>(mine: &(Text, V), theirs: &(Text, V)) -> bool
+    ensures { IsTrue result ↔ (mine.now ≡ theirs.now) }
+{
+    mine.0.same(&theirs.0) && mine.1.same(&theirs.1)
+}
+
 impl<V: Datum> Datum for Pairs<V> {
     fn copy(&self) -> Result<Pairs<V>, OutOfMemory> {
         let mut items = Vec::with_capacity(*self.items.allocator(), self.items.len())?;
         for pair in &self.items {
-            items.push((pair.0.copy()?, pair.1.copy()?))?;
+            items.push(copy_pair(pair)?)?;
         }
         Ok(Pairs { items })
     }
@@ -154,7 +168,7 @@ impl<V: Datum> Datum for Pairs<V> {
             return false;
         }
         for (mine, theirs) in self.items.iter().zip(&other.items) {
-            if !mine.0.same(&theirs.0) || !mine.1.same(&theirs.1) {
+            if !is_same_pair(mine, theirs) {
                 return false;
             }
         }
