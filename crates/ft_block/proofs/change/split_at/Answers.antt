@@ -13,6 +13,7 @@ use Rattle.ft_shape.proofs.FitLemmas.{leaf_total}
 use Rattle.ft_block.proofs.ViewLemmas.{seen_parts}
 use Rattle.ft_shape.proofs.EditLemmas.{is_some_from}
 use Rattle.ft_block.proofs.SoundLemmas.{is_some_by}
+use Rattle.std.proofs.lemmas.Result.{IfOk-from_err}
 use Rattle.ft_block.proofs.change.split_at.Goals as goal
 
 pub grow-requires-clause-growing : goal.grow-requires-clause-growing
@@ -142,3 +143,23 @@ link_after-id-requires-clause-place g c =
     is_some_from (leaf_value (with_leaf c.reserve.new.self c.args.leaf w) c.args.leaf) w (changed_value c.reserve.new.self c.args.root c.args.leaf
     c.leaf_mut.result.now w
     (room_tree c.args.arena.now c.reserve.new.self c.reserve.ensures.kept c.args.root c.requires.tree) c.leaf_mut.ensures.value)
+
+pub returns-in_err-reserve : goal.returns-in_err-reserve
+returns-in_err-reserve g c =
+    let r = c.from_residual in
+    record {
+      tree = IfOk-from_err r.result _ r.ensures.0;
+      sums = IfOk-from_err r.result _ r.ensures.0;
+      floors = IfOk-from_err r.result _ r.ensures.0;
+      splits = IfOk-from_err r.result _ r.ensures.0;
+    }
+
+pub returns-in_err-top : goal.returns-in_err-top
+returns-in_err-top g c =
+    let r = c.from_residual-in_err-top in
+    record {
+      tree = IfOk-from_err r.result _ r.ensures.0;
+      sums = IfOk-from_err r.result _ r.ensures.0;
+      floors = IfOk-from_err r.result _ r.ensures.0;
+      splits = IfOk-from_err r.result _ r.ensures.0;
+    }

@@ -3,6 +3,7 @@ use Rattle.ft_shape.specs.Tree.{total}
 use Rattle.ft_block.specs.Inside.{IsRooted, IsSound}
 use Rattle.ft_block.proofs.MovedLemmas.{list_total}
 use Rattle.ft_block.proofs.SoundLemmas.{rooted_forest, moves_sound, leaf_rooted}
+use Rattle.std.proofs.lemmas.Result.{IfOk-from_err}
 use Rattle.ft_block.proofs.counted.move_in.Goals as goal
 
 pub stands_there-requires-clause-forest : goal.stands_there-requires-clause-forest
@@ -63,3 +64,11 @@ move_at-requires-clause-at g c = c.requires.at
 
 pub move_at-requires-clause-differ : goal.move_at-requires-clause-differ
 move_at-requires-clause-differ g c = c.requires.differ
+
+pub returns-in_err-top-in-Some : goal.returns-in_err-top-in-Some
+returns-in_err-top-in-Some g c =
+    let r = c.from_residual in
+    record {
+      sound = IfOk-from_err r.result _ r.ensures.0;
+      moves = IfOk-from_err r.result _ r.ensures.0;
+    }

@@ -6,6 +6,7 @@ use Rattle.ft_block.specs.Tree.{by_view}
 use Rattle.ft_block.proofs.Floors.{unlinked_floors}
 use Rattle.ft_block.proofs.KeptLemmas.{bare_floors}
 use Rattle.ft_block.proofs.SoundLemmas.{leaf_rooted, takes_sound}
+use Rattle.std.proofs.lemmas.Result.{IfOk-from_err}
 use Rattle.ft_block.proofs.counted.take_in.Goals as goal
 
 pub unreachable-requires : goal.unreachable-requires
@@ -85,3 +86,11 @@ returns-clause-takes g c = unlinked_takes c.detach.new.arena c.unlink.new.self c
     c.unlink.ensures.sound c.unlink.ensures.value
     c.unlink.ensures.leaves c.unlink.ensures.changes
     c.args.arena.now c.in_ok-top.ensures.leaves c.in_ok-top.ensures.leaf_values
+
+pub returns-in_err-top : goal.returns-in_err-top
+returns-in_err-top g c =
+    let r = c.from_residual in
+    record {
+      sound = IfOk-from_err r.result _ r.ensures.0;
+      takes = IfOk-from_err r.result _ r.ensures.0;
+    }

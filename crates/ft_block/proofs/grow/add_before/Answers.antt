@@ -4,6 +4,7 @@ use Rattle.ft_block.specs.Tree.{shows, by_size}
 use Rattle.ft_shape.proofs.FitLemmas.{leaf_total}
 use Rattle.ft_shape.proofs.RefreshLemmas.{SameShape-tree}
 use Rattle.ft_block.proofs.ExchangeLemmas.{tree_part}
+use Rattle.std.proofs.lemmas.Result.{IfOk-from_err}
 use Rattle.ft_block.proofs.grow.add_before.Goals as goal
 
 pub grow_front-requires-clause-growing : goal.grow_front-requires-clause-growing
@@ -73,3 +74,25 @@ returns-clause-leaves g c = c.in_ok-exchange_up.ensures.shape.leaves ∙ c.in_ok
 
 pub returns-clause-leaf_values : goal.returns-clause-leaf_values
 returns-clause-leaf_values g c = λ x. c.in_ok-exchange_up.ensures.shape.leaf_values x ∙ c.in_ok-top.ensures.leaf_values x
+
+pub returns-in_err-top : goal.returns-in_err-top
+returns-in_err-top g c =
+    let r = c.from_residual in
+    record {
+      tree = IfOk-from_err r.result _ r.ensures.0;
+      sums = IfOk-from_err r.result _ r.ensures.0;
+      floors = IfOk-from_err r.result _ r.ensures.0;
+      leaves = IfOk-from_err r.result _ r.ensures.0;
+      leaf_values = IfOk-from_err r.result _ r.ensures.0;
+    }
+
+pub returns-in_err-exchange_up : goal.returns-in_err-exchange_up
+returns-in_err-exchange_up g c =
+    let r = c.from_residual-in_err-exchange_up in
+    record {
+      tree = IfOk-from_err r.result _ r.ensures.0;
+      sums = IfOk-from_err r.result _ r.ensures.0;
+      floors = IfOk-from_err r.result _ r.ensures.0;
+      leaves = IfOk-from_err r.result _ r.ensures.0;
+      leaf_values = IfOk-from_err r.result _ r.ensures.0;
+    }

@@ -12,6 +12,7 @@ use Rattle.ft_shape.proofs.FitLemmas.{leaf_total, gr_fits, gr_place, gr_high, gr
 use Rattle.ft_block.proofs.ViewLemmas.{all_fit}
 use Rattle.ft_block.proofs.ExchangeLemmas.{no_own_child}
 use Rattle.std.proofs.lemmas.Option.{slice_get_within}
+use Rattle.std.proofs.lemmas.Result.{IfOk-from_err}
 use Rattle.ft_block.proofs.grow.grow.Goals as goal
 
 pub up-init : goal.up-init
@@ -358,3 +359,29 @@ overflow_add-height g c = omega (
   c.up.invariant.tall,
   c.requires.tall,
 )
+
+pub returns-in_err-id : goal.returns-in_err-id
+returns-in_err-id g c =
+    let r = c.from_residual in
+    record {
+      tree = IfOk-from_err r.result _ r.ensures.0;
+      stale = IfOk-from_err r.result _ r.ensures.0;
+      sums = IfOk-from_err r.result _ r.ensures.0;
+      owes = IfOk-from_err r.result _ r.ensures.0;
+      floors = IfOk-from_err r.result _ r.ensures.0;
+      leaves = IfOk-from_err r.result _ r.ensures.0;
+      leaf_values = IfOk-from_err r.result _ r.ensures.0;
+    }
+
+pub returns-in_err-top : goal.returns-in_err-top
+returns-in_err-top g c =
+    let r = c.from_residual-in_err-top in
+    record {
+      tree = IfOk-from_err r.result _ r.ensures.0;
+      stale = IfOk-from_err r.result _ r.ensures.0;
+      sums = IfOk-from_err r.result _ r.ensures.0;
+      owes = IfOk-from_err r.result _ r.ensures.0;
+      floors = IfOk-from_err r.result _ r.ensures.0;
+      leaves = IfOk-from_err r.result _ r.ensures.0;
+      leaf_values = IfOk-from_err r.result _ r.ensures.0;
+    }

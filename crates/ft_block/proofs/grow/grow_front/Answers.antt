@@ -1,6 +1,6 @@
 use Rattle.std.proofs.Common.{insert, ◌≡◌, ◌+◌, ℕ, Some, None, ap, sym, ◌∙◌, arith}
 use Rattle.std.proofs.lemmas.Option.{slice_get_within}
-use Rattle.std.proofs.lemmas.Result.{IfOk-weaker, on_ok_weaker}
+use Rattle.std.proofs.lemmas.Result.{IfOk-weaker, on_ok_weaker, IfOk-from_err}
 use Rattle.ft_arena.specs.Forest.{entry, parent_of, kids_of}
 use Rattle.ft_shape.specs.Tree.{height_of, length_of, total, insert_before}
 use Rattle.ft_block.specs.Tree.{by_view, by_size}
@@ -296,3 +296,16 @@ grow-requires-clause-tall g c =
 
 pub returns-then-count-lt8-clause-leaf_values : goal.returns-then-count-lt8-clause-leaf_values
 returns-then-count-lt8-clause-leaf_values g c = c.put_child.ensures.puts.leaf_values
+
+pub returns-in_err-rear : goal.returns-in_err-rear
+returns-in_err-rear g c =
+    let r = c.from_residual in
+    record {
+      tree = IfOk-from_err r.result _ r.ensures.0;
+      stale = IfOk-from_err r.result _ r.ensures.0;
+      sums = IfOk-from_err r.result _ r.ensures.0;
+      owes = IfOk-from_err r.result _ r.ensures.0;
+      floors = IfOk-from_err r.result _ r.ensures.0;
+      leaves = IfOk-from_err r.result _ r.ensures.0;
+      leaf_values = IfOk-from_err r.result _ r.ensures.0;
+    }

@@ -6,6 +6,7 @@ use Rattle.ft_block.proofs.AddLemmas.{linked_adds, linked_inserts}
 use Rattle.ft_arena.specs.Forest.{Forest, leaf_value}
 use Rattle.ft_shape.specs.declared.headed.Headed.{Headed}
 use Rattle.ft_block.specs.declared.summaries.Summary.{Summary}
+use Rattle.std.proofs.lemmas.Result.{IfOk-from_err}
 use Rattle.ft_block.proofs.grow.insert_at.Goals as goal
 
 pub room_for-requires : goal.room_for-requires
@@ -50,3 +51,23 @@ link_after-id-requires-clause-room g c = omega (arith, c.in_ok-exchange.ensures.
 pub link_after-id-requires-clause-place : goal.link_after-id-requires-clause-place
 link_after-id-requires-clause-place g c = subst (λ (s : Forest g.row.L.Denot (Headed Summary)). IsSome (leaf_value s c.args.at)) (sym
     c.room_for.ensures.kept) c.requires.at
+
+pub returns-in_err-exchange : goal.returns-in_err-exchange
+returns-in_err-exchange g c =
+    let r = c.from_residual in
+    record {
+      tree = IfOk-from_err r.result _ r.ensures.0;
+      sums = IfOk-from_err r.result _ r.ensures.0;
+      floors = IfOk-from_err r.result _ r.ensures.0;
+      inserts = IfOk-from_err r.result _ r.ensures.0;
+    }
+
+pub returns-in_err-top : goal.returns-in_err-top
+returns-in_err-top g c =
+    let r = c.from_residual-in_err-top in
+    record {
+      tree = IfOk-from_err r.result _ r.ensures.0;
+      sums = IfOk-from_err r.result _ r.ensures.0;
+      floors = IfOk-from_err r.result _ r.ensures.0;
+      inserts = IfOk-from_err r.result _ r.ensures.0;
+    }

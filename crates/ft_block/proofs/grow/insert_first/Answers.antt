@@ -9,6 +9,7 @@ use Rattle.ft_shape.proofs.FitLemmas.{leaf_length}
 use Rattle.ft_block.proofs.KeptLemmas.{same_floors, added_floors, linked_floors, bare_floors}
 use Rattle.ft_block.proofs.RootLemmas.{new_apart, made_block, made_bare, made_live, made_alone, first_block, first_apart, first_fit}
 use Rattle.ft_block.proofs.ViewLemmas.{seen_le}
+use Rattle.std.proofs.lemmas.Result.{IfOk-from_err}
 use Rattle.ft_block.proofs.grow.insert_first.Goals as goal
 
 pub returns-clause-tree : goal.returns-clause-tree
@@ -121,3 +122,23 @@ rebuild-requires-clause-fits g c = λ view k.
       seen_le g.L.Leaf.size g.L.Leaf.element view c.args.leaf,
       c.requires.fits,
     ))
+
+pub returns-in_err-reserve : goal.returns-in_err-reserve
+returns-in_err-reserve g c =
+    let r = c.from_residual in
+    record {
+      tree = IfOk-from_err r.result _ r.ensures.0;
+      sums = IfOk-from_err r.result _ r.ensures.0;
+      floors = IfOk-from_err r.result _ r.ensures.0;
+      inserts = IfOk-from_err r.result _ r.ensures.0;
+    }
+
+pub returns-in_err-rebuild : goal.returns-in_err-rebuild
+returns-in_err-rebuild g c =
+    let r = c.from_residual-in_err-rebuild in
+    record {
+      tree = IfOk-from_err r.result _ r.ensures.0;
+      sums = IfOk-from_err r.result _ r.ensures.0;
+      floors = IfOk-from_err r.result _ r.ensures.0;
+      inserts = IfOk-from_err r.result _ r.ensures.0;
+    }

@@ -8,6 +8,7 @@ use Rattle.ft_shape.proofs.InsertLemmas.{room_leaves}
 use Rattle.ft_shape.proofs.Levels.{some_leaf}
 use Rattle.ft_block.proofs.AddLemmas.{linked_adds, linked_inserts}
 use Rattle.ft_block.proofs.MovedLemmas.{without_le}
+use Rattle.std.proofs.lemmas.Result.{IfOk-from_err}
 use Rattle.ft_block.proofs.grow.insert_front.Goals as goal
 
 no_first : (xs : List ℕ) → 1 ≤ length xs → first xs ≡ None → ⊥
@@ -64,3 +65,23 @@ link_after-id-requires-clause-room g c = omega (arith, c.in_ok-exchange.ensures.
 
 pub link_after-id-requires-clause-place : goal.link_after-id-requires-clause-place
 link_after-id-requires-clause-place g c = tt
+
+pub returns-in_err-exchange : goal.returns-in_err-exchange
+returns-in_err-exchange g c =
+    let r = c.from_residual in
+    record {
+      tree = IfOk-from_err r.result _ r.ensures.0;
+      sums = IfOk-from_err r.result _ r.ensures.0;
+      floors = IfOk-from_err r.result _ r.ensures.0;
+      inserts = IfOk-from_err r.result _ r.ensures.0;
+    }
+
+pub returns-in_err-top : goal.returns-in_err-top
+returns-in_err-top g c =
+    let r = c.from_residual-in_err-top in
+    record {
+      tree = IfOk-from_err r.result _ r.ensures.0;
+      sums = IfOk-from_err r.result _ r.ensures.0;
+      floors = IfOk-from_err r.result _ r.ensures.0;
+      inserts = IfOk-from_err r.result _ r.ensures.0;
+    }

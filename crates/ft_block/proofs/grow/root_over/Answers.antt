@@ -3,6 +3,7 @@ use Rattle.ft_block.specs.Tree.{by_view}
 use Rattle.ft_block.proofs.KeptLemmas.{same_floors, added_floors}
 use Rattle.ft_block.proofs.RootLemmas.{new_apart, made_block, made_bare, made_live, made_alone, first_block, first_kids, first_live, first_alone}
 use Rattle.ft_block.proofs.RootLemmas.{both_block, both_apart, both_fit, both_roots, both_resums}
+use Rattle.std.proofs.lemmas.Result.{IfOk-from_err}
 use Rattle.ft_block.proofs.grow.root_over.Goals as goal
 
 pub add_block-top-requires : goal.add_block-top-requires
@@ -117,3 +118,12 @@ returns-clause-sums g c = λ view k.
 
 pub returns-clause-floors : goal.returns-clause-floors
 returns-clause-floors g c = c.in_ok-rebuild.ensures.floors
+
+pub returns-in_err-rebuild : goal.returns-in_err-rebuild
+returns-in_err-rebuild g c =
+    let r = c.from_residual in
+    record {
+      roots = IfOk-from_err r.result _ r.ensures.0;
+      floors = IfOk-from_err r.result _ r.ensures.0;
+      sums = IfOk-from_err r.result _ r.ensures.0;
+    }

@@ -7,6 +7,7 @@ use Rattle.ft_block.proofs.KeptLemmas.{same_floors, added_floors}
 use Rattle.ft_shape.proofs.SplitLemmas.{split_apart_front, split_fits_front, split_apart_rear4, split_fits_rear, split_done, split_resums, live_from_values}
 use Rattle.ft_shape.proofs.KindLemmas.{block_live}
 use Rattle.ft_block.proofs.RootLemmas.{new_apart, made_block, made_bare, made_live, made_alone, made_top, made_kids, made_still, still_block}
+use Rattle.std.proofs.lemmas.Result.{IfOk-from_err}
 use Rattle.ft_block.proofs.grow.split_put.Goals as goal
 
 pub rebuild-requires-clause-apart : goal.rebuild-requires-clause-apart
@@ -169,3 +170,21 @@ rebuild-requires-clause-block g c = still_block (c.put_in_half.ensures.block_val
 
 pub rebuild-requires-clause-forest : goal.rebuild-requires-clause-forest
 rebuild-requires-clause-forest g c = c.put_in_half.ensures.forest
+
+pub returns-in_err-rebuild : goal.returns-in_err-rebuild
+returns-in_err-rebuild g c =
+    let r = c.from_residual in
+    record {
+      splits = IfOk-from_err r.result _ r.ensures.0;
+      floors = IfOk-from_err r.result _ r.ensures.0;
+      sums = IfOk-from_err r.result _ r.ensures.0;
+    }
+
+pub returns-in_err-rebuild-2 : goal.returns-in_err-rebuild-2
+returns-in_err-rebuild-2 g c =
+    let r = c.from_residual-in_err-rebuild-2 in
+    record {
+      splits = IfOk-from_err r.result _ r.ensures.0;
+      floors = IfOk-from_err r.result _ r.ensures.0;
+      sums = IfOk-from_err r.result _ r.ensures.0;
+    }

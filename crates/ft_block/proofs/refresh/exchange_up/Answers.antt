@@ -12,6 +12,7 @@ use Rattle.ft_block.proofs.Floors.{written_floors}
 use Rattle.ft_block.proofs.ExchangeLemmas.{ex_shape, ex_sums, ex_owes, ex_next, ex_smaller}
 use Rattle.ft_shape.proofs.EditLemmas.{is_some_from}
 use Rattle.ft_shape.proofs.KindLemmas.{block_live, kind_block}
+use Rattle.std.proofs.lemmas.Result.{IfOk-from_err}
 use Rattle.ft_block.proofs.refresh.exchange_up.Goals as goal
 
 pub up-init : goal.up-init
@@ -97,3 +98,12 @@ parent-stale-requires g c =
 pub returns-clause-sums : goal.returns-clause-sums
 returns-clause-sums g c = subst (λ (o : Option ℕ). SumsKeptBut g.L.Leaf.size g.L.Leaf.element c.args.floor c.up.arena o) c.in_default.is
     c.up.invariant.sums
+
+pub returns-in_err-fold_and_exchange : goal.returns-in_err-fold_and_exchange
+returns-in_err-fold_and_exchange g c =
+    let r = c.from_residual in
+    record {
+      shape = IfOk-from_err r.result _ r.ensures.0;
+      floors = IfOk-from_err r.result _ r.ensures.0;
+      sums = IfOk-from_err r.result _ r.ensures.0;
+    }

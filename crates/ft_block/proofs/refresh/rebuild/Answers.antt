@@ -9,6 +9,7 @@ use Rattle.ft_block.proofs.Floors.{written_floors}
 use Rattle.ft_arena.specs.Ids.{times}
 use Rattle.ft_shape.proofs.KindLemmas.{block_live}
 use Rattle.ft_block.proofs.PositionLemmas.{forest_kid_live}
+use Rattle.std.proofs.lemmas.Result.{IfOk-from_err}
 use Rattle.ft_block.proofs.refresh.rebuild.Goals as goal
 
 pub returns-clause-shape : goal.returns-clause-shape
@@ -49,3 +50,12 @@ sum_of-requires-clause-fits g c = λ view k.
 
 pub block_mut-requires : goal.block_mut-requires
 block_mut-requires g c = c.requires.block
+
+pub returns-in_err-sum : goal.returns-in_err-sum
+returns-in_err-sum g c =
+    let r = c.from_residual in
+    record {
+      shape = IfOk-from_err r.result _ r.ensures.0;
+      floors = IfOk-from_err r.result _ r.ensures.0;
+      sums = IfOk-from_err r.result _ r.ensures.0;
+    }

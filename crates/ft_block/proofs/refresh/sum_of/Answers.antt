@@ -4,6 +4,7 @@ use Rattle.ft_shape.specs.Tree.{total, length_of, length_of_entry}
 use Rattle.ft_block.specs.Tree.{by_view, kept_length}
 use Rattle.ft_shape.proofs.Lists.{times_at, drop_at, drop_none}
 use Rattle.ft_block.proofs.KeptLemmas.{node_from, one_more}
+use Rattle.std.proofs.lemmas.Result.{IfOk-from_err}
 use Rattle.ft_block.proofs.refresh.sum_of.Goals as goal
 
 pub loop-kid-init : goal.loop-kid-init
@@ -53,3 +54,11 @@ add_node-requires-clause-floor g c = c.loop-kid.invariant.floor
 
 pub returns-clause-floor : goal.returns-clause-floor
 returns-clause-floor g c = c.loop-kid.invariant.floor
+
+pub returns-in_err-add_node : goal.returns-in_err-add_node
+returns-in_err-add_node g c =
+    let r = c.from_residual in
+    record {
+      floor = IfOk-from_err r.result _ r.ensures.0;
+      sum = IfOk-from_err r.result _ r.ensures.0;
+    }

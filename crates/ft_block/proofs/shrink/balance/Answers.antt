@@ -1,5 +1,5 @@
 use Rattle.std.proofs.Common.{ap, ◌∙◌, arith}
-use Rattle.std.proofs.lemmas.Result.{on_ok_weaker}
+use Rattle.std.proofs.lemmas.Result.{on_ok_weaker, IfOk-from_err}
 use Rattle.ft_block.specs.Tree.{by_view}
 use Rattle.ft_arena.specs.Ids.{times}
 use Rattle.ft_arena.specs.Forest.{entry}
@@ -121,3 +121,13 @@ regroup-requires-clause-room g c = omega (
 
 pub overflow_add-many : goal.overflow_add-many
 overflow_add-many g c = omega (arith, c.count_of.ensures.few, c.count_of-2.ensures.few)
+
+pub returns-in_err-rebuild : goal.returns-in_err-rebuild
+returns-in_err-rebuild g c =
+    let r = c.from_residual in
+    record {
+      shares = IfOk-from_err r.result _ r.ensures.0;
+      up_kids = IfOk-from_err r.result _ r.ensures.0;
+      sums = IfOk-from_err r.result _ r.ensures.0;
+      floors = IfOk-from_err r.result _ r.ensures.0;
+    }

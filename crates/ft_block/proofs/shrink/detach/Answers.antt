@@ -1,6 +1,7 @@
 use Rattle.std.proofs.Common.{ℕ, Option, IsSomeAnd, subst, sym}
 use Rattle.ft_base.specs.declared.elements.Element.{Element}
 use Rattle.ft_block.specs.Tree.{MakesExchange}
+use Rattle.std.proofs.lemmas.Result.{IfOk-from_err}
 use Rattle.ft_block.proofs.shrink.detach.Goals as goal
 
 pub leaf_at-leaf-requires : goal.leaf_at-leaf-requires
@@ -51,3 +52,15 @@ returns-clause-leaves g c = c.set_apart.ensures.leaves
 
 pub returns-clause-leaf_values : goal.returns-clause-leaf_values
 returns-clause-leaf_values g c = c.set_apart.ensures.leaf_values
+
+pub returns-in_err-exchange : goal.returns-in_err-exchange
+returns-in_err-exchange g c =
+    let r = c.from_residual in
+    record {
+      apart = IfOk-from_err r.result _ r.ensures.0;
+      low = IfOk-from_err r.result _ r.ensures.0;
+      sums = IfOk-from_err r.result _ r.ensures.0;
+      floors = IfOk-from_err r.result _ r.ensures.0;
+      leaves = IfOk-from_err r.result _ r.ensures.0;
+      leaf_values = IfOk-from_err r.result _ r.ensures.0;
+    }

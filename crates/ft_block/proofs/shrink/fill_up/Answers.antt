@@ -10,6 +10,7 @@ use Rattle.ft_shape.proofs.ShareLemmas.{share_apart, share_sums, share_block, sh
 use Rattle.ft_shape.proofs.FillLemmas.{apart_full, apart_root, apart_with, fl_up_block, fl_up_full, fl_child, fl_root, fl_only, fl_short, fl_two, fl_pair, fl_many}
 use Rattle.ft_shape.proofs.FillLemmas.{dropped_apart, dropped_low, dropped_sums}
 use Rattle.ft_block.proofs.Floors.{fl_fits, dropped_floors}
+use Rattle.std.proofs.lemmas.Result.{IfOk-from_err}
 use Rattle.ft_block.proofs.shrink.fill_up.Goals as goal
 
 pub returns-then-count_of-ge4-clause-apart : goal.returns-then-count_of-ge4-clause-apart
@@ -342,3 +343,15 @@ overflow_add-at g c =
       slice_get_within (kids_of c.up.arena c.in-Some.up) c.child_place-place.result.0 c.up.block c.child_place-place.ensures.place,
       c.child_place-place.ensures.count,
     )
+
+pub returns-in_err-joined : goal.returns-in_err-joined
+returns-in_err-joined g c =
+    let r = c.from_residual in
+    record {
+      apart = IfOk-from_err r.result _ r.ensures.0;
+      low = IfOk-from_err r.result _ r.ensures.0;
+      sums = IfOk-from_err r.result _ r.ensures.0;
+      floors = IfOk-from_err r.result _ r.ensures.0;
+      leaves = IfOk-from_err r.result _ r.ensures.0;
+      leaf_values = IfOk-from_err r.result _ r.ensures.0;
+    }

@@ -1,6 +1,6 @@
 use Rattle.std.proofs.Common.{◌≡◌, ◌≢◌, ◌∷◌, ℕ, List, Option, Some, IsSome, length, ap, sym, subst, ◌∙◌, arith, None}
 use Rattle.std.specs.Prelude.{slice_index_or}
-use Rattle.std.proofs.lemmas.Result.{on_ok_weaker}
+use Rattle.std.proofs.lemmas.Result.{on_ok_weaker, IfOk-from_err}
 use Rattle.ft_arena.specs.Ids.{times, insert_after, put_after, without, first, after}
 use Rattle.ft_arena.specs.Forest.{Forest, IsPlace, leaf_value, Entry, leaf_of_entry}
 use Rattle.ft_arena.proofs.IdLemmas.{times-without_same}
@@ -199,3 +199,33 @@ next-requires g c =
     c.in_ok-root.ensures.apart.live in
     subst (λ (ns : List (Option (Entry g.row.L.Denot (Headed Summary)))). IsSome (leaf_of_entry (slice_index_or ns c.args.id None)))
     (sym c.move_after-in-None.ensures.nodes) live
+
+pub returns-in_err-root : goal.returns-in_err-root
+returns-in_err-root g c =
+    let r = c.from_residual in
+    record {
+      tree = IfOk-from_err r.result _ r.ensures.0;
+      sums = IfOk-from_err r.result _ r.ensures.0;
+      floors = IfOk-from_err r.result _ r.ensures.0;
+      moves = IfOk-from_err r.result _ r.ensures.0;
+    }
+
+pub returns-in_err-reserve : goal.returns-in_err-reserve
+returns-in_err-reserve g c =
+    let r = c.from_residual-in_err-reserve in
+    record {
+      tree = IfOk-from_err r.result _ r.ensures.0;
+      sums = IfOk-from_err r.result _ r.ensures.0;
+      floors = IfOk-from_err r.result _ r.ensures.0;
+      moves = IfOk-from_err r.result _ r.ensures.0;
+    }
+
+pub returns-in_err-exchange : goal.returns-in_err-exchange
+returns-in_err-exchange g c =
+    let r = c.from_residual-in_err-exchange in
+    record {
+      tree = IfOk-from_err r.result _ r.ensures.0;
+      sums = IfOk-from_err r.result _ r.ensures.0;
+      floors = IfOk-from_err r.result _ r.ensures.0;
+      moves = IfOk-from_err r.result _ r.ensures.0;
+    }

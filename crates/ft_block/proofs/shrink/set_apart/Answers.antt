@@ -1,5 +1,5 @@
 use Rattle.std.proofs.Common.{◌≡◌, ℕ, Option, Some, IsSome, IsSomeAnd, refl, sym, subst, ◌∙◌, arith}
-use Rattle.std.proofs.lemmas.Result.{on_ok_weaker, IfOk-weaker}
+use Rattle.std.proofs.lemmas.Result.{on_ok_weaker, IfOk-weaker, IfOk-from_err}
 use Rattle.std.proofs.lemmas.Option.{slice_get_within}
 use Rattle.ft_arena.specs.Forest.{entry, kids_of, leaf_value, parent_of, block_value}
 use Rattle.ft_block.specs.Tree.{MakesExchange, by_view, by_size}
@@ -181,3 +181,15 @@ returns-clause-floors g c = c.fill_up.ensures.floors
 
 pub parent-requires : goal.parent-requires
 parent-requires g c = leaf_live (entry c.args.arena.now c.args.id) c.requires.live
+
+pub returns-in_err-exchange_up : goal.returns-in_err-exchange_up
+returns-in_err-exchange_up g c =
+    let r = c.from_residual in
+    record {
+      apart = IfOk-from_err r.result _ r.ensures.0;
+      low = IfOk-from_err r.result _ r.ensures.0;
+      sums = IfOk-from_err r.result _ r.ensures.0;
+      floors = IfOk-from_err r.result _ r.ensures.0;
+      leaves = IfOk-from_err r.result _ r.ensures.0;
+      leaf_values = IfOk-from_err r.result _ r.ensures.0;
+    }

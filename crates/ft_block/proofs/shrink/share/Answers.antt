@@ -1,4 +1,5 @@
 use Rattle.std.proofs.Common.{arith}
+use Rattle.std.proofs.lemmas.Result.{IfOk-from_err}
 use Rattle.ft_block.proofs.shrink.share.Goals as goal
 
 pub count_of-requires : goal.count_of-requires
@@ -78,3 +79,23 @@ returns-clause-up_kids g c = λ e. cc e
 
 pub overflow_add-many : goal.overflow_add-many
 overflow_add-many g c = omega (arith, c.count_of.ensures.few, c.count_of-2.ensures.few)
+
+pub returns-in_err-balance : goal.returns-in_err-balance
+returns-in_err-balance g c =
+    let r = c.from_residual in
+    record {
+      shares = IfOk-from_err r.result _ r.ensures.0;
+      up_kids = IfOk-from_err r.result _ r.ensures.0;
+      sums = IfOk-from_err r.result _ r.ensures.0;
+      floors = IfOk-from_err r.result _ r.ensures.0;
+    }
+
+pub returns-in_err-merge : goal.returns-in_err-merge
+returns-in_err-merge g c =
+    let r = c.from_residual-in_err-merge in
+    record {
+      shares = IfOk-from_err r.result _ r.ensures.0;
+      up_kids = IfOk-from_err r.result _ r.ensures.0;
+      sums = IfOk-from_err r.result _ r.ensures.0;
+      floors = IfOk-from_err r.result _ r.ensures.0;
+    }
