@@ -1,10 +1,10 @@
 -- The tests of equality of operations decide equality.
-use Rattle.std.proofs.Common.{◌≡◌, ◌∙◌, ℕ, ℤ, pos, negsuc, Bool, true, false, IsTrue, ◌&&◌, ◌↔◌, List, [], ◌∷◌, Option, Some, None, Decides, bytes_eq, refl, ap, ap₂, arith, leb-true, nat_le}
+use Rattle.std.proofs.Common.{◌≡◌, ◌∙◌, ℕ, ℤ, pos, negsuc, Bool, IsTrue, ◌&&◌, ◌↔◌, List, [], ◌∷◌, Option, Some, None, Decides, bytes_eq, refl, ap, ap₂, arith, leb-true, nat_le}
 use Rattle.std.specs.Prelude.{nat_eq}
 use Rattle.std.proofs.lemmas.Bool.Decides.{nat_tests, Decides-eqb, same_from_decides}
 use Rattle.std.proofs.lemmas.Slice.Eq.{bytes_eq-Decides}
-use Rattle.ft_base.proofs.Booleans.{both, all_three, all_four}
-use Rattle.ft_props.specs.Properties.{Characters, PropertySet, ValueBytes}
+use Rattle.ft_base.proofs.Booleans.{both}
+use Rattle.ft_props.specs.Properties.{Characters, PropertySet}
 use Rattle.ft_props.specs.declared.properties.Adjust.{Adjust}
 use Rattle.ft_props.specs.declared.properties.Changes.{Changes}
 use Rattle.ft_op.specs.declared.operations.Seg.{Seg}

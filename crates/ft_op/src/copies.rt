@@ -3,6 +3,7 @@
 ghost use Rattle.std.specs.Prelude.{◌≡◌, ◌↔◌, IsTrue, IfOk};
 
 use crate::operations::{BaseOp, BaseOps, CellOp, ChannelOp, Ends, GridOp, Seg, Target, TextOp};
+use ft_base::moved::{all_three, both};
 use ft_base::{Datum, OutOfMemory, Text};
 use ft_json::ValText;
 use ft_props::{Changes, PropSet};
@@ -174,6 +175,14 @@ fn is_set(op: &CellOp, row: u64, col: u64, value: &ValText) -> bool
     }
 }
 
+// A copy of an insertion.
+fn copy_insertion(pos: u64, seg: &Seg, props: &PropSet) -> Result<BaseOp, OutOfMemory>
+    ensures { IfOk result (λ op. op ≡ BaseOp.Insert pos seg.now props.now) }
+{
+    let (seg, props) = both(seg.copy(), props.copy())?;
+    Ok(BaseOp::Insert { pos, seg, props })
+}
+
 // A copy of the addition of an interval.
 fn copy_interval_add(
     label: &Text,
@@ -183,11 +192,12 @@ fn copy_interval_add(
 ) -> Result<TextOp, OutOfMemory>
     ensures { IfOk result (λ op. op ≡ TextOp.IntervalAdd label.now id.now ends props.now) }
 {
+    let (label, id, props) = all_three(label.copy(), id.copy(), props.copy())?;
     Ok(TextOp::IntervalAdd {
-        label: label.copy()?,
-        id: id.copy()?,
+        label,
+        id,
         ends,
-        props: props.copy()?,
+        props,
     })
 }
 
@@ -200,11 +210,12 @@ fn copy_interval_change(
 ) -> Result<TextOp, OutOfMemory>
     ensures { IfOk result (λ op. op ≡ TextOp.IntervalChange label.now id.now ends props.now) }
 {
+    let (label, id, props) = all_three(label.copy(), id.copy(), props.copy())?;
     Ok(TextOp::IntervalChange {
-        label: label.copy()?,
-        id: id.copy()?,
+        label,
+        id,
         ends,
-        props: props.copy()?,
+        props,
     })
 }
 
@@ -212,10 +223,8 @@ fn copy_interval_change(
 fn copy_interval_delete(label: &Text, id: &Text) -> Result<TextOp, OutOfMemory>
     ensures { IfOk result (λ op. op ≡ TextOp.IntervalDelete label.now id.now) }
 {
-    Ok(TextOp::IntervalDelete {
-        label: label.copy()?,
-        id: id.copy()?,
-    })
+    let (label, id) = both(label.copy(), id.copy())?;
+    Ok(TextOp::IntervalDelete { label, id })
 }
 
 impl Datum for Seg {
@@ -241,11 +250,7 @@ impl Datum for Seg {
 impl Datum for BaseOp {
     fn copy(&self) -> Result<BaseOp, OutOfMemory> {
         match self {
-            BaseOp::Insert { pos, seg, props } => Ok(BaseOp::Insert {
-                pos: *pos,
-                seg: seg.copy()?,
-                props: props.copy()?,
-            }),
+            BaseOp::Insert { pos, seg, props } => copy_insertion(*pos, seg, props),
             BaseOp::Remove { pos1, pos2 } => Ok(BaseOp::Remove {
                 pos1: *pos1,
                 pos2: *pos2,

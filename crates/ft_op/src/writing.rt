@@ -11,7 +11,7 @@ ghost use Rattle.ft_json.specs.Reading.{read_line};
 ghost use Rattle.ft_op.specs.Laws.{IsReadAs};
 ghost use Rattle.ft_op.specs.Representable.{IsKeyed, IsRepresentable, IsRepresentableBase, IsRepresentableSegment, IsRepresentableText, IsText};
 ghost use Rattle.ft_op.specs.WellFormed.{IsPropertySet, IsSetValue, IsWellFormed, IsWellFormedBase, IsWellFormedCell, IsWellFormedGrid, IsWellFormedText};
-ghost use Rattle.ft_op.specs.Written.{given_adjustments, given_end, given_set, given_start, put_counts, put_given, written, written_adjustment, written_base, written_cell, written_characters, written_grid_op, written_group, written_items, written_interval, written_pairs, written_segment, written_set, written_target, written_text_op, written_value};
+ghost use Rattle.ft_op.specs.Written.{given_adjustments, given_end, given_set, given_start, put_counts, put_given, written, written_adjustment, written_base, written_cell, written_characters, written_grid_op, written_group, written_items, written_interval, written_number, written_pairs, written_segment, written_set, written_target, written_text_op, written_value};
 
 use crate::limits::{ANNOTATION, GROUP, INSERTION, REMOVAL, SPLICE_IN, SPLICE_OUT};
 use crate::operations::{BaseOp, CellOp, ChannelOp, Ends, GridOp, Seg, Target, TextOp};
@@ -57,6 +57,21 @@ fn given_set(alloc: Global, set: &PropSet) -> Result<Option<Value>, OutOfMemory>
     Ok(Some(written_set(alloc, set)?))
 }
 
+// Puts the object of a property set, unless it is empty.
+fn put_given_set(
+    members: &mut Map<String, Value>,
+    alloc: Global,
+    set: &PropSet,
+) -> Result<(), OutOfMemory>
+    requires { IsPropertySet set.now }
+    ensures value { OnOk result (members_view members.new.entries
+        ≡ put_given (codes "props") (given_set set.now) (members_view members.old.entries)) }
+    ensures keyed { OnOk result (IsKeyed set.now) }
+{
+    let set = given_set(alloc, set)?;
+    put_given(members, alloc, "props", set)
+}
+
 // Puts the value under the key, if it is there.
 fn put_given(
     members: &mut Map<String, Value>,
@@ -69,6 +84,22 @@ fn put_given(
 {
     match value {
         Some(value) => Ok(put(members, alloc, key, value)?),
+        None => Ok(()),
+    }
+}
+
+// Puts the number under the key, if it is there.
+fn put_number(
+    members: &mut Map<String, Value>,
+    alloc: Global,
+    key: &str,
+    number: Option<i64>,
+) -> Result<(), OutOfMemory>
+    ensures { OnOk result (members_view members.new.entries
+        ≡ put_given key.now (option_map written_number number) (members_view members.old.entries)) }
+{
+    match number {
+        Some(number) => Ok(put(members, alloc, key, Value::from(number))?),
         None => Ok(()),
     }
 }
@@ -104,8 +135,8 @@ fn written_adjustment(alloc: Global, adjust: &Adjust) -> Result<Value, OutOfMemo
 {
     let mut members = Map::new(alloc);
     put(&mut members, alloc, "delta", Value::from(adjust.delta))?;
-    put_given(&mut members, alloc, "max", adjust.max.map(Value::from))?;
-    put_given(&mut members, alloc, "min", adjust.min.map(Value::from))?;
+    put_number(&mut members, alloc, "max", adjust.max)?;
+    put_number(&mut members, alloc, "min", adjust.min)?;
     Ok(Value::Object(members))
 }
 
@@ -166,7 +197,7 @@ fn written_marker(alloc: Global, ref_type: u64, props: &PropSet) -> Result<Value
     let mut members = Map::new(alloc);
     let marker = counts(alloc, &[("refType", ref_type)])?;
     put(&mut members, alloc, "marker", Value::Object(marker))?;
-    put_given(&mut members, alloc, "props", given_set(alloc, props)?)?;
+    put_given_set(&mut members, alloc, props)?;
     Ok(Value::Object(members))
 }
 
@@ -276,21 +307,21 @@ fn written_group(alloc: Global, ops: Vec<Value>) -> Result<Value, OutOfMemory>
 }
 
 // The number of the first end, if ends are given.
-fn given_start(ends: Option<Ends>) -> Option<Value>
-    ensures { option_map view result ≡ given_start ends }
+fn given_start(ends: Option<Ends>) -> Option<i64>
+    ensures { option_map written_number result ≡ given_start ends }
 {
     match ends {
-        Some(ends) => Some(Value::from(ends.start)),
+        Some(ends) => Some(ends.start),
         None => None,
     }
 }
 
 // The number of the last end, if ends are given.
-fn given_end(ends: Option<Ends>) -> Option<Value>
-    ensures { option_map view result ≡ given_end ends }
+fn given_end(ends: Option<Ends>) -> Option<i64>
+    ensures { option_map written_number result ≡ given_end ends }
 {
     match ends {
-        Some(ends) => Some(Value::from(ends.end)),
+        Some(ends) => Some(ends.end),
         None => None,
     }
 }
@@ -312,13 +343,33 @@ fn written_interval(
     ensures keyed { IfOk result (λ _. IsKeyed props.now) }
 {
     let mut members = Map::new(alloc);
-    put_given(&mut members, alloc, "end", given_end(ends))?;
-    put_str(&mut members, alloc, "id", id.as_str())?;
-    put_str(&mut members, alloc, "interval", word)?;
-    put_str(&mut members, alloc, "label", label.as_str())?;
-    put_given(&mut members, alloc, "props", given_set(alloc, props)?)?;
-    put_given(&mut members, alloc, "start", given_start(ends))?;
+    put_interval(&mut members, alloc, word, label, id, ends, props)?;
     Ok(Value::Object(members))
+}
+
+// Puts the members of the addition or the change of an interval into an object that has none.
+fn put_interval(
+    members: &mut Map<String, Value>,
+    alloc: Global,
+    word: &str,
+    label: &Text,
+    id: &Text,
+    ends: Option<Ends>,
+    props: &PropSet,
+) -> Result<(), OutOfMemory>
+    requires formed { IsPropertySet props.now }
+    requires empty { members_view members.old.entries ≡ no_members }
+    ensures { OnOk result ((object (members_view members.new.entries) ≡ written_interval word.now label.now id.now ends props.now)
+        × IsText label.now × IsText id.now × IsKeyed props.now) }
+{
+    let id = id.as_str();
+    let label = label.as_str();
+    put_number(members, alloc, "end", given_end(ends))?;
+    put_str(members, alloc, "id", id)?;
+    put_str(members, alloc, "interval", word)?;
+    put_str(members, alloc, "label", label)?;
+    put_given_set(members, alloc, props)?;
+    put_number(members, alloc, "start", given_start(ends))
 }
 
 // The deletion of an interval.

@@ -14,9 +14,9 @@ pub returns-clause-value : goal.returns-clause-value
 returns-clause-value c =
     let marker = view-Object c.in_ok-marker.marker ∙ ap object c.in_ok-marker.ensures in
     let m = ap₂ (put (codes "marker")) marker (ap members_view c.new-members.ensures.empty) in
-    let p = ap₂ (put_given (codes "props")) c.in_ok-given_set.ensures.value (c.in_ok-put.ensures.ok ∙ m) in
-    view-Object c.put_given.new.members ∙ ap object (c.in_ok-put_given.ensures ∙ p
+    let p = ap (put_given (codes "props") (given_set c.args.props.now)) (c.in_ok-put.ensures.ok ∙ m) in
+    view-Object c.put_given_set.new.members ∙ ap object (c.in_ok-put_given_set.ensures.value ∙ p
     ∙ marker_fields (written_marker c.args.ref_type) (given_set c.args.props.now))
 
 pub returns-clause-keyed : goal.returns-clause-keyed
-returns-clause-keyed c = c.in_ok-given_set.ensures.keyed
+returns-clause-keyed c = c.in_ok-put_given_set.ensures.keyed
