@@ -1070,8 +1070,10 @@ class Session:
 
 # ---- the cases of ft_beside
 
-# Of each seed how many events it has: most sessions are short, some are long enough for trees of several levels.
-GENERATED = [(seed, 50) for seed in range(1, 91)] + [(seed, 120) for seed in range(91, 103)] + [(seed, 500) for seed in range(103, 106)]
+# Of each seed how many events it has: most sessions are short, some are long enough for trees of several levels, and one goes on for four thousand events.
+GENERATED = (
+    [(seed, 50) for seed in range(1, 91)] + [(seed, 120) for seed in range(91, 103)] + [(seed, 500) for seed in range(103, 106)] + [(106, 4000)]
+)
 
 
 def generated(seed, count):

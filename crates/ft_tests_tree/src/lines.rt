@@ -13,7 +13,6 @@ pub(crate) enum Verb {
     Sweep,
     Leaves,
     Normalise,
-    Play,
 }
 
 /// A step as it is written: its first word, its text and its numbers in order.
@@ -72,7 +71,6 @@ impl<'a> Line<'a> {
             ("sweep", 2) => Some(Verb::Sweep),
             ("leaves", 0) => Some(Verb::Leaves),
             ("normalise", 0) => Some(Verb::Normalise),
-            ("play", 2) => Some(Verb::Play),
             _ => None,
         }
     }

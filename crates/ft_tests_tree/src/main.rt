@@ -14,7 +14,6 @@
 //! | `compact FLOOR`, `sweep FLOOR BUDGET` | compaction of all leaves, of so many; how many leaves they take out is written |
 //! | `leaves` | the leaves are written, each with its node, its insertion and its removals; and how many elements there are |
 //! | `normalise` | of a tree of its own the leaves are written, what is sent again of its two stages, and the leaves once it is normalised |
-//! | `play SEED COUNT` | so many pseudo-random edits are made, of a tree and of a list of their own; written is how many of them, and how often the two showed the same, a look after each hundred |
 //!
 //! Refused are positions above the length seen, perspectives and floors below the floor, and `acknowledge` after `unmark` and
 //! compaction.
@@ -25,9 +24,7 @@ mod edits;
 mod faults;
 mod lines;
 mod normalising;
-mod numbers;
 mod progress;
-mod random;
 mod script;
 mod sights;
 mod texts;

@@ -8,7 +8,6 @@ use crate::faults::StepFault;
 use crate::lines::{Line, Verb};
 use crate::normalising::push_normalised;
 use crate::progress::Progress;
-use crate::random::play;
 use crate::sights::push_leaves;
 use crate::upkeep::{acknowledge_next, compact, unmark};
 use ft_base::OutOfMemory;
@@ -120,10 +119,6 @@ fn take_step(
         }
         Some(Verb::Normalise) => {
             push_normalised(alloc, out)?;
-            Ok(true)
-        }
-        Some(Verb::Play) => {
-            play(alloc, first, line.number(1), out)?;
             Ok(true)
         }
         None => Ok(false),

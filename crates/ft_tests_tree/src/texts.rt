@@ -4,7 +4,7 @@ ghost use Rattle.std.specs.Prelude.{◌≤◌, IsTrue, OnOk};
 ghost use Rattle.ft_tests_tree.specs.Passing.{HasNoChanges, Passes};
 
 use crate::faults::StepFault;
-use ft_base::{Perspective, Steps, seen_at};
+use ft_base::{Perspective, Steps};
 use ft_props::PropSet;
 use ft_tree::{Content, TextContent, Tree};
 use std::alloc::Global;
@@ -116,26 +116,4 @@ pub(crate) fn acknowledge(
 {
     tree.ack(stage, seq, 1)?;
     Ok(())
-}
-
-/// The characters that the stage sees.
-pub(crate) fn shown(
-    alloc: Global,
-    tree: &Tree<TextContent>,
-    stage: u64,
-) -> Result<String, StepFault>
-    requires { IsTrue tree.now.usable }
-{
-    let mut text = String::new(alloc);
-    let mut at = tree.first_leaf();
-    for _i in 0..MOST {
-        let Some(id) = at else {
-            return Ok(text);
-        };
-        if seen_at(tree.leaf_element(id), stage) {
-            text.push_str(tree.leaf_content(id).text().unwrap_or("*"))?;
-        }
-        at = tree.next_leaf(id);
-    }
-    Ok(text)
 }

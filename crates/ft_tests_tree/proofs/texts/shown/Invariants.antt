@@ -1,6 +1,0 @@
-use Rattle.std.proofs.Common.{◌≡◌, ℕ, Some}
-use Rattle.ft_block.specs.Leaves.{IsLeafIn}
-use Rattle.ft_tests_tree.proofs.texts.shown.Given as goal
-
-abbrev pub invariant-loop-i : goal.invariant-loop-i
-invariant-loop-i l = (x : ℕ) → l.at ≡ Some x → IsLeafIn l.tree.leaves x
