@@ -7,7 +7,8 @@ use Rattle.ft_msg.specs.Client.{NaiveClient, stages_of}
 use Rattle.ft_msg.specs.Content.{content}
 use Rattle.ft_laws_names.specs.WellNamed.{IsWellNamed}
 use Rattle.ft_replica.specs.Own.{HoldsOne, held_by}
-use Rattle.ft_string.specs.Calls.{KeepsOthers, ShowsText}
+use Rattle.ft_text.specs.Shows.{KeepsOthers}
+use Rattle.ft_string.specs.Calls.{ShowsText}
 use Rattle.ft_string.specs.Holds.{IsTextSound}
 use Rattle.ft_matrix.specs.Conditions.{IsAboveAll}
 use Rattle.ft_matrix.specs.Shown.{with_grid}

@@ -15,7 +15,8 @@ use Rattle.ft_props.specs.declared.properties.Changes.{Changes}
 use Rattle.ft_props.specs.Element.{ElementContent}
 use Rattle.ft_props.specs.Overlay.{after_pending_changes}
 use Rattle.ft_props.specs.Properties.{PropertyList, apply}
-use Rattle.ft_string.specs.Parts.{TextElements, taken_elements}
+use Rattle.ft_text.specs.Texts.{TextElements}
+use Rattle.ft_string.specs.Parts.{taken_elements}
 use Rattle.ft_named.proofs.Lists.{all-append, all-put, all-range, all-weaker}
 
 -- whether changes, and those of an element, are of stages below k

@@ -44,11 +44,12 @@ use Rattle.ft_named.proofs.Changed.{beside-all}
 use Rattle.ft_named.proofs.Lists.{each-append}
 use Rattle.ft_named.proofs.ListSteps.{even-removals}
 use Rattle.ft_named.proofs.Slid.{slides-settled}
+use Rattle.ft_text.specs.Texts.{TextElements}
 use Rattle.ft_string.specs.Acks.{AcksStage}
 use Rattle.ft_string.specs.Bare.{text_content}
 use Rattle.ft_msg.specs.Overlap.{is_on_intervals}
 use Rattle.ft_string.specs.Holds.{element_stages, interval_stages, is_on_elements, is_on_text}
-use Rattle.ft_string.specs.Parts.{AreSound, TextElements}
+use Rattle.ft_string.specs.Parts.{AreSound}
 use Rattle.ft_string.specs.State.{element_stage, interval_stage, interval_with_places}
 use Rattle.ft_string.specs.declared.pending.PendingOp.{PendingOp}
 use Rattle.ft_string.proofs.Applied.{Holds, choice-false, choice-true, elements-of, slid-acked}

@@ -25,13 +25,14 @@ use Rattle.ft_tree.specs.State.{TreeState}
 use Rattle.ft_named.proofs.Bares.{AreElements, from-bare}
 use Rattle.ft_named.proofs.Lists.{all-weaker}
 use Rattle.ft_interval.specs.Indexes.{StandsOn}
+use Rattle.ft_text.specs.Texts.{TextElements}
 use Rattle.ft_string.specs.Acks.{AcksStage, AcksStages, AreNoted, OpsRise, first_op, if_below, is_noted, least_of}
 use Rattle.ft_string.specs.Acks.{next as next_stage, none as no_stage}
 use Rattle.ft_string.specs.Bare.{text_content}
 use Rattle.ft_string.specs.Calls.{AreFrom, AreOldest, AreWithin, HoldsAcked, HoldsOldest}
 use Rattle.ft_msg.specs.Overlap.{is_on_intervals}
 use Rattle.ft_string.specs.Holds.{HoldsText, IsTextSound, element_stages, interval_stages, is_on_elements, is_on_text}
-use Rattle.ft_string.specs.Parts.{AreSound, TextElements, state_of}
+use Rattle.ft_string.specs.Parts.{AreSound, state_of}
 use Rattle.ft_string.specs.Inside.{IsSoundIfUsable, view_of}
 use Rattle.ft_string.specs.State.{TextState, element_stage, interval_stage}
 use Rattle.ft_string.specs.declared.strings.SharedString.TheInside.{Inside}

@@ -18,8 +18,8 @@ use Rattle.ft_props.specs.declared.properties.Changes.{Changes}
 use Rattle.ft_props.specs.Element.{ElementContent}
 use Rattle.ft_props.specs.Overlay.{without_stage}
 use Rattle.ft_tree.specs.State.{TreeState}
+use Rattle.ft_text.specs.Texts.{TextElements}
 use Rattle.ft_string.specs.Acks.{AcksStage, AcksStages, AreNoted, OpsRise, first_op, if_below, is_noted, least_of, next, next_below, none}
-use Rattle.ft_string.specs.Parts.{TextElements}
 use Rattle.ft_string.specs.declared.pending.PendingOp.{PendingOp}
 
 -- ---- changes that are noted

@@ -12,8 +12,8 @@ use Rattle.ft_named.proofs.Lists.{map-append}
 use Rattle.ft_props.specs.Element.{ElementContent}
 use Rattle.ft_tree.specs.State.{KeepsRest, TreeState}
 use Rattle.ft_interval_store.specs.State.{text_elements}
+use Rattle.ft_text.specs.Texts.{TextElements}
 use Rattle.ft_string.specs.Loads.{Appends, segment_elements, summary_elements}
-use Rattle.ft_string.specs.Parts.{TextElements}
 
 pub appends-none : (tree : TreeState TextContent) → Appends [] tree tree
 appends-none tree = record {

@@ -44,9 +44,10 @@ use Rattle.ft_named.proofs.Lists.{each-weaker}
 use Rattle.ft_named.proofs.OwnSteps.{AreUpTo}
 use Rattle.ft_named.proofs.Slid.{settle-stands}
 use Rattle.ft_tree.specs.State.{TreeState}
+use Rattle.ft_text.specs.Texts.{TextElements}
 use Rattle.ft_string.specs.Bare.{text_content}
 use Rattle.ft_string.specs.Holds.{HoldsText, IsTextSound, interval_stages}
-use Rattle.ft_string.specs.Parts.{TextElements, state_of}
+use Rattle.ft_string.specs.Parts.{state_of}
 use Rattle.ft_string.specs.State.{interval_stage, interval_with_places}
 use Rattle.ft_string.specs.declared.pending.PendingOp.{PendingOp}
 use Rattle.ft_string.proofs.Documents.{settled-stands}

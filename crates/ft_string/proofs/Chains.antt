@@ -10,7 +10,7 @@ use Rattle.ft_op.specs.WellFormed.{IsWellFormedBase}
 use Rattle.ft_interval_store.specs.State.{text_elements}
 use Rattle.ft_props.specs.Properties.{max_safe_integer}
 use Rattle.ft_tree.specs.State.{TreeState}
-use Rattle.ft_string.specs.Edits.{put_in_by, put_in_by_all}
+use Rattle.ft_text.specs.Lengths.{put_in_by, put_in_by_all}
 use Rattle.ft_string.specs.Parts.{TakesOp, TakesOps, TriesOp, TriesOps, noted}
 use Rattle.ft_string.specs.declared.pending.PendingOp.{PendingOp}
 use Rattle.ft_string.proofs.Above.{HaveBelow, have-below, taken-below}

@@ -48,11 +48,12 @@ use Rattle.ft_named.proofs.Bares.{AreElements, from-bare, to-bare}
 use Rattle.ft_named.proofs.CompactedSteps.{Compacts, compacts, compacts-elements, compacts-keeps, compacts-pending, compacts-place, gone-marked, held-clear, marked-go, marked-list, staying-marked}
 use Rattle.ft_named.proofs.Lists.{any-here}
 use Rattle.ft_named.proofs.Placed.{name_place}
+use Rattle.ft_text.specs.Texts.{TextElements}
 use Rattle.ft_string.specs.Bare.{text_content}
 use Rattle.ft_string.specs.Calls.{CompactsText, is_held}
 use Rattle.ft_msg.specs.Overlap.{is_on_intervals}
 use Rattle.ft_string.specs.Holds.{HoldsText, IsTextSound, interval_stages}
-use Rattle.ft_string.specs.Parts.{AreSound, TextElements, state_of}
+use Rattle.ft_string.specs.Parts.{AreSound, state_of}
 use Rattle.ft_string.specs.declared.pending.PendingOp.{PendingOp}
 use Rattle.ft_string.proofs.Documents.{settled-stands, sound-step}
 use Rattle.ft_string.proofs.Ends.{SameEnd, SameIntervals, end-moved, end-of, from-placed, moved-interval, start-of, to-placed}

@@ -23,11 +23,13 @@ use Rattle.ft_op.specs.WellFormed.{IsWellFormedBase, is_count}
 use Rattle.ft_props.specs.Element.{ElementContent, ListElement, NamelessElement, seen}
 use Rattle.ft_tree.specs.State.{TreeState}
 use Rattle.ft_named.specs.Bare.{bare}
+use Rattle.ft_text.specs.Lengths.{count_after, count_after_all, end_of}
+use Rattle.ft_text.specs.Texts.{TextElements}
 use Rattle.ft_string.specs.Bare.{text_content}
 use Rattle.ft_string.specs.Calls.{AnswersEdit, Leaves, TakesEdit}
-use Rattle.ft_string.specs.Edits.{count_after, count_after_all, end_of, seen_count}
+use Rattle.ft_string.specs.Edits.{seen_count}
 use Rattle.ft_string.specs.Holds.{HoldsSome, HoldsText, IsTextSound}
-use Rattle.ft_string.specs.Parts.{AreSound, TakesOps, TextElements, noted, state_of, taken_place}
+use Rattle.ft_string.specs.Parts.{AreSound, TakesOps, noted, state_of, taken_place}
 use Rattle.ft_string.specs.State.{TextState}
 use Rattle.ft_string.specs.declared.pending.PendingOp.{PendingOp}
 use Rattle.ft_string.proofs.Above.{HaveBelow, are-above}

@@ -27,12 +27,13 @@ use Rattle.ft_laws_names.specs.WellNamed.{RiseTo}
 use Rattle.ft_tree.specs.State.{TreeState}
 use Rattle.ft_named.specs.Bare.{bare}
 use Rattle.ft_interval.specs.Indexes.{IndexedState, StandsOn}
+use Rattle.ft_text.specs.Texts.{TextElements}
 use Rattle.ft_string.specs.Bare.{text_content}
 use Rattle.ft_string.specs.Calls.{AnswersEdit, Leaves, TakesEdit}
 use Rattle.ft_string.specs.Edits.{edit_fault_of, is_refusal}
 use Rattle.ft_msg.specs.Overlap.{is_on_intervals}
 use Rattle.ft_string.specs.Holds.{HoldsSome, HoldsText, IsTextSound, element_stages, interval_stages, is_on_elements}
-use Rattle.ft_string.specs.Parts.{AreSound, TextElements, state_of}
+use Rattle.ft_string.specs.Parts.{AreSound, state_of}
 use Rattle.ft_string.specs.State.{TextState, interval_stage, interval_with_places}
 use Rattle.ft_string.specs.declared.pending.PendingOp.{PendingOp}
 use Rattle.ft_string.proofs.AppliedIntervals.{same-sound}

@@ -31,11 +31,12 @@ use Rattle.ft_named.specs.Bare.{bare}
 use Rattle.ft_named.proofs.Bares.{AreElements, IsElement, from-bare, seen-alike}
 use Rattle.ft_named.proofs.Lists.{filter-append}
 use Rattle.ft_named.proofs.Placed.{name_place, place-settled, rank-place}
+use Rattle.ft_text.specs.Texts.{TextElements}
 use Rattle.ft_string.specs.Bare.{text_content}
 use Rattle.ft_string.specs.Calls.{HoldsGiven}
 use Rattle.ft_msg.specs.Overlap.{is_on_intervals}
 use Rattle.ft_string.specs.Holds.{IsTextSound, element_stages, interval_stages, is_on_elements}
-use Rattle.ft_string.specs.Parts.{TextElements, state_of}
+use Rattle.ft_string.specs.Parts.{state_of}
 use Rattle.ft_string.specs.Rejoins.{GivesInterval}
 use Rattle.ft_string.specs.State.{interval_stage, interval_with_places}
 use Rattle.ft_string.specs.declared.pending.PendingOp.{PendingOp}

@@ -19,9 +19,9 @@ use Rattle.ft_laws_agreement.specs.Sequencing.{Each}
 use Rattle.ft_rebase.specs.Pieces.{pieces as tree_pieces}
 use Rattle.ft_named.proofs.Bares.{AreElements}
 use Rattle.ft_named.proofs.Lists.{map-append}
+use Rattle.ft_text.specs.Texts.{TextElements}
 use Rattle.ft_string.specs.Bare.{text_content}
 use Rattle.ft_string.specs.Holds.{IsTextSound, is_on_elements}
-use Rattle.ft_string.specs.Parts.{TextElements}
 use Rattle.ft_string.specs.Rejoins.{again_of, due, has_any, has_piece, left_over, one_of, piece_op}
 use Rattle.ft_string.specs.State.{element_stage}
 use Rattle.ft_string.specs.declared.pending.PendingOp.{PendingOp}

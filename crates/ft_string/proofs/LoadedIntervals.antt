@@ -27,8 +27,8 @@ use Rattle.ft_sumdoc.specs.declared.summary.IntervalRec.{IntervalRec}
 use Rattle.ft_sumdoc.specs.Forms.{rises}
 use Rattle.ft_sumdoc.specs.Valid.{is_interval_before}
 use Rattle.ft_tree.specs.State.{TreeState}
+use Rattle.ft_text.specs.Texts.{TextElements}
 use Rattle.ft_string.specs.Loads.{AddsInterval, AllFitOn, HasIntervals, IsAddOf, everybody, fits_on, interval_on, with_one_more}
-use Rattle.ft_string.specs.Parts.{TextElements}
 use Rattle.ft_string.proofs.AppliedIntervals.{kept-sound}
 use Rattle.ft_string.proofs.PutLast.{each-at, each-map, put-last}
 

@@ -44,10 +44,11 @@ use Rattle.ft_sumdoc.specs.Intervals.{are_shown_ends}
 use Rattle.ft_sumdoc.specs.Segments.{body_length, unless_removed, unremoved_text}
 use Rattle.ft_sumdoc.specs.Valid.{IsInterval, IsValidSummary}
 use Rattle.ft_tree.specs.State.{TreeState}
+use Rattle.ft_text.specs.Texts.{TextElements}
 use Rattle.ft_string.specs.Bare.{text_content}
 use Rattle.ft_string.specs.Holds.{HoldsText}
 use Rattle.ft_string.specs.Loads.{AllFitOn, Appends, HasIntervals, everybody, given_ends, interval_on, segment_elements, summary_elements}
-use Rattle.ft_string.specs.Parts.{TextElements, state_of}
+use Rattle.ft_string.specs.Parts.{state_of}
 use Rattle.ft_string.specs.State.{interval_stage, interval_with_places}
 use Rattle.ft_string.proofs.Intervals.{ends-on-stay, finish-alike, start-alike}
 

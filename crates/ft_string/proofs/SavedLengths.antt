@@ -19,10 +19,9 @@ use Rattle.ft_tree_leaves.specs.LeafLists.{elements}
 use Rattle.ft_tree_leaves.specs.TextLeaves.{text_units}
 use Rattle.ft_tree_leaves.specs.declared.text.TextContent.{TextContent}
 use Rattle.ft_named.proofs.Bares.{AreElements}
+use Rattle.ft_text.specs.Texts.{TextElements, TextLeaves}
+use Rattle.ft_text.specs.Saved.{element_segment, joined_from, kept_segments, segments_in}
 use Rattle.ft_string.specs.Bare.{text_content}
-use Rattle.ft_string.specs.Parts.{TextElements}
-use Rattle.ft_string.specs.Saved.{element_segment, joined_from, kept_segments, segments_in}
-use Rattle.ft_string.specs.Shows.{TextLeaves}
 use Rattle.ft_string.proofs.AckedStage.{IsOfText, IsTextUnit, units-of}
 use Rattle.ft_string.proofs.SavedTexts.{is_settled, segments-alike, trimmed_items}
 

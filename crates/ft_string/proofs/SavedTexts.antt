@@ -18,9 +18,9 @@ use Rattle.ft_marks.specs.Marks.{author_mark, insertion_mark, mark_of}
 use Rattle.ft_msg.specs.SummaryOf.{element_body, extended_segments, segment_of, segments_from}
 use Rattle.ft_laws_names.proofs.Beside.{ends, next}
 use Rattle.ft_named.proofs.Bares.{AreElements, IsElement}
+use Rattle.ft_text.specs.Texts.{TextElements}
+use Rattle.ft_text.specs.Saved.{element_segment, joined_from, kept_segments}
 use Rattle.ft_string.specs.Bare.{text_content}
-use Rattle.ft_string.specs.Parts.{TextElements}
-use Rattle.ft_string.specs.Saved.{element_segment, joined_from, kept_segments}
 
 -- whether nothing is pending on the element
 abbrev pub is_settled : ListElement → Bool

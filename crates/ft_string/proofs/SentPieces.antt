@@ -28,9 +28,9 @@ use Rattle.ft_named.proofs.Bares.{AreElements}
 use Rattle.ft_named.proofs.ListSteps.{even-removals}
 use Rattle.ft_named.proofs.PieceSteps.{change-runs, put-position, removal-runs, runs-none}
 use Rattle.ft_named.proofs.RebuiltSteps.{marks-none}
+use Rattle.ft_text.specs.Texts.{TextElements}
 use Rattle.ft_string.specs.Bare.{text_content}
 use Rattle.ft_string.specs.Holds.{IsTextSound}
-use Rattle.ft_string.specs.Parts.{TextElements}
 use Rattle.ft_string.specs.Rejoins.{piece_op}
 
 -- ---- the one stage of a number

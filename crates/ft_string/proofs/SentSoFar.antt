@@ -2,7 +2,7 @@
 use Rattle.std.proofs.Common.{◌≡◌, ℕ, Bool, true, false, cond, nat_lt, List, [], ◌∷◌, ◌++◌, refl, sym, ◌∙◌, ap, filter, flat_map, append-nil, append_assoc, length, arith, ◌<◌, Result, Ok, Err}
 use Rattle.std.specs.Prelude.{IfOk, IsOkAnd, OnOk}
 use Rattle.ft_op.specs.declared.operations.BaseOp.{BaseOp}
-use Rattle.ft_string.specs.Parts.{TextElements}
+use Rattle.ft_text.specs.Texts.{TextElements}
 use Rattle.ft_string.specs.Rejoins.{GivesOps, again_of, due, has_piece, left_over}
 use Rattle.ft_string.specs.declared.pending.PendingOp.{PendingOp}
 

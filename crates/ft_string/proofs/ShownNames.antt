@@ -18,8 +18,9 @@ use Rattle.ft_op.specs.Intervals.{has_interval}
 use Rattle.ft_op.specs.Intervals.{Interval as NamedInterval}
 use Rattle.ft_op.specs.Stages.{Stage, shown_intervals}
 use Rattle.ft_tree.specs.State.{TreeState}
+use Rattle.ft_text.specs.Texts.{TextElements}
 use Rattle.ft_string.specs.Holds.{HoldsText, IsTextSound}
-use Rattle.ft_string.specs.Parts.{TextElements, state_of}
+use Rattle.ft_string.specs.Parts.{state_of}
 use Rattle.ft_string.specs.declared.pending.PendingOp.{PendingOp}
 use Rattle.ft_string.proofs.CarriedIntervals.{IsAlike, all-alike}
 use Rattle.ft_string.proofs.RisingBeside.{has-alike}

@@ -14,10 +14,10 @@ use Rattle.ft_tree.specs.State.{TreeState}
 use Rattle.ft_named.proofs.Bares.{from-bare}
 use Rattle.ft_named.proofs.Changed.{beside-all, is_up_to}
 use Rattle.ft_named.proofs.OwnSteps.{seen-last}
+use Rattle.ft_text.specs.Shows.{origins_in}
 use Rattle.ft_string.specs.Bare.{text_content}
 use Rattle.ft_string.specs.Holds.{HoldsText, IsTextSound}
 use Rattle.ft_string.specs.Parts.{state_of}
-use Rattle.ft_string.specs.Shows.{origins_in}
 use Rattle.ft_string.specs.declared.pending.PendingOp.{PendingOp}
 use Rattle.ft_string.proofs.Standing.{sound-up_to}
 

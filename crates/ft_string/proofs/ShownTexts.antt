@@ -14,10 +14,11 @@ use Rattle.ft_tree.specs.State.{TreeState}
 use Rattle.ft_named.proofs.Bares.{IsElement, from-bare}
 use Rattle.ft_named.proofs.Changed.{beside-all, is_up_to}
 use Rattle.ft_named.proofs.OwnSteps.{seen-last}
+use Rattle.ft_text.specs.Texts.{TextElements}
+use Rattle.ft_text.specs.Shows.{characters_of, markers_of, runs_of, shown_elements}
 use Rattle.ft_string.specs.Bare.{text_content}
 use Rattle.ft_string.specs.Holds.{HoldsText, IsTextSound}
-use Rattle.ft_string.specs.Parts.{TextElements, state_of}
-use Rattle.ft_string.specs.Shows.{characters_of, markers_of, runs_of, shown_elements}
+use Rattle.ft_string.specs.Parts.{state_of}
 use Rattle.ft_string.specs.declared.pending.PendingOp.{PendingOp}
 use Rattle.ft_string.proofs.Standing.{sound-up_to}
 

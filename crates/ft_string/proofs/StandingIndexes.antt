@@ -31,8 +31,9 @@ use Rattle.ft_interval.specs.Order.{IsAtMost, IsWithin, KeepsEndOrder}
 use Rattle.ft_interval.proofs.Listed.{moved-listed}
 use Rattle.ft_interval.proofs.ListedEffects.{has-end}
 use Rattle.ft_interval.proofs.ShownOrder.{settle-order, shifted-order}
+use Rattle.ft_text.specs.Texts.{TextElements}
 use Rattle.ft_string.specs.Acks.{AcksStage}
-use Rattle.ft_string.specs.Parts.{AppliesOp, AreSound, TakesOps, TextElements, TriesOp, TriesOps, taken_elements, taken_place}
+use Rattle.ft_string.specs.Parts.{AppliesOp, AreSound, TakesOps, TriesOp, TriesOps, taken_elements, taken_place}
 use Rattle.ft_string.specs.declared.pending.PendingOp.{PendingOp}
 use Rattle.ft_string.proofs.Applied.{slid-acked}
 use Rattle.ft_string.proofs.Documents.{acked-mapped, some-mapped}

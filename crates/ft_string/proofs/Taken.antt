@@ -29,8 +29,8 @@ use Rattle.ft_laws_agreement.proofs.AgreedStage.{len-put-add}
 use Rattle.ft_laws_agreement.proofs.RangesOfLists.{len-range}
 use Rattle.ft_laws_names.proofs.NumberedLists.{later-numbered}
 use Rattle.ft_tree.specs.State.{TreeState}
+use Rattle.ft_text.specs.Lengths.{count_after, count_after_all, end_of}
 use Rattle.ft_string.specs.Bare.{text_content}
-use Rattle.ft_string.specs.Edits.{count_after, count_after_all, end_of}
 use Rattle.ft_msg.specs.Overlap.{is_on_intervals}
 use Rattle.ft_string.specs.Holds.{element_stages, interval_stages, is_on_elements}
 use Rattle.ft_string.specs.Parts.{TakesOp, TakesOps, noted}

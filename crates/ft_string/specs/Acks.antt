@@ -11,7 +11,7 @@ use Rattle.ft_tree_leaves.specs.References.{ChangesReferences, slid_reference}
 use Rattle.ft_tree_leaves.specs.TextLeaves.{text_author}
 use Rattle.ft_tree.specs.State.{KeepsRest, TreeState}
 use Rattle.ft_interval_store.specs.State.{first_stage, is_first}
-use Rattle.ft_string.specs.Parts.{TextElements}
+use Rattle.ft_text.specs.Texts.{TextElements}
 use Rattle.ft_string.specs.declared.pending.PendingOp.{PendingOp}
 
 -- the lesser of two numbers, as far as they are given

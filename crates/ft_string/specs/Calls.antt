@@ -137,13 +137,6 @@ pub record ShowsText (last : ℕ) (doc : Document) (stages : List Stage) (new : 
   pub runs : new.runs ≡ property_runs_from 0 (stage_view last doc.text.items)
   pub intervals : new.intervals ≡ map (interval_record last doc.text.items) (shown_intervals doc.text.items doc.intervals stages)
 
--- what else a view has stays
-pub record KeepsOthers (old new : View) : Type 0 where
-  pub numbers : new.numbers ≡ old.numbers
-  pub rows : new.rows ≡ old.rows
-  pub cols : new.cols ≡ old.cols
-  pub cells : new.cells ≡ old.cells
-
 -- ---- compaction
 
 -- whether an interval or a pending stage names the element

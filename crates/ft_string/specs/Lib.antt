@@ -2,12 +2,9 @@ pub mod Bare
 pub mod State
 pub mod Holds
 pub mod Edits
-pub mod Contents
 pub mod Parts
 pub mod Acks
 pub mod Rejoins
-pub mod Shows
 pub mod Calls
 pub mod Inside
-pub mod Saved
 pub mod Loads

@@ -24,7 +24,8 @@ use Rattle.ft_sumdoc.specs.declared.summary.Ends2.{Ends2}
 use Rattle.ft_sumdoc.specs.declared.summary.IntervalRec.{IntervalRec}
 use Rattle.ft_sumdoc.specs.declared.summary.SegRec.{SegRec}
 use Rattle.ft_tree.specs.State.{KeepsRest, TreeState}
-use Rattle.ft_string.specs.Parts.{AreSound, TextElements}
+use Rattle.ft_text.specs.Texts.{TextElements}
+use Rattle.ft_string.specs.Parts.{AreSound}
 
 -- ---- segments
 

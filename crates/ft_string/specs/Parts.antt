@@ -10,20 +10,20 @@ use Rattle.ft_interval_store.specs.State.{CollectionsState, IsLive, IsMarked, ke
 use Rattle.ft_tree_leaves.specs.declared.references.Reference.{Reference}
 use Rattle.ft_tree_leaves.specs.declared.text.TextContent.{TextContent}
 use Rattle.ft_tree_leaves.specs.Edits.{with_place}
-use Rattle.ft_tree_leaves.specs.Elements.{TreeElement, is_pending, new_elements, removed_stamps, seen_in, with_overlay, with_stamps}
+use Rattle.ft_tree_leaves.specs.Elements.{is_pending, new_elements, removed_stamps, seen_in, with_overlay, with_stamps}
 use Rattle.ft_tree_leaves.specs.Places.{put_place, shifted_place}
 use Rattle.ft_tree_leaves.specs.References.{ChangesReferences, reference_at, slid_reference}
 use Rattle.ft_tree_leaves.specs.TextLeaves.{text_author}
 use Rattle.ft_op.specs.declared.operations.BaseOp.{BaseOp}
 use Rattle.ft_op.specs.declared.operations.BaseOp.TheVariants.{Insert, Remove, Annotate}
 use Rattle.ft_op.specs.Operation.{segment_contents}
-use Rattle.ft_props.specs.Element.{ElementContent}
 use Rattle.ft_props.specs.Overlay.{after_acked_changes, after_pending_changes}
 use Rattle.ft_props.specs.Properties.{apply}
 use Rattle.ft_tree.specs.State.{KeepsRest, TreeState}
 use Rattle.ft_named.specs.Bare.{bare}
+use Rattle.ft_text.specs.Lengths.{end_of, put_in_by}
+use Rattle.ft_text.specs.Texts.{TextElements}
 use Rattle.ft_string.specs.Bare.{text_content}
-use Rattle.ft_string.specs.Edits.{end_of, put_in_by}
 use Rattle.ft_string.specs.State.{TextState, element_stage, interval_stage, interval_with_places}
 use Rattle.ft_string.specs.declared.pending.PendingOp.{PendingOp}
 
@@ -49,9 +49,6 @@ pub record AreSound (t : TreeState TextContent) (c : CollectionsState) : Type 0 
   pub only : (r : ℕ) → keeps r c ≡ false → reference_at t.refs r ≡ None
 
 -- ---- an operation of the client's own, at a pending stage
-
-abbrev pub TextElements : Type 0
-TextElements = List (TreeElement ElementContent)
 
 -- the elements after it
 abbrev pub taken_elements : ℕ → BaseOp → TextElements → TextElements

@@ -16,7 +16,7 @@ use Rattle.ft_rebase.specs.declared.pieces.Piece.{Piece}
 use Rattle.ft_rebase.specs.declared.pieces.Piece.TheVariants as piece
 use Rattle.ft_rebase.specs.Pieces.{pieces}
 use Rattle.ft_tree.specs.State.{TreeState}
-use Rattle.ft_string.specs.Parts.{TextElements}
+use Rattle.ft_text.specs.Texts.{TextElements}
 use Rattle.ft_string.specs.declared.pending.PendingOp.{PendingOp}
 
 -- the operation at the place of its piece

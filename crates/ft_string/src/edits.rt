@@ -15,14 +15,13 @@ ghost use Rattle.ft_op.specs.Operation.{OnIntervals, OnText, text_sub_operations
 ghost use Rattle.ft_op.specs.Stages.{Stage};
 ghost use Rattle.ft_op.specs.WellFormed.{IsWellFormedBase, IsWellFormedText};
 ghost use Rattle.ft_props.specs.Properties.{max_safe_integer};
+ghost use Rattle.ft_text.specs.Lengths.{count_after_all, put_in_by, put_in_by_all};
 ghost use Rattle.ft_string.specs.Calls.{AnswersEdit, Leaves};
-ghost use Rattle.ft_string.specs.Edits.{IsShort, count_after_all, edit_fault_of, is_refusal, put_in_by, put_in_by_all, seen_count};
+ghost use Rattle.ft_string.specs.Edits.{IsShort, edit_fault_of, is_refusal, seen_count};
 ghost use Rattle.ft_string.specs.Holds.{HoldsSome, HoldsText, IsTextSound};
 ghost use Rattle.ft_string.specs.Parts.{TakesOp, TakesOps, noted};
 ghost use Rattle.ft_string.specs.State.{KeepsRest};
 
-use crate::contents::insert_local;
-use crate::lengths::{have_room, put_in_by_all, test_all};
 use crate::pending::PendingOp;
 use crate::strings::SharedString;
 use ft_arena::NodeId;
@@ -33,6 +32,8 @@ use ft_interval::Collections;
 use ft_interval_store::IntervalFault;
 use ft_msg::EditFault;
 use ft_op::{BaseOp, TextOp};
+use ft_text::contents::insert_local;
+use ft_text::lengths::{have_room, put_in_by_all, test_all};
 use ft_tree::{TextContent, Tree, TreeFault};
 use std::collections::VecDeque;
 use std::slice;

@@ -8,18 +8,18 @@ ghost use Rattle.ft_op.specs.Operation.{OnIntervals, OnText, text_sub_operations
 ghost use Rattle.ft_op.specs.Stages.{Stage};
 ghost use Rattle.ft_op.specs.WellFormed.{IsWellFormedBase, IsWellFormedText};
 ghost use Rattle.ft_props.specs.Properties.{max_safe_integer};
+ghost use Rattle.ft_text.specs.Lengths.{put_in_by};
 ghost use Rattle.ft_string.specs.Calls.{IsApplied};
-ghost use Rattle.ft_string.specs.Edits.{put_in_by};
 ghost use Rattle.ft_string.specs.Holds.{HoldsText, IsTextSound};
 ghost use Rattle.ft_string.specs.Parts.{AppliesOp, TriesOp, TriesOps};
 ghost use Rattle.ft_string.specs.State.{KeepsRest};
 
-use crate::contents::insert_remote;
-use crate::lengths::{end_of, have_room, put_in_by, sum};
 use crate::strings::SharedString;
 use ft_base::{OutOfMemory, Perspective, Steps};
 use ft_block::LenView;
 use ft_op::{BaseOp, TextOp};
+use ft_text::contents::insert_remote;
+use ft_text::lengths::{end_of, have_room, put_in_by, sum};
 use ft_tree::{TextContent, Tree, TreeFault};
 use std::slice;
 use std::sync::ledger::Ledger;

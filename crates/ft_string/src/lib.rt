@@ -8,14 +8,11 @@
 
 mod acks;
 mod compaction;
-mod contents;
 mod edits;
 mod effects;
-mod lengths;
 mod moved;
 pub mod pending;
 mod rejoining;
-mod segments;
 mod shown;
 pub mod strings;
 mod summaries;

@@ -5,13 +5,6 @@ ghost use Rattle.std.specs.Prelude.{◌≡◌, ◌++◌, ◌∷◌, [], IsOkAnd,
 use ft_base::OutOfMemory;
 use std::collections::VecDeque;
 
-/// Puts a value in the place of another one.
-pub(crate) fn put<T: Drop>(place: &mut T, value: T)
-    ensures { place.new ≡ value }
-{
-    *place = value;
-}
-
 /// Adds an item behind the others, if it is told that it goes there.
 pub(crate) fn push_if<T: Drop>(
     items: &mut VecDeque<T>,

@@ -12,7 +12,6 @@ ghost use Rattle.ft_string.specs.Calls.{AreNext, HoldsAllGiven, HoldsGiven, Hold
 ghost use Rattle.ft_string.specs.Holds.{IsTextSound};
 ghost use Rattle.ft_string.specs.Rejoins.{Gives, GivesOps, NextDue, again_of, due, has_any, has_piece, one_of, piece_op};
 
-use crate::lengths::made_in;
 use crate::moved::push_if;
 use crate::pending::PendingOp;
 use crate::strings::SharedString;
@@ -21,6 +20,7 @@ use ft_base::{Datum, OutOfMemory};
 use ft_interval::Collections;
 use ft_op::{BaseOp, BaseOps, TextOp};
 use ft_rebase::{Piece, normalise, regenerate};
+use ft_text::lengths::made_in;
 use ft_tree::{TextContent, Tree};
 use std::collections::VecDeque;
 use std::mem;

@@ -10,9 +10,10 @@ use Rattle.ft_sumdoc.specs.declared.summary.SegRec.{SegRec}
 use Rattle.ft_sumdoc.specs.Forms.{rises}
 use Rattle.ft_sumdoc.specs.Valid.{is_interval_before}
 use Rattle.ft_tree.specs.State.{TreeState}
+use Rattle.ft_text.specs.Texts.{TextElements}
 use Rattle.ft_string.specs.Holds.{HoldsText}
 use Rattle.ft_string.specs.Loads.{AllFitOn, HasIntervals, summary_elements}
-use Rattle.ft_string.specs.Parts.{AreSound, TextElements, state_of}
+use Rattle.ft_string.specs.Parts.{AreSound, state_of}
 use Rattle.ft_string.proofs.LoadedTexts.{filled, summary-fits, summary-held}
 use Rattle.ft_string.proofs.summaries.fill.Goals as goal
 

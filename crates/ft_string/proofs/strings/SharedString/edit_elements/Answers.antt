@@ -1,5 +1,6 @@
 use Rattle.std.proofs.Common.{◌-◌, ap, ◌∙◌, subst, sym, IsTrue, ◌++◌, append_assoc, is_ok, rules}
-use Rattle.ft_string.specs.Edits.{count_after_all, seen_count}
+use Rattle.ft_text.specs.Lengths.{count_after_all}
+use Rattle.ft_string.specs.Edits.{seen_count}
 use Rattle.ft_string.specs.Holds.{HoldsSome, HoldsText}
 use Rattle.ft_string.specs.Parts.{noted}
 use Rattle.ft_string.specs.State.{TextState}

@@ -1,6 +1,6 @@
 use Rattle.std.proofs.Common.{◌+◌, ◌^◌, ◌≤◌, length, subst}
 use Rattle.ft_string.specs.State.{TextState}
-use Rattle.ft_string.proofs.Counts.{depth-few}
+use Rattle.ft_string.proofs.Depths.{depth-few}
 use Rattle.ft_string.proofs.strings.SharedString.first_leaf.Goals as goal
 
 pub returns : goal.returns

@@ -1,6 +1,7 @@
 use Rattle.std.proofs.Common.{ap, ◌∙◌, subst, sym, ◌≡◌, ◌++◌, true, is_ok}
 use Rattle.std.proofs.lemmas.Result.{err_from_is_err_and}
-use Rattle.ft_string.specs.Edits.{count_after_all, seen_count}
+use Rattle.ft_text.specs.Lengths.{count_after_all}
+use Rattle.ft_string.specs.Edits.{seen_count}
 use Rattle.ft_string.specs.State.{TextState}
 use Rattle.ft_string.proofs.Edited.{count-is}
 use Rattle.ft_string.proofs.strings.SharedString.test.Goals as goal

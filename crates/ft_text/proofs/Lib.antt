@@ -1,0 +1,10 @@
+pub mod PushedCharacter
+pub mod RunsSoFar
+pub mod PutInParts
+pub mod Counts
+pub mod ShownElements
+pub mod FrontSegments
+pub mod SavedLeaves
+pub mod ShownRuns
+pub mod ShownLeaves
+pub mod LeafParts
