@@ -1,7 +1,7 @@
 pub mod Outputs
 pub mod Worlds
 pub mod Services
-pub mod Deliveries
+pub mod Connected
 pub mod Asked
 pub mod Entrances
 pub mod Effects

@@ -1,18 +1,17 @@
 //! How clients process messages.
 
-ghost use Rattle.std.specs.Prelude.{◌≡◌, ◌≤◌, ◌∷◌, [], Err, OnOk, OnErr, drop, length, option_copied};
-ghost use Rattle.ft_msg.specs.Client.{NaiveClient};
+ghost use Rattle.std.specs.Prelude.{◌≡◌, ◌≤◌, drop, length};
 ghost use Rattle.ft_seqr.specs.World.{deliver_client, offer_message};
 ghost use Rattle.ft_session.specs.Acts.{offered_client};
-ghost use Rattle.ft_session.specs.Deliveries.{CanProcess, HasConnection, HasProcessed, Processes, offered_entry};
+ghost use Rattle.ft_session.specs.Connected.{HasConnection};
 ghost use Rattle.ft_session.specs.Worlds.{AnswersClient, MeetsSome};
 
 use crate::counts::next_count;
 use crate::members::Member;
 use crate::outputs::BoxedOut;
 use crate::service::Service;
+use ft_delivery::{offered_entry, process_all, process_one};
 use ft_msg::{Cause, Entry, Message, Replica};
-use ft_seqr::same_message::same_message;
 use ft_seqr::{HowMany, Refusal, conn_of, wanted_count};
 
 /// The client processes so many of the next messages of the log.
@@ -83,44 +82,10 @@ fn offer_message<R: Replica>(
     Ok(BoxedOut::nothing())
 }
 
-// The next of the messages, if it is the one offered.
-fn offered_entry<'a>(ahead: &'a [Entry], message: &Message) -> Option<&'a Entry>
-    ensures { option_copied result ≡ offered_entry message.now ahead.now }
-{
-    match ahead {
-        [entry, ..] if same_message(message, &entry.msg) => Some(entry),
-        _ => None,
-    }
-}
-
 // The messages of the log beyond this number.
 fn ahead_of(service: &Service, number: u64) -> &[Entry]
     requires { number ≤ length service.now.log }
     ensures { result.now ≡ drop number service.now.log }
 {
     &service.log[number as usize..]
-}
-
-// The replica processes entries of the log.
-fn process_all<R: Replica>(replica: &mut R, entries: &[Entry]) -> Result<(), Refusal>
-    requires { CanProcess (R.state replica.old) entries.now }
-    ensures ok { (x y : NaiveClient) → Processes (R.state replica.old) entries.now x y → OnOk result (HasProcessed (R.state replica.old) (R.state replica.new) entries.now y) }
-    ensures memory { OnErr result (result ≡ Err Refusal.OutOfMemory) }
-{
-    for entry in entries {
-        process_one(replica, entry)?;
-    }
-    Ok(())
-}
-
-// The replica processes an entry of the log.
-fn process_one<R: Replica>(replica: &mut R, entry: &Entry) -> Result<(), Refusal>
-    requires { CanProcess (R.state replica.old) (entry.now ∷ []) }
-    ensures ok { (x y : NaiveClient) → Processes (R.state replica.old) (entry.now ∷ []) x y → OnOk result (HasProcessed (R.state replica.old) (R.state replica.new) (entry.now ∷ []) y) }
-    ensures memory { OnErr result (result ≡ Err Refusal.OutOfMemory) }
-{
-    match replica.process(entry) {
-        Ok(()) => Ok(()),
-        Err(fault) => Err(Refusal::of_process(entry.msg.seq, fault)),
-    }
 }

@@ -3,7 +3,7 @@ use Rattle.std.proofs.Common.{◌+◌, drop}
 use Rattle.serde_json.specs.Written.{compact_text}
 use Rattle.ft_seqr.specs.AnswerTexts.{written_overlap}
 use Rattle.ft_session.proofs.Asking.{text-added}
-use Rattle.ft_session.proofs.Processed.{rest-at}
+use Rattle.ft_delivery.proofs.Rests.{rest-at}
 use Rattle.ft_session.proofs.asked.overlap_texts.Goals as goal
 
 pub loop-interval-preserved : goal.loop-interval-preserved

@@ -5,7 +5,7 @@ use Rattle.ft_attrib.specs.declared.attribution.AttrRun.{AttrRun}
 use Rattle.ft_attrib.specs.declared.attribution.Origin.TheVariants.{Known}
 use Rattle.ft_seqr.specs.AnswerTexts.{written_origin_run}
 use Rattle.ft_session.proofs.Asking.{text-added}
-use Rattle.ft_session.proofs.Processed.{rest-from}
+use Rattle.ft_delivery.proofs.Rests.{rest-from}
 use Rattle.ft_session.proofs.asked.run_texts.Goals as goal
 
 pub loop-run-preserved : goal.loop-run-preserved

@@ -3,7 +3,7 @@ use Rattle.std.proofs.Common.{◌+◌, ◌∷◌, [], ◌∙◌, ap, refl, subst
 use Rattle.std.specs.Prelude.{option_copied}
 use Rattle.ft_msg.specs.Answers.{numbers_of}
 use Rattle.ft_seqr.specs.World.{conn_of}
-use Rattle.ft_session.specs.Deliveries.{CanProcess, HasProcessed, Processes, offered_entry}
+use Rattle.ft_delivery.specs.Deliveries.{CanProcess, HasProcessed, Processes, offered_entry}
 use Rattle.ft_msg.specs.Client.{NaiveClient}
 use Rattle.ft_session.specs.Worlds.{MemberState}
 use Rattle.ft_session.proofs.OwnEvents.{client-wants, same-new}

@@ -4,7 +4,7 @@ use Rattle.serde_json.specs.Written.{compact_text}
 use Rattle.ft_msg.specs.declared.messages.Entry.{Entry}
 use Rattle.ft_msg.specs.Written.{written_message}
 use Rattle.ft_session.proofs.Asking.{text-added}
-use Rattle.ft_session.proofs.Processed.{rest-at}
+use Rattle.ft_delivery.proofs.Rests.{rest-at}
 use Rattle.ft_session.proofs.guests.message_texts.Goals as goal
 
 pub loop-entry-preserved : goal.loop-entry-preserved

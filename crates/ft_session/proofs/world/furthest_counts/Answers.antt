@@ -4,7 +4,7 @@ use Rattle.ft_msg.specs.Answers.{numbers_of}
 use Rattle.ft_session.specs.Steps.{further_numbers}
 use Rattle.ft_session.specs.Worlds.{MemberState}
 use Rattle.ft_session.proofs.Counting.{StillCounts, counts-first, counts-last, counts-next}
-use Rattle.ft_session.proofs.Processed.{none-left, rest-at}
+use Rattle.ft_delivery.proofs.Rests.{none-left, rest-at}
 use Rattle.ft_session.proofs.world.furthest_counts.Goals as goal
 
 pub loop-member-init : goal.loop-member-init

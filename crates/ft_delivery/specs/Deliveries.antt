@@ -1,5 +1,5 @@
 -- What is known of a replica that is to process entries of a log.
-use Rattle.std.specs.Prelude.{◌≡◌, ℕ, cond, List, [], ◌∷◌, Option, Some, None, Ok, fold, max}
+use Rattle.std.specs.Prelude.{◌≡◌, cond, List, [], ◌∷◌, Option, Some, None, Ok, fold, max}
 use Rattle.ft_msg.specs.declared.messages.Entry.{Entry}
 use Rattle.ft_msg.specs.declared.messages.Message.{Message}
 use Rattle.ft_msg.specs.Answers.{ReplicaState, RunsFor}
@@ -8,8 +8,7 @@ use Rattle.ft_msg.specs.Reached.{IsReached}
 use Rattle.ft_msg.specs.WellFormed.{IsWellFormedMessage}
 use Rattle.ft_laws_agreement.specs.Sequencing.{Each}
 use Rattle.ft_seqr.specs.SameMessage.{same_message}
-use Rattle.ft_seqr.specs.World.{conn_of, processed}
-use Rattle.ft_session.specs.Worlds.{MemberState}
+use Rattle.ft_seqr.specs.World.{processed}
 
 -- a client processes the entries, and is another one then
 pub record Processes (r : ReplicaState) (entries : List Entry) (x y : NaiveClient) : Type 0 where
@@ -33,8 +32,3 @@ pub record HasProcessed (old new : ReplicaState) (entries : List Entry) (y : Nai
 abbrev pub offered_entry : Message → List Entry → Option Entry
 offered_entry m [] = None
 offered_entry m (entry ∷ entries) = cond (same_message m entry.msg) (Some entry) None
-
--- the replica has a connection
-pub record HasConnection (m : MemberState) : Type 0 where
-  pub conn : ℕ
-  pub of : conn_of m.replica.client.link ≡ Some conn
