@@ -1,17 +1,4 @@
-pub mod ItemLookups
-pub mod PlaceOrder
-pub mod ShownOrder
-pub mod StartsOnce
-pub mod Listed
-pub mod CountedKeys
-pub mod FoundItems
-pub mod CountedItems
-pub mod RangeKeys
-pub mod LabelLists
-pub mod ListedNames
 pub mod ListedEffects
 pub mod StandsSteps
-pub mod GatheringSteps
-pub mod Overlapping
 pub mod Effects
 pub mod OnIntervals

@@ -1,6 +1,6 @@
 //! Collections of intervals.
 
-ghost use Rattle.std.specs.Prelude.{◌≡◌, ◌≤◌, ◌+◌, ◌*◌, ◌^◌, [], Some, IsSome, not, IsTrue, IfOk, IfErr, OnErr, OnOk, true, false, filter, length, map, option_copied, option_map};
+ghost use Rattle.std.specs.Prelude.{◌≡◌, ◌≤◌, ◌+◌, ◌*◌, ◌^◌, [], Some, IsSome, not, IsTrue, IfOk, IfErr, OnErr, OnOk, true, false, filter, length, map, option_map};
 ghost use Rattle.std.specs.List.{list_any};
 ghost use Rattle.ft_base.specs.Scan.{len};
 ghost use Rattle.ft_block.specs.declared.leaves.LenView.TheVariants.{At, Stage};
@@ -11,19 +11,19 @@ ghost use Rattle.ft_op.specs.Document.{ends_of, given_ends_fit};
 ghost use Rattle.ft_sumdoc.specs.Meeting.{meets};
 ghost use Rattle.ft_interval_store.specs.declared.faults.IntervalFault.TheVariants as fault;
 ghost use Rattle.ft_interval_store.specs.Ends.{map_ends, places_of_given, slid_end};
-ghost use Rattle.ft_interval.specs.Indexes.{StandsOn, index_of, list_in};
+ghost use Rattle.ft_interval_index.specs.Indexes.{index_of, list_in};
+ghost use Rattle.ft_interval.specs.State.{StandsOn};
 ghost use Rattle.ft_interval_store.specs.Intervals.{NamesRise, interval_of, name_in};
 ghost use Rattle.ft_interval_store.specs.Shown.{last, numbers_at, regenerated, settled_end, shown_intervals, shown_record};
 ghost use Rattle.ft_interval_store.specs.State.{IsAboveAll, IsFirst, IsInOrder, IsAsBefore, IsRefusedEdit, KeepsReferences, Pushes, first_stage, is_add, is_at_stage, is_change, is_delete, is_interval_operation, is_shown, operation_at, placed, text_elements, with_effect, with_ends_at, with_first_acked};
 
-use crate::gathering::gathered;
-use crate::indexes::{LabelIndex, index_of, order_is_kept};
-use crate::listing::{enlist_changed, unlist_changed};
 use ft_base::{OutOfMemory, Perspective, Steps, Text};
+use ft_interval_index::gathering::overlapping;
+use ft_interval_index::indexes::LabelIndex;
+use ft_interval_index::listing::{enlist_changed, unlist_changed};
 use ft_interval_store::{IntervalFault, Store};
 use ft_op::{Ends, TextOp};
 use ft_sumdoc::IntervalRec;
-use ft_sumdoc::meeting::meets;
 use ft_tree::{TextContent, Tree};
 use std::alloc::Global;
 use std::marker::Model;
@@ -47,7 +47,7 @@ pub struct Collections {
 impl Model for Collections {
     ghost use Rattle.std.specs.Coded.{codes};
     ghost use Rattle.std_collections.specs.Layout.BTreeMap.{btree_map_code};
-    ghost use Rattle.ft_interval.specs.Indexes.{IndexedState};
+    ghost use Rattle.ft_interval.specs.State.{IndexedState};
 
     ghost Value = { IndexedState };
 
@@ -289,27 +289,7 @@ impl Collections {
         ensures depth { let list = list_in (index_of label.now self.now.indexes) in 4 ^ list.depth ≤ length list.items + 1 }
         ensures few { length (list_in (index_of label.now self.now.indexes)).items ≤ length self.now.state.acked }
     {
-        // That names and stages rise is read off its contract.
-        let _first = self.store.first_stage();
-        let first = gathered(&self.store, tree, self.index(label), a, b, steps)?;
-        let mut found = self.store.shown_behind(tree, first)?;
-        found.retain(|i| meets(i, label, a, b));
-        Ok(found)
-    }
-
-    // The index of the label, if it has one. It is no deeper than so many intervals make it.
-    fn index(&self, label: &Text) -> Option<&LabelIndex>
-        requires { (tree : TreeState TextContent) × StandsOn tree self.now }
-        ensures index { option_copied result ≡ index_of label.now self.now.indexes }
-        ensures depth { let list = list_in (index_of label.now self.now.indexes) in 4 ^ list.depth ≤ length list.items + 1 }
-        ensures few { length (list_in (index_of label.now self.now.indexes)).items ≤ length self.now.state.acked }
-    {
-        // That names rise is read off its contract.
-        let _first = self.store.first_stage();
-        let index = index_of(&self.indexes, label);
-        // How deep the index is is read off its contract.
-        order_is_kept(index);
-        index
+        overlapping(&self.store, &self.indexes, tree, label, a, b, steps)
     }
 
     /// The operation of that pending stage as it is sent again after a reconnection: its ends, if it gives some, are settled at

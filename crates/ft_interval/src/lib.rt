@@ -5,9 +5,5 @@
 #![tactic(auto)]
 
 pub mod collections;
-mod gathering;
-mod indexes;
-mod listing;
-mod places;
 
 pub use collections::Collections;

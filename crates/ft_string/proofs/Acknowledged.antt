@@ -24,7 +24,7 @@ use Rattle.ft_laws_names.proofs.Beside.{ends, next}
 use Rattle.ft_tree.specs.State.{TreeState}
 use Rattle.ft_named.proofs.Bares.{AreElements, from-bare}
 use Rattle.ft_named.proofs.Lists.{all-weaker}
-use Rattle.ft_interval.specs.Indexes.{StandsOn}
+use Rattle.ft_interval.specs.State.{StandsOn}
 use Rattle.ft_text.specs.Texts.{TextElements}
 use Rattle.ft_string.specs.Acks.{AcksStage, AcksStages, AreNoted, OpsRise, first_op, if_below, is_noted, least_of}
 use Rattle.ft_string.specs.Acks.{next as next_stage, none as no_stage}

@@ -12,10 +12,11 @@ use Rattle.ft_interval_store.specs.declared.intervals.Interval.{Interval}
 use Rattle.ft_interval_store.specs.declared.pending.Operation.{Operation}
 use Rattle.ft_interval_store.specs.Ends.{References, is_reference}
 use Rattle.ft_interval_store.specs.State.{CollectionsState, ends_of_intervals, ends_of_name, ends_of_operations, keeps, text_elements}
-use Rattle.ft_interval.specs.declared.indexes.LabelIndex.{LabelIndex}
-use Rattle.ft_interval.specs.Indexes.{IndexedState, StandsOn, index_of}
-use Rattle.ft_interval.specs.Order.{IsAtMost, IsWithin}
-use Rattle.ft_interval.proofs.Listed.{kept-listed}
+use Rattle.ft_interval_index.specs.declared.indexes.LabelIndex.{LabelIndex}
+use Rattle.ft_interval_index.specs.Indexes.{index_of}
+use Rattle.ft_interval.specs.State.{IndexedState, StandsOn}
+use Rattle.ft_interval_index.specs.Order.{IsAtMost, IsWithin}
+use Rattle.ft_interval_index.proofs.Listed.{kept-listed}
 use Rattle.ft_laws_compaction.specs.Free.{AreFree}
 use Rattle.ft_tree_leaves.specs.declared.references.Reference.{Reference}
 use Rattle.ft_tree_leaves.specs.declared.text.TextContent.{TextContent}

@@ -26,7 +26,7 @@ use Rattle.ft_laws_names.proofs.Beside.{Beside, beside-len}
 use Rattle.ft_laws_names.specs.WellNamed.{RiseTo}
 use Rattle.ft_tree.specs.State.{TreeState}
 use Rattle.ft_named.specs.Bare.{bare}
-use Rattle.ft_interval.specs.Indexes.{IndexedState, StandsOn}
+use Rattle.ft_interval.specs.State.{IndexedState, StandsOn}
 use Rattle.ft_text.specs.Texts.{TextElements}
 use Rattle.ft_string.specs.Bare.{text_content}
 use Rattle.ft_string.specs.Calls.{AnswersEdit, Leaves, TakesEdit}

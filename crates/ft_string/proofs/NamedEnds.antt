@@ -3,7 +3,7 @@ use Rattle.std.proofs.Common.{◌≡◌, ℕ, suc, ◌<◌, ◌≤◌, Bool, tru
 use Rattle.ft_base.specs.Scan.{len, one_more_if, rank, retain_map}
 use Rattle.ft_base.specs.declared.stamps.Stamp.{Stamp}
 use Rattle.ft_base.specs.declared.stamps.Stamp.TheVariants.{Acked, Local}
-use Rattle.ft_interval.specs.Order.{IsAtMost, IsWithin}
+use Rattle.ft_interval_index.specs.Order.{IsAtMost, IsWithin}
 use Rattle.ft_interval_store.specs.declared.intervals.Interval.{Interval}
 use Rattle.ft_interval_store.specs.Ends.{References}
 use Rattle.ft_msg.specs.Indexed.{place_in_list}

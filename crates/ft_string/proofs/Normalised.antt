@@ -6,10 +6,11 @@ use Rattle.std.proofs.lemmas.List.Elements.{All-cons, All-nil}
 use Rattle.ft_base.specs.Scan.{len}
 use Rattle.ft_interval_store.specs.Ends.{place_of_end}
 use Rattle.ft_interval_store.specs.State.{CollectionsState, ends_of_name, text_elements}
-use Rattle.ft_interval.specs.declared.indexes.LabelIndex.{LabelIndex}
-use Rattle.ft_interval.specs.Indexes.{IndexedState, StandsOn, index_of}
-use Rattle.ft_interval.specs.Order.{IsAtMost, IsWithin}
-use Rattle.ft_interval.proofs.Listed.{kept-listed}
+use Rattle.ft_interval_index.specs.declared.indexes.LabelIndex.{LabelIndex}
+use Rattle.ft_interval_index.specs.Indexes.{index_of}
+use Rattle.ft_interval.specs.State.{IndexedState, StandsOn}
+use Rattle.ft_interval_index.specs.Order.{IsAtMost, IsWithin}
+use Rattle.ft_interval_index.proofs.Listed.{kept-listed}
 use Rattle.ft_tree_leaves.specs.declared.text.TextContent.{TextContent}
 use Rattle.ft_tree_leaves.specs.Edits.{with_place}
 use Rattle.ft_tree_leaves.specs.References.{ChangesReferences, reference_place}

@@ -26,11 +26,12 @@ use Rattle.ft_interval_store.specs.declared.intervals.Interval.{Interval}
 use Rattle.ft_interval_store.specs.Ends.{References, place_of_end, slid_end}
 use Rattle.ft_interval_store.specs.Intervals.{Name, interval_of, name_cmp, name_of}
 use Rattle.ft_interval_store.specs.State.{CollectionsState, IsLive, IsMarked, ends_of_name, is_acknowledged, text_elements}
-use Rattle.ft_interval.specs.Indexes.{IndexedState, StandsOn, index_of}
-use Rattle.ft_interval.specs.Order.{IsAtMost, IsWithin, KeepsEndOrder}
-use Rattle.ft_interval.proofs.Listed.{moved-listed}
+use Rattle.ft_interval_index.specs.Indexes.{index_of}
+use Rattle.ft_interval.specs.State.{IndexedState, StandsOn}
+use Rattle.ft_interval_index.specs.Order.{IsAtMost, IsWithin, KeepsEndOrder}
+use Rattle.ft_interval_index.proofs.Listed.{moved-listed}
 use Rattle.ft_interval.proofs.ListedEffects.{has-end}
-use Rattle.ft_interval.proofs.ShownOrder.{settle-order, shifted-order}
+use Rattle.ft_interval_index.proofs.ShownOrder.{settle-order, shifted-order}
 use Rattle.ft_text.specs.Texts.{TextElements}
 use Rattle.ft_string.specs.Acks.{AcksStage}
 use Rattle.ft_string.specs.Parts.{AppliesOp, AreSound, TakesOps, TriesOp, TriesOps, taken_elements, taken_place}

@@ -1,6 +1,6 @@
 -- What a shared text keeps. No public clause cites this module.
 use Rattle.std.specs.Prelude.{◌++◌, ◌≤◌, ◌<◌, IsTrue, All}
-use Rattle.ft_interval.specs.Indexes.{StandsOn}
+use Rattle.ft_interval.specs.State.{StandsOn}
 use Rattle.ft_string.specs.Parts.{AreSound, state_of}
 use Rattle.ft_string.specs.State.{TextState}
 use Rattle.ft_string.specs.declared.strings.SharedString.TheInside.{Inside}

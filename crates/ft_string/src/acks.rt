@@ -1,7 +1,7 @@
 //! The acknowledgement of pending stages of a shared text.
 
 ghost use Rattle.std.specs.Prelude.{◌≡◌, ℕ, ◌+◌, ◌≤◌, ◌^◌, ◌++◌, List, All, IsTrue, OnErr, OnOk, false};
-ghost use Rattle.ft_interval.specs.Indexes.{StandsOn};
+ghost use Rattle.ft_interval.specs.State.{StandsOn};
 ghost use Rattle.ft_interval_store.specs.State.{IsMarked, text_elements};
 ghost use Rattle.ft_tree_leaves.specs.Elements.{IsLowestChange};
 ghost use Rattle.ft_op.specs.Document.{Document};

@@ -4,7 +4,7 @@ ghost use Rattle.std.specs.Prelude.{◌≡◌, ◌≢◌, ◌+◌, ◌*◌, ◌-
 ghost use Rattle.std.specs.List.{AllByRecursion};
 ghost use Rattle.ft_base.specs.Scan.{len};
 ghost use Rattle.ft_block.specs.declared.leaves.LenView.TheVariants.{Stage as at_stage};
-ghost use Rattle.ft_interval.specs.Indexes.{StandsOn};
+ghost use Rattle.ft_interval.specs.State.{StandsOn};
 ghost use Rattle.ft_interval_store.specs.Intervals.{name_in};
 ghost use Rattle.ft_interval_store.specs.State.{IsAboveAll, IsAsBefore, IsRefusedEdit, Pushes, is_add, is_interval_operation, is_shown, placed, text_elements};
 ghost use Rattle.ft_tree_leaves.specs.Elements.{IsAboveChanges, seen_in};

@@ -6,7 +6,7 @@ ghost use Rattle.ft_op.specs.declared.operations.ChannelOp.TheVariants.{Text};
 ghost use Rattle.ft_op.specs.Document.{Document};
 ghost use Rattle.ft_op.specs.Pieces.{op_of, pieces};
 ghost use Rattle.ft_op.specs.Stages.{Stage};
-ghost use Rattle.ft_interval.specs.Indexes.{StandsOn};
+ghost use Rattle.ft_interval.specs.State.{StandsOn};
 ghost use Rattle.ft_interval_store.specs.State.{text_elements};
 ghost use Rattle.ft_string.specs.Calls.{AreNext, HoldsAllGiven, HoldsGiven, HoldsRejoined, HoldsSomeGiven};
 ghost use Rattle.ft_string.specs.Holds.{IsTextSound};

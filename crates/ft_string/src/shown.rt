@@ -6,7 +6,7 @@ ghost use Rattle.ft_msg.specs.Content.{interval_record, stage_view};
 ghost use Rattle.ft_msg.specs.Overlap.{ReadsFewNodes};
 ghost use Rattle.ft_op.specs.Document.{Document};
 ghost use Rattle.ft_op.specs.Stages.{Stage, shown_intervals};
-ghost use Rattle.ft_interval.specs.Indexes.{StandsOn};
+ghost use Rattle.ft_interval.specs.State.{StandsOn};
 ghost use Rattle.ft_interval_store.specs.Shown.{shown_intervals as all_shown, shown_record};
 ghost use Rattle.ft_interval_store.specs.State.{placed, text_elements};
 ghost use Rattle.ft_sumdoc.specs.Meeting.{meets};

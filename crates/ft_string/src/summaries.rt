@@ -8,7 +8,7 @@ ghost use Rattle.ft_props.specs.Properties.{apply};
 ghost use Rattle.ft_sumdoc.specs.declared.summary.IntervalRec.{IntervalRec};
 ghost use Rattle.ft_sumdoc.specs.Forms.{rises};
 ghost use Rattle.ft_sumdoc.specs.Valid.{IsValidSummary, is_interval_before};
-ghost use Rattle.ft_interval.specs.Indexes.{StandsOn};
+ghost use Rattle.ft_interval.specs.State.{StandsOn};
 ghost use Rattle.ft_interval_store.specs.State.{is_interval_operation, text_elements};
 ghost use Rattle.ft_tree_leaves.specs.References.{reference_at};
 ghost use Rattle.ft_tree_leaves.specs.TextLeaves.{text_units};

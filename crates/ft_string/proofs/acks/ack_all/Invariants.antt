@@ -1,6 +1,6 @@
 use Rattle.std.proofs.Common.{◌+◌}
 use Rattle.ft_interval_store.specs.State.{IsMarked}
-use Rattle.ft_interval.specs.Indexes.{StandsOn}
+use Rattle.ft_interval.specs.State.{StandsOn}
 use Rattle.ft_string.proofs.AcksSoFar.{AcksSoFar, pending_count}
 use Rattle.ft_string.proofs.acks.ack_all.Given as goal
 

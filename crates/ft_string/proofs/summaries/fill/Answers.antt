@@ -1,7 +1,7 @@
 use Rattle.std.proofs.Common.{◌≡◌, ◌∙◌, IsTrue, List, [], ap, length, refl, subst, sym, true}
 use Rattle.std.proofs.lemmas.Result.{IfOk-weaker}
 use Rattle.ft_base.proofs.Results.{whenever}
-use Rattle.ft_interval.specs.Indexes.{IndexedState}
+use Rattle.ft_interval.specs.State.{IndexedState}
 use Rattle.ft_interval_store.specs.State.{text_elements}
 use Rattle.ft_tree_leaves.specs.declared.text.TextContent.{TextContent}
 use Rattle.ft_msg.specs.Summary.{doc_of}

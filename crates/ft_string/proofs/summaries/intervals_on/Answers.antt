@@ -1,6 +1,6 @@
 use Rattle.std.proofs.Common.{◌∙◌, List, [], ap, subst, sym}
 use Rattle.std.proofs.lemmas.List.{take_all}
-use Rattle.ft_interval.specs.Indexes.{IndexedState}
+use Rattle.ft_interval.specs.State.{IndexedState}
 use Rattle.ft_tree_leaves.specs.declared.text.TextContent.{TextContent}
 use Rattle.ft_sumdoc.specs.declared.summary.IntervalRec.{IntervalRec}
 use Rattle.ft_tree.specs.State.{TreeState}

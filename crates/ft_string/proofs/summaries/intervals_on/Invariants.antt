@@ -1,5 +1,5 @@
 use Rattle.std.proofs.Common.{take}
-use Rattle.ft_interval.specs.Indexes.{StandsOn}
+use Rattle.ft_interval.specs.State.{StandsOn}
 use Rattle.ft_string.specs.Loads.{HasIntervals}
 use Rattle.ft_string.proofs.summaries.intervals_on.Given as goal
 

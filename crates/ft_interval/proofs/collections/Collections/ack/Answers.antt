@@ -4,7 +4,8 @@ use Rattle.ft_op.specs.declared.operations.TextOp.{TextOp}
 use Rattle.ft_interval_store.specs.Ends.{map_ends, slid_end}
 use Rattle.ft_interval_store.specs.Intervals.{place_of_operation}
 use Rattle.ft_interval_store.specs.State.{IsFirst, KeepsReferences, placed, text_elements, with_first_acked}
-use Rattle.ft_interval.specs.Indexes.{AreListed, IndexedState, StandsOn, ends_but}
+use Rattle.ft_interval_index.specs.Indexes.{AreListed, ends_but}
+use Rattle.ft_interval.specs.State.{IndexedState, StandsOn}
 use Rattle.ft_interval.proofs.Effects.{first-there, out-after, same-first, takes-first, within-after}
 use Rattle.ft_interval.proofs.collections.Collections.ack.Goals as goal
 

@@ -5,7 +5,7 @@ use Rattle.ft_tree_leaves.specs.Elements.{seen_in}
 use Rattle.ft_interval_store.specs.declared.intervals.EndPair.{EndPair}
 use Rattle.ft_interval_store.specs.Ends.{map_ends, places_of_given, slid_end}
 use Rattle.ft_interval_store.specs.State.{AreOwnEnds, KeepsReferences, placed, text_elements, with_effect}
-use Rattle.ft_interval.specs.Indexes.{IndexedState, StandsOn}
+use Rattle.ft_interval.specs.State.{IndexedState, StandsOn}
 use Rattle.ft_interval.proofs.Effects.{live-applied, out-applied, own-applied, within-applied}
 use Rattle.ft_interval.proofs.collections.Collections.apply.Goals as goal
 

@@ -6,7 +6,7 @@ use Rattle.ft_block.specs.declared.leaves.LenView.TheVariants.{Stage}
 use Rattle.ft_tree_leaves.specs.Elements.{seen_in}
 use Rattle.ft_interval_store.specs.Intervals.{name_in}
 use Rattle.ft_interval_store.specs.State.{CollectionsState, IsAsBefore, IsRefusedEdit, is_shown, placed, text_elements}
-use Rattle.ft_interval.specs.Indexes.{IndexedState, StandsOn}
+use Rattle.ft_interval.specs.State.{IndexedState, StandsOn}
 use Rattle.ft_interval.proofs.OnIntervals.{change-is-on-intervals}
 use Rattle.ft_interval.proofs.StandsSteps.{stands-kept}
 use Rattle.ft_interval.proofs.collections.Collections.change_local.Goals as goal

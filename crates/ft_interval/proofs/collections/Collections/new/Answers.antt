@@ -1,7 +1,7 @@
 use Rattle.std.proofs.Common.{[], List, sym, subst}
 use Rattle.ft_interval_store.specs.State.{CollectionsState}
-use Rattle.ft_interval.specs.declared.indexes.LabelIndex.{LabelIndex}
-use Rattle.ft_interval.specs.Indexes.{IndexedState, StandsOn}
+use Rattle.ft_interval_index.specs.declared.indexes.LabelIndex.{LabelIndex}
+use Rattle.ft_interval.specs.State.{IndexedState, StandsOn}
 use Rattle.ft_interval.proofs.StandsSteps.{stands-none}
 use Rattle.ft_interval.proofs.collections.Collections.new.Goals as goal
 

@@ -1,6 +1,6 @@
 use Rattle.std.proofs.Common.{sym, ap, subst}
 use Rattle.ft_interval_store.specs.State.{CollectionsState}
-use Rattle.ft_interval.specs.Indexes.{IndexedState, StandsOn}
+use Rattle.ft_interval.specs.State.{IndexedState, StandsOn}
 use Rattle.ft_interval.proofs.Effects.{three-ok}
 use Rattle.ft_interval.proofs.StandsSteps.{stands-kept}
 use Rattle.ft_interval.proofs.collections.Collections.settle_op.Goals as goal

@@ -1,5 +1,5 @@
 use Rattle.std.proofs.Common.{sym, subst}
-use Rattle.ft_interval.specs.Indexes.{IndexedState, StandsOn}
+use Rattle.ft_interval.specs.State.{IndexedState, StandsOn}
 use Rattle.ft_interval.proofs.collections.Collections.shown.Goals as goal
 
 pub shown-requires-clause-live : goal.shown-requires-clause-live

@@ -2,7 +2,7 @@ use Rattle.std.proofs.Common.{◌≡◌, ℕ, ◌+◌, ◌*◌, ◌^◌, ◌≤�
 use Rattle.std.proofs.lemmas.List.{length-map}
 use Rattle.std.proofs.lemmas.Result.{IfOk-weaker}
 use Rattle.ft_interval_store.specs.State.{placed_intervals, placed_operations}
-use Rattle.ft_interval.specs.Indexes.{index_of, list_in}
+use Rattle.ft_interval_index.specs.Indexes.{index_of, list_in}
 use Rattle.ft_msg.specs.Content.{interval_record}
 use Rattle.ft_op.specs.Stages.{shown_intervals}
 use Rattle.ft_sumdoc.specs.declared.summary.IntervalRec.{IntervalRec}
