@@ -4,10 +4,9 @@ pub mod HeldElements
 mod MadeItems
 pub mod NamedLists
 pub mod NotedAnswers
-pub mod PlacedCell
 pub mod PlacedCells
+pub mod PlacedItem
 pub mod PlacedList
 pub mod PlacedRuns
 pub mod PushedCharacter
-pub mod RisingPlace
 pub mod SettledName

@@ -301,14 +301,13 @@ settled_after-same is was ok same last (x ∷ xs) =
     ap (λ b. cond b (option_or (find ok (x ∷ xs)) last) (settled_after is ok (cond (ok x) (Some x) last) xs)) (same x)
     ∙ ap (cond (was x) (option_or (find ok (x ∷ xs)) last)) (settled_after-same is was ok same (cond (ok x) (Some x) last) xs)
 
--- what is noted for a sequenced element is where an end on it slides
-pub noted-slide : (xs : List ListElement) (table : NameTable (Option ElementId)) (x : ElementId) (v : Option ElementId)
-    → HasAnswers (λ y. option_map id (settled (has_id y) is_unremoved xs)) table → is_some (sequenced_number x) ≡ true → Some v ≡ noted_at table x
-    → v ≡ slide xs (Some x)
-noted-slide xs table (SequencedId m) v h is got =
-    h.right (SequencedId m) v (sym got)
-    ∙ ap (option_map id) (sym (settled_after-same (λ e. is_sequenced e && has_id (SequencedId m) e) (has_id (SequencedId m)) is_unremoved (is-sequenced-named m) None xs))
-noted-slide xs table (PendingId k m) v h is got = (cc)
+-- an end on a sequenced element slides as its name alone says
+pub slide-sequenced : (xs : List ListElement) (x : ElementId) → is_some (sequenced_number x) ≡ true
+    → option_map id (settled (has_id x) is_unremoved xs) ≡ slide xs (Some x)
+slide-sequenced xs (SequencedId m) is =
+    ap (option_map id)
+    (sym (settled_after-same (λ e. is_sequenced e && has_id (SequencedId m) e) (has_id (SequencedId m)) is_unremoved (is-sequenced-named m) None xs))
+slide-sequenced xs (PendingId k m) is = (cc)
 
 -- an end on a pending element slides to none
 pub slide-pending : (xs : List ListElement) (x : ElementId) → is_some (sequenced_number x) ≡ false → slide xs (Some x) ≡ None

@@ -6,5 +6,6 @@ pub mod Names
 pub mod PlacedCells
 pub mod PlacedRuns
 pub mod PlacedValues
+pub mod Places
 pub mod PropertyRuns
 pub mod Rising

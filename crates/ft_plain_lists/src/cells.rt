@@ -1,16 +1,16 @@
 //! The cells of a plain replica.
 
-ghost use Rattle.std.specs.Prelude.{◌≡◌, [], OnOk, OnErr, filter, not, position};
+ghost use Rattle.std.specs.Prelude.{◌≡◌, [], OnOk, OnErr, filter, not};
 ghost use Rattle.ft_op.specs.Cells.{is_cell, is_null, put_cell, write_cell};
+ghost use Rattle.ft_plain_lists.specs.Places.{found_place};
 
 mod building;
 mod copies;
 pub(crate) mod placed;
 mod trimming;
 
-use crate::moved::replace;
+use crate::moved::put_item;
 use crate::names::ElementName;
-use ft_base::moved::push;
 use ft_base::{Datum, OutOfMemory};
 use ft_json::ValText;
 use std::alloc::Global;
@@ -100,20 +100,8 @@ impl PlainCells {
         ensures ok { OnOk result (self.new ≡ put_cell cell self.old) }
         ensures err { OnErr result (self.new ≡ self.old) }
     {
-        match self.cell_place(cell.row, cell.col) {
-            Some(i) => {
-                replace(&mut self.items, i, cell);
-                Ok(())
-            }
-            None => push(&mut self.items, cell),
-        }
-    }
-
-    // The place of the cell of that row and column, if it is there.
-    fn cell_place(&self, row: ElementName, col: ElementName) -> Option<usize>
-        ensures { result ≡ position (is_cell row col) self.now }
-    {
-        self.items.iter().position(|cell| cell.is_at(row, col))
+        let place = cell_place(self.items.as_slice(), cell.row, cell.col);
+        put_item(&mut self.items, place, cell)
     }
 }
 
@@ -122,4 +110,16 @@ fn is_null(value: &ValText) -> bool
     ensures { result ≡ is_null value.now }
 {
     value.as_str() == "null"
+}
+
+// The place of the cell of that row and column, or else, as an error, the one behind all.
+fn cell_place(cells: &[PlainCell], row: ElementName, col: ElementName) -> Result<usize, usize>
+    ensures { result ≡ found_place (is_cell row col) cells.now }
+{
+    for (i, cell) in cells.iter().enumerate() {
+        if cell.is_at(row, col) {
+            return Ok(i);
+        }
+    }
+    Err(cells.len())
 }

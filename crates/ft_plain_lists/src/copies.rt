@@ -2,6 +2,7 @@
 
 ghost use Rattle.std.specs.Prelude.{◌≡◌, IfOk};
 
+use crate::moved::push_made;
 use ft_base::OutOfMemory;
 use std::alloc::Global;
 
@@ -18,7 +19,7 @@ pub(crate) fn copied_items<T: Copied>(alloc: Global, items: &[T]) -> Result<Vec<
 {
     let mut copies = Vec::new(alloc);
     for item in items {
-        copies.push(item.copied()?)?;
+        push_made(&mut copies, item.copied())?;
     }
     Ok(copies)
 }

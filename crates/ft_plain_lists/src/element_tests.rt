@@ -1,8 +1,8 @@
 //! Tests of elements, over which the scans of a list are generic: who sees an element, and which
 //! element is meant.
 
-ghost use Rattle.std.specs.Prelude.{◌&&◌, ◌-◌};
-ghost use Rattle.ft_props.specs.Element.{has_id, is_pending, is_sequenced, is_unremoved, seen, seen_by};
+ghost use Rattle.std.specs.Prelude.{◌-◌};
+ghost use Rattle.ft_props.specs.Element.{has_id, is_pending, is_unremoved, seen, seen_by};
 ghost use Rattle.ft_props.specs.Steps.{is_annotated_by, is_inserted_by, is_removed_by};
 
 use crate::elements::PlainElement;
@@ -33,7 +33,7 @@ impl ElementTest for Perspective {
 
 /// Whether a client sees it at this pending stage: what is sequenced, and its own stages up to this
 /// one.
-#[derive(Clone, Copy, Debug, PartialEq, Eq)]
+#[derive(Clone, Copy)]
 pub struct AtStage(pub u64);
 
 impl ElementTest for AtStage {
@@ -45,7 +45,7 @@ impl ElementTest for AtStage {
 }
 
 /// Whether a client sees it at the stage before this one.
-#[derive(Clone, Copy, Debug, PartialEq, Eq)]
+#[derive(Clone, Copy)]
 pub struct Before(pub u64);
 
 impl ElementTest for Before {
@@ -62,18 +62,6 @@ impl ElementTest for ElementName {
 
     fn passes(self, e: &PlainElement) -> bool {
         e.has_name(&self)
-    }
-}
-
-/// Whether it is the sequenced element of this name.
-#[derive(Clone, Copy)]
-pub struct Sequenced(pub ElementName);
-
-impl ElementTest for Sequenced {
-    ghost test = { λ name e. is_sequenced e && has_id name.0 e };
-
-    fn passes(self, e: &PlainElement) -> bool {
-        e.is_sequenced() && e.has_name(&self.0)
     }
 }
 

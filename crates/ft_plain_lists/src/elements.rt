@@ -1,13 +1,13 @@
 //! The elements of a plain replica.
 
-ghost use Rattle.std.specs.Prelude.{◌≡◌, [], None, IfOk, OnOk, OnErr, chars, map};
+ghost use Rattle.std.specs.Prelude.{◌≡◌, [], None, IfOk, chars, map};
 ghost use Rattle.std.specs.List.{list_any};
 ghost use Rattle.ft_base.specs.Visibility.{has_occurred, has_occurred_at_stage, is_acked};
-ghost use Rattle.ft_props.specs.Element.{has_id, id as name_of_element, is_pending, is_sequenced, is_unremoved, removal_stamp, seen, seen_by, with_annotation, with_removal};
+ghost use Rattle.ft_props.specs.Element.{has_id, id as name_of_element, is_pending, is_sequenced, is_unremoved, removal_stamp, seen, seen_by};
 ghost use Rattle.ft_props.specs.Properties.{shown_props};
 ghost use Rattle.ft_plain_lists.specs.Contents.{content_of};
 
-mod building;
+pub(crate) mod marks;
 mod pending;
 mod trimming;
 
@@ -19,7 +19,7 @@ use std::alloc::Global;
 use std::marker::Model;
 
 /// What an element is.
-#[derive(Clone, Copy, Debug, PartialEq, Eq)]
+#[derive(Clone, Copy)]
 pub enum Content {
     /// A character of the text.
     Character(char),
@@ -67,22 +67,23 @@ impl Model for PlainElement {
 }
 
 impl PlainElement {
-    /// An element that nobody has removed or changed.
+    /// An element without pending removals and changes.
     pub fn new(
         alloc: Global,
         nth: u64,
         content: Content,
         ins: Stamp,
+        dels: Stamps,
         by: Option<Stamp>,
         props: Props,
     ) -> PlainElement
-        ensures { result ≡ record { nth = nth; content = content_of content; ins = ins; dels = []; removal_stage = None; by = by; props = props; pending = [] } }
+        ensures { result ≡ record { nth = nth; content = content_of content; ins = ins; dels = dels; removal_stage = None; by = by; props = props; pending = [] } }
     {
         PlainElement {
             nth,
             content,
             ins,
-            dels: Stamps::new(alloc),
+            dels,
             removal_stage: None,
             by,
             props,
@@ -148,27 +149,6 @@ impl PlainElement {
             && !has_pending_removal_at(self.removal_stage, stage)
     }
 
-    /// Adds a removal under number `seq` by connection `conn`.
-    ///
-    /// Returns `OutOfMemory` where there is no room for it, and then nothing changed.
-    pub fn remove(&mut self, seq: u64, conn: u32) -> Result<(), OutOfMemory>
-        ensures ok { OnOk result (self.new ≡ with_removal seq conn self.old) }
-        ensures err { OnErr result (self.new ≡ self.old) }
-    {
-        self.dels.push(Stamp::Acked { seq, conn })
-    }
-
-    /// Makes the changes of its acknowledged properties.
-    ///
-    /// Returns `OutOfMemory` where there is no room for what they make, and then nothing changed.
-    pub fn annotate(&mut self, changes: &Changes) -> Result<(), OutOfMemory>
-        ensures ok { OnOk result (self.new ≡ with_annotation changes.now self.old) }
-        ensures err { OnErr result (self.new ≡ self.old) }
-    {
-        self.props = self.props.changed(changes)?;
-        Ok(())
-    }
-
     /// Its acknowledged properties with its pending changes made in order of stage.
     pub fn shown_props(&self) -> Result<Props, OutOfMemory>
         ensures { IfOk result (λ props. props ≡ shown_props self.now.props self.now.pending) }
@@ -185,30 +165,44 @@ impl PlainElement {
 fn has_any_sequenced(stamps: &[Stamp]) -> bool
     ensures { result ≡ list_any is_acked stamps.now }
 {
-    stamps
-        .iter()
-        .any(|stamp| matches!(stamp, Stamp::Acked { .. }))
+    for stamp in stamps {
+        if matches!(stamp, Stamp::Acked { .. }) {
+            return true;
+        }
+    }
+    false
 }
 
 // Whether one of the stamps has occurred for the perspective.
 fn has_any_occurred(stamps: &[Stamp], at: Perspective) -> bool
     ensures { result ≡ list_any (has_occurred at.r at.c) stamps.now }
 {
-    stamps.iter().any(|stamp| has_occurred(stamp, at))
+    for stamp in stamps {
+        if has_occurred(stamp, at) {
+            return true;
+        }
+    }
+    false
 }
 
 // Whether one of the stamps has occurred at the stage.
 fn has_any_occurred_at_stage(stamps: &[Stamp], stage: u64) -> bool
     ensures { result ≡ list_any (has_occurred_at_stage stage) stamps.now }
 {
-    stamps
-        .iter()
-        .any(|stamp| has_occurred_at_stage(stamp, stage))
+    for stamp in stamps {
+        if has_occurred_at_stage(stamp, stage) {
+            return true;
+        }
+    }
+    false
 }
 
 // Whether there is a pending removal of a stage up to this one.
 fn has_pending_removal_at(removal_stage: Option<u64>, stage: u64) -> bool
     ensures { result ≡ list_any (has_occurred_at_stage stage) (removal_stamp removal_stage) }
 {
-    removal_stage.is_some_and(|own| own <= stage)
+    match removal_stage {
+        Some(own) => own <= stage,
+        None => false,
+    }
 }

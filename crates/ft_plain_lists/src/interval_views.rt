@@ -10,11 +10,12 @@ ghost use Rattle.ft_plain_lists.specs.NameTables.{HasAnswers};
 use crate::element_tests::AtStage;
 use crate::elements::PlainElement;
 use crate::intervals::PlainInterval;
+use crate::moved::push_made;
 use crate::name_tables::{NameTable, note_ranks};
 use crate::names::ElementName;
 use crate::scans::{rank, seen_count};
 use crate::tables_of_ends::table_of_ends;
-use ft_base::OutOfMemory;
+use ft_base::{List, OutOfMemory};
 use ft_sumdoc::{Ends2, IntervalRec, IntervalRecs};
 use std::alloc::Global;
 
@@ -34,7 +35,9 @@ pub fn shown_intervals(
     let all = seen_count(items, AtStage(stage)) as u64;
     let mut ranks = table_of_ends(alloc, items, intervals, all)?;
     note_ranks(&mut ranks, items, AtStage(stage));
-    shown_by(alloc, &ranks, items, intervals, stage)
+    let shown = shown_by(alloc, &ranks, items, intervals, stage);
+    drop(ranks);
+    shown
 }
 
 // The same, by a table of the ranks of elements.
@@ -49,11 +52,11 @@ fn shown_by(
     requires ranks { HasAnswers (λ x. rank (has_id x) (seen stage) items.now) ranks.now }
     ensures { IfOk result (λ shown. shown ≡ map (interval_record stage items.now) intervals.now) }
 {
-    let mut shown = IntervalRecs::new(alloc);
+    let mut shown = Vec::new(alloc);
     for i in intervals {
-        shown.push(shown_interval(ranks, items, i, stage)?)?;
+        push_made(&mut shown, shown_interval(ranks, items, i, stage))?;
     }
-    Ok(shown)
+    Ok(List::of(shown))
 }
 
 // An interval as it is shown, by a table of the ranks of elements.

@@ -15,7 +15,7 @@ mod pending;
 
 use crate::element_tests::Unremoved;
 use crate::elements::PlainElement;
-use crate::moved::{insert_at, replace};
+use crate::moved::put_item;
 use crate::name_tables::{NameTable, note_settled};
 use crate::names::{ElementName, ElementNames};
 use crate::slides::slide_by;
@@ -59,20 +59,6 @@ impl PlainInterval {
         }
     }
 
-    /// Its label.
-    pub fn label(&self) -> &Text
-        ensures { result.now ≡ self.now.label }
-    {
-        &self.label
-    }
-
-    /// Its id.
-    pub fn id(&self) -> &Text
-        ensures { result.now ≡ self.now.id }
-    {
-        &self.id
-    }
-
     /// The element at its start, if it is attached.
     pub fn start(&self) -> Option<ElementName>
         ensures { result ≡ self.now.start }
@@ -85,13 +71,6 @@ impl PlainInterval {
         ensures { result ≡ self.now.end }
     {
         self.end
-    }
-
-    /// Its properties.
-    pub fn props(&self) -> &Props
-        ensures { result.now ≡ self.now.props }
-    {
-        &self.props
     }
 
     // Whether it is the interval of that label and id.
@@ -185,23 +164,23 @@ impl PlainIntervals {
     pub fn has(&self, label: &Text, id: &Text) -> bool
         ensures { result ≡ has_interval label.now id.now self.now }
     {
-        self.items.iter().any(|i| i.is_of(label, id))
+        for i in &self.items {
+            if i.is_of(label, id) {
+                return true;
+            }
+        }
+        false
     }
 
-    /// Puts the interval in its place, instead of the one of its label and id if there is one.
-    ///
-    /// Returns `OutOfMemory` where there is no room for it, and then nothing changed.
-    pub fn put(&mut self, interval: PlainInterval) -> Result<(), OutOfMemory>
+    // Puts the interval in its place, instead of the one of its label and id if there is one.
+    //
+    // Returns `OutOfMemory` where there is no room for it, and then nothing changed.
+    fn put(&mut self, interval: PlainInterval) -> Result<(), OutOfMemory>
         ensures ok { OnOk result (self.new ≡ put_rising interval_cmp interval self.old) }
         ensures err { OnErr result (self.new ≡ self.old) }
     {
-        match interval_place(self.items.as_slice(), &interval) {
-            Ok(i) => {
-                replace(&mut self.items, i, interval);
-                Ok(())
-            }
-            Err(i) => insert_at(&mut self.items, i, interval),
-        }
+        let place = interval_place(self.items.as_slice(), &interval);
+        put_item(&mut self.items, place, interval)
     }
 
     /// Gives the interval of that label and id, if it is there, the ends, if an operation gives some,
@@ -247,6 +226,7 @@ impl PlainIntervals {
         let mut names = NameTable::new(*self.items.allocator(), items, None)?;
         note_settled(&mut names, items, Unremoved);
         slide_all(self.items.as_mut_slice(), &names, items);
+        drop(names);
         Ok(())
     }
 }

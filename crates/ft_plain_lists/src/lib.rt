@@ -12,7 +12,6 @@ mod ends;
 mod interval_views;
 mod intervals;
 mod lists;
-mod marks;
 mod moved;
 mod name_tables;
 mod named_lists;
@@ -25,10 +24,8 @@ mod shown_grid;
 mod slides;
 mod tables_of_ends;
 
-pub use cells::{PlainCell, PlainCells};
-pub use element_tests::{
-    AnnotatedBy, AtStage, Before, ElementTest, InsertedBy, Pending, RemovedBy, Sequenced, Unremoved,
-};
+pub use cells::PlainCells;
+pub use element_tests::{AnnotatedBy, Before, ElementTest, RemovedBy};
 pub use elements::{Content, PlainElement, characters};
 pub use ends::{elements_at_ends, elements_at_given_ends, ends_fit, given_ends_fit};
 pub use interval_views::{end_number, shown_intervals};

@@ -12,8 +12,8 @@ mod pending;
 mod trimming;
 
 use crate::element_tests::{ElementTest, Pending};
+use crate::elements::marks::Removal;
 use crate::elements::{Content, PlainElement};
-use crate::marks::Removal;
 use crate::names::ElementName;
 use crate::scans::{
     insertion_place, mark_range, name_at, new_elements, pending_run, put_at, seen_count, units,
@@ -124,7 +124,7 @@ impl PlainList {
         let made = self.made_with(contents.len() as u64)?;
         check_room(self.items.len(), contents.len())?;
         let ins = Stamp::Acked { seq, conn: at.c };
-        let new = new_elements(self.alloc(), self.made, ins, by, props, contents)?;
+        let new = new_elements(self.alloc(), self.made, ins, by, props, contents);
         let place = insertion_place(self.items.as_slice(), p, at);
         let i = place + pending_run(&self.items[place..]);
         put_at(&mut self.items, i, new)?;

@@ -1,7 +1,7 @@
 //! Values that are moved without a look at what they are. So the proofs of those who move large ones take none of them apart.
 
-ghost use Rattle.std.specs.Prelude.{◌≡◌, ◌+◌, ◌<◌, ◌≤◌, ◌++◌, ◌∷◌, [], IsOkAnd, OnErr, OnOk, length, reverse, slice_set};
-ghost use Rattle.std.specs.List.{insert};
+ghost use Rattle.std.specs.Prelude.{◌≡◌, ◌+◌, ◌++◌, ◌∷◌, [], IsOkAnd, OnErr, OnOk, cond, length, reverse};
+ghost use Rattle.ft_plain_lists.specs.Places.{IsPlaceIn, put_item};
 
 use ft_base::{List, OutOfMemory};
 
@@ -20,34 +20,35 @@ pub fn push_made<T: Drop>(
     Ok(())
 }
 
-/// Puts an item in the place of another.
-pub fn replace<T: Drop>(items: &mut Vec<T>, i: usize, item: T)
-    requires { i < length items.old.items }
-    ensures { items.new.items ≡ slice_set items.old.items i item }
-{
-    items[i] = item;
-}
-
-/// Puts an item in before the one at place `i`.
+/// Puts an item at its place: over the one there, or else, for an error, in before it.
 ///
 /// Returns `OutOfMemory` where there is no room for it, and then nothing changed.
-pub fn insert_at<T: Drop>(items: &mut Vec<T>, i: usize, item: T) -> Result<(), OutOfMemory>
-    requires { i ≤ length items.old.items }
-    ensures items { OnOk result (items.new.items ≡ insert items.old.items i item) }
+pub fn put_item<T: Drop>(
+    items: &mut Vec<T>,
+    place: Result<usize, usize>,
+    item: T,
+) -> Result<(), OutOfMemory>
+    requires { IsPlaceIn place (length items.old.items) }
+    ensures items { OnOk result (items.new.items ≡ put_item place item items.old.items) }
     ensures err { OnErr result (items.new.items ≡ items.old.items) }
 {
-    items.insert(i, item)?;
+    match place {
+        Ok(i) => items[i] = item,
+        Err(i) => items.insert(i, item)?,
+    }
     Ok(())
 }
 
-/// Adds two items behind the others.
+/// Adds an item behind the others, unless it is in them.
 ///
-/// Returns `OutOfMemory` where there is no room for them, and then one may be there.
-pub fn push_both<T: Drop>(items: &mut Vec<T>, first: T, second: T) -> Result<(), OutOfMemory>
-    ensures { OnOk result (items.new.items ≡ (items.old.items ++ first ∷ []) ++ second ∷ []) }
+/// Returns `OutOfMemory` where there is no room for it.
+pub fn push_unless<T: Drop>(is_in: bool, items: &mut Vec<T>, item: T) -> Result<(), OutOfMemory>
+    ensures { OnOk result (items.new.items ≡ cond is_in items.old.items (items.old.items ++ item ∷ [])) }
 {
-    items.push(first)?;
-    items.push(second)?;
+    if is_in {
+        return Ok(());
+    }
+    items.push(item)?;
     Ok(())
 }
 

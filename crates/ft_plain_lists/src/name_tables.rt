@@ -14,6 +14,7 @@ use crate::elements::PlainElement;
 use crate::names::ElementName;
 use crate::scans::seen_count;
 use ft_base::OutOfMemory;
+use ft_base::moved::push;
 use std::alloc::Global;
 use std::collections::BTreeMap;
 
@@ -193,7 +194,7 @@ fn filled<V: Copy + Drop>(alloc: Global, value: V, count: usize) -> Result<Vec<V
 {
     let mut table = Vec::with_capacity(alloc, count)?;
     for _i in 0..count {
-        table.push(value)?;
+        push(&mut table, value)?;
     }
     Ok(table)
 }

@@ -6,7 +6,6 @@ ghost use Rattle.ft_plain_lists.specs.PlacedRuns.{with_place};
 
 use crate::element_tests::ElementTest;
 use crate::elements::PlainElement;
-use crate::moved::push_both;
 use ft_base::OutOfMemory;
 use ft_base::moved::push;
 use std::alloc::Global;
@@ -44,7 +43,8 @@ fn push_place(runs: &mut Vec<(u64, u64)>, place: u64) -> Result<(), OutOfMemory>
     if end == place {
         return push(runs, (start, place + 1));
     }
-    push_both(runs, (start, end), (place, place + 1))
+    push(runs, (start, end))?;
+    push(runs, (place, place + 1))
 }
 
 /// The runs, each lowered by the lengths of those before it, as after their removal.
@@ -56,7 +56,8 @@ pub fn lowered_runs(alloc: Global, runs: &[(u64, u64)]) -> Result<Vec<(u64, u64)
     let mut lowered = Vec::new(alloc);
     let mut removed: u64 = 0;
     for (start, end) in runs {
-        lowered.push((start.saturating_sub(removed), end.saturating_sub(removed)))?;
+        let run = (start.saturating_sub(removed), end.saturating_sub(removed));
+        push(&mut lowered, run)?;
         let length = end.saturating_sub(*start);
         removed = removed.checked_add(length).ok_or(OutOfMemory)?;
     }

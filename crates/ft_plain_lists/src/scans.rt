@@ -1,27 +1,32 @@
 //! Scans of a list of elements: how many are seen, where an insertion goes, and which elements a mark
 //! is for.
 
-ghost use Rattle.std.specs.Prelude.{◌≡◌, ◌≤◌, ◌+◌, ◌<◌, ◌^◌, ◌++◌, [], ◌∷◌, None, IfOk, OnOk, OnErr, length, map, option_map, replicate, take, drop};
+ghost use Rattle.std.specs.Prelude.{◌≡◌, ◌≤◌, ◌+◌, ◌<◌, ◌^◌, ◌++◌, [], ◌∷◌, None, IfOk, IsOkAnd, OnOk, OnErr, length, map, option_map, replicate, take, drop};
 ghost use Rattle.std.specs.List.{prefix_len};
 ghost use Rattle.ft_base.specs.Scan.{at as seen_at, change_range, len, place, rank};
 ghost use Rattle.ft_props.specs.Element.{GridUnit, id, is_pending, new_elements};
 ghost use Rattle.ft_plain_lists.specs.Contents.{content_of};
 
 use crate::element_tests::ElementTest;
+use crate::elements::marks::ElementMark;
 use crate::elements::{Content, PlainElement};
-use crate::marks::ElementMark;
 use crate::names::ElementName;
 use ft_base::moved::push;
-use ft_base::{Datum, OutOfMemory, Stamp};
+use ft_base::{Datum, OutOfMemory, Stamp, Stamps};
 use ft_props::Props;
 use std::alloc::Global;
 
 /// How many elements are seen.
-#[tactic(auto, using(ft_base::proofs::PlainList::seen_counts))]
 pub fn seen_count<T: ElementTest>(items: &[PlainElement], seen: T) -> usize
     ensures { result ≡ len (T.test seen) items.now }
 {
-    items.iter().filter(|e| seen.passes(e)).count()
+    let mut count = 0;
+    for e in items {
+        if seen.passes(e) {
+            count += 1;
+        }
+    }
+    count
 }
 
 /// The number of elements up to the `p`-th that is seen: 0 for `p` = 0, and all where fewer are seen.
@@ -106,19 +111,25 @@ fn push_new(
     ensures { OnOk result (elements.new.items ≡ elements.old.items ++ record { nth = nth; content = content_of content; ins = ins; dels = []; removal_stage = None; by = by; props = props.now; pending = [] } ∷ []) }
 {
     let props = props.copy()?;
-    let e = PlainElement::new(*elements.allocator(), nth, content, ins, by, props);
+    let alloc = *elements.allocator();
+    let e = PlainElement::new(alloc, nth, content, ins, Stamps::new(alloc), by, props);
     push(elements, e)
 }
 
-/// Puts the new elements in at place `i`.
+/// Puts the new elements in at place `i`, if they were made.
 ///
-/// Returns `OutOfMemory` where there is no room for them, and then the list is as it was.
-pub fn put_at<T: Drop>(items: &mut Vec<T>, i: usize, mut new: Vec<T>) -> Result<(), OutOfMemory>
+/// Returns `OutOfMemory` where they weren't or there is no room for them, and then the list is as it was.
+pub fn put_at<T: Drop>(
+    items: &mut Vec<T>,
+    i: usize,
+    new: Result<Vec<T>, OutOfMemory>,
+) -> Result<(), OutOfMemory>
     requires { i ≤ length items.old.items }
-    ensures ok { OnOk result (items.new.items ≡ take i items.old.items ++ (new.items ++ drop i items.old.items)) }
-    ensures count { OnOk result (length items.new.items ≡ length items.old.items + length new.items) }
+    ensures ok { OnOk result (IsOkAnd new (λ v. items.new.items ≡ take i items.old.items ++ (v.items ++ drop i items.old.items))) }
+    ensures count { OnOk result (IsOkAnd new (λ v. length items.new.items ≡ length items.old.items + length v.items)) }
     ensures err { OnErr result (items.new.items ≡ items.old.items) }
 {
+    let mut new = new?;
     let count = new.len();
     items.append(&mut new)?;
     items[i..].rotate_right(count);

@@ -3,10 +3,10 @@
 ghost use Rattle.std.specs.Prelude.{◌≡◌, ◌+◌, ◌<◌, ◌^◌, ◌++◌, [], IfOk, OnOk, chars, reverse, string_bytes};
 ghost use Rattle.ft_msg.specs.Content.{content_characters, content_markers, extended_property_runs, markers_from, property_runs_from, stage_view, text_characters};
 ghost use Rattle.ft_plain_lists.specs.Contents.{content_of};
-ghost use Rattle.ft_plain_lists.specs.PropertyRuns.{all_shown_props, runs_before};
+ghost use Rattle.ft_plain_lists.specs.PropertyRuns.{Extends, all_shown_props, runs_before};
 
 use crate::elements::{Content, PlainElement};
-use crate::moved::{push_both, turned};
+use crate::moved::{push_unless, turned};
 use ft_base::moved::push;
 use ft_base::{Datum, OutOfMemory, Text};
 use ft_msg::{Run, Runs, Spot, Spots};
@@ -104,16 +104,30 @@ fn extend_runs(runs: &mut Vec<Run>, place: u64, props: Props) -> Result<(), OutO
     requires { place + 1 < 2 ^ 64 }
     ensures { OnOk result (reverse runs.new.items ≡ extended_property_runs place props (reverse runs.old.items)) }
 {
+    let is_in = join_first(runs, place, &props);
+    push_unless(is_in, runs, one_run(place, props))
+}
+
+// Begins the first of these runs at this place, if the element with these properties there goes on with it. Returns
+// whether it needs no run of its own: so it is too where it has no properties.
+fn join_first(runs: &mut Vec<Run>, place: u64, props: &Props) -> bool
+    requires { place + 1 < 2 ^ 64 }
+    ensures { Extends place props.now runs.old.items runs.new.items result }
+{
     if props.is_empty() {
-        return Ok(());
+        return true;
     }
-    let Some(first) = runs.pop() else {
-        return push(runs, one_run(place, props));
+    let Some(first) = runs.last_mut() else {
+        return false;
     };
-    if first.start == place + 1 && first.props.same(&props) {
-        return push(runs, begun_at(first, place));
+    if first.start != place + 1 {
+        return false;
     }
-    push_both(runs, first, one_run(place, props))
+    if !first.props.same(props) {
+        return false;
+    }
+    first.start = place;
+    true
 }
 
 // The run of the one element at this place.
@@ -125,16 +139,5 @@ fn one_run(place: u64, props: Props) -> Run
         start: place,
         end: place + 1,
         props,
-    }
-}
-
-// The run, begun at this place.
-fn begun_at(run: Run, place: u64) -> Run
-    ensures { result ≡ record run { start = place } }
-{
-    Run {
-        start: place,
-        end: run.end,
-        props: run.props,
     }
 }

@@ -7,7 +7,10 @@ ghost use Rattle.ft_plain_lists.specs.PlacedValues.{placed_value};
 
 use crate::cells::PlainCells;
 use crate::cells::placed::PlacedValue;
+use crate::element_tests::AtStage;
 use crate::elements::PlainElement;
+use crate::scans::seen_count;
+use ft_base::moved::after;
 use ft_base::{Datum, OutOfMemory};
 use ft_sumdoc::{CellRec, CellRecs};
 use std::alloc::Global;
@@ -16,7 +19,7 @@ use std::alloc::Global;
 pub fn shown_count(items: &[PlainElement], stage: u64) -> usize
     ensures { result ≡ length (stage_view stage items.now) }
 {
-    items.iter().filter(|e| e.is_seen_at(stage)).count()
+    seen_count(items, AtStage(stage))
 }
 
 /// The cells of the rows and columns that a client sees at its pending stage, where nothing is pending
@@ -30,16 +33,31 @@ pub fn shown_cells(
 ) -> Result<CellRecs, OutOfMemory>
     ensures { IfOk result (λ shown. shown ≡ all_cells cells.now [] (stage_view stage cols.now) 0 (stage_view stage rows.now)) }
 {
-    let placed = cells.placed(cols, stage)?;
     let mut shown = CellRecs::new(alloc);
+    let done = push_rows(&mut shown, cells, rows, cols, stage);
+    after(done, shown)
+}
+
+// Adds these cells, where none are there yet.
+fn push_rows(
+    shown: &mut CellRecs,
+    cells: &PlainCells,
+    rows: &[PlainElement],
+    cols: &[PlainElement],
+    stage: u64,
+) -> Result<(), OutOfMemory>
+    requires { shown.old ≡ [] }
+    ensures { OnOk result (shown.new ≡ all_cells cells.now [] (stage_view stage cols.now) 0 (stage_view stage rows.now)) }
+{
+    let placed = cells.placed(cols, stage)?;
     let mut place: u64 = 0;
     for row in rows {
         if row.is_seen_at(stage) {
-            push_row(&mut shown, place, placed.of(row.name()))?;
+            push_row(shown, place, placed.of(row.name()))?;
             place += 1;
         }
     }
-    Ok(shown)
+    Ok(())
 }
 
 // Adds the values of the row, of those at one place the first.

@@ -6,18 +6,10 @@ ghost use Rattle.ft_props.specs.Element.{has_id, id, is_unremoved, seen};
 ghost use Rattle.ft_props.specs.Slide.{settle, slide};
 ghost use Rattle.ft_plain_lists.specs.NameTables.{HasAnswers};
 
-use crate::element_tests::{AtStage, ElementTest, Sequenced, Unremoved};
+use crate::element_tests::{AtStage, ElementTest, Unremoved};
 use crate::elements::PlainElement;
 use crate::name_tables::NameTable;
 use crate::names::ElementName;
-
-/// The element of the end if no removal of it is sequenced, else the next one of which none is,
-/// else the last one before it, else none.
-pub fn slide(items: &[PlainElement], end: Option<ElementName>) -> Option<ElementName>
-    ensures { result ≡ slide items.now end }
-{
-    settled(items, Sequenced(end?), Unremoved)
-}
 
 /// The element of the end if a client sees it at its pending stage, else the next one that it sees,
 /// else the last one before it, else none.
@@ -27,7 +19,24 @@ pub fn settle(items: &[PlainElement], stage: u64, end: Option<ElementName>) -> O
     settled(items, end?, AtStage(stage))
 }
 
-/// The same as `slide`, by a table of where the ends go that are on sequenced elements.
+/// The same, by a table of where the ends go.
+pub fn settle_by(
+    names: &NameTable<Option<ElementName>>,
+    items: &[PlainElement],
+    stage: u64,
+    end: Option<ElementName>,
+) -> Option<ElementName>
+    requires { HasAnswers (λ x. option_map id (settled (has_id x) (seen stage) items.now)) names.now }
+    ensures { result ≡ settle items.now stage end }
+{
+    match end {
+        Some(name) => noted(names, items, name, AtStage(stage)),
+        None => None,
+    }
+}
+
+/// The element of the end if no removal of it is sequenced, else the next one of which none is,
+/// else the last one before it, else none: by a table of where the ends go that are on sequenced elements.
 pub fn slide_by(
     names: &NameTable<Option<ElementName>>,
     items: &[PlainElement],
@@ -42,7 +51,7 @@ pub fn slide_by(
     }
 }
 
-// Where an end on the element of that name slides, by the same table.
+// Where an end on the element of that name slides, by the same table: one on a pending element to none.
 fn noted_slide(
     names: &NameTable<Option<ElementName>>,
     items: &[PlainElement],
@@ -51,45 +60,25 @@ fn noted_slide(
     requires { HasAnswers (λ x. option_map id (settled (has_id x) is_unremoved items.now)) names.now }
     ensures { result ≡ slide items.now (Some name) }
 {
-    // An end on a pending element slides to none.
     if name.sequenced_number().is_none() {
         return None;
     }
-    match names.at(name) {
-        Some(to) => to,
-        None => slide(items, Some(name)),
-    }
+    noted(names, items, name, Unremoved)
 }
 
-/// The same as `settle`, by a table of where the ends go.
-pub fn settle_by(
+// Where an end on the element of that name goes, by a table of that.
+fn noted<T: ElementTest>(
     names: &NameTable<Option<ElementName>>,
     items: &[PlainElement],
-    stage: u64,
-    end: Option<ElementName>,
-) -> Option<ElementName>
-    requires { HasAnswers (λ x. option_map id (settled (has_id x) (seen stage) items.now)) names.now }
-    ensures { result ≡ settle items.now stage end }
-{
-    match end {
-        Some(name) => noted_settle(names, items, stage, name),
-        None => None,
-    }
-}
-
-// Where an end on the element of that name settles, by the same table.
-fn noted_settle(
-    names: &NameTable<Option<ElementName>>,
-    items: &[PlainElement],
-    stage: u64,
     name: ElementName,
+    seen: T,
 ) -> Option<ElementName>
-    requires { HasAnswers (λ x. option_map id (settled (has_id x) (seen stage) items.now)) names.now }
-    ensures { result ≡ settle items.now stage (Some name) }
+    requires { HasAnswers (λ x. option_map id (settled (has_id x) (T.test seen) items.now)) names.now }
+    ensures { result ≡ option_map id (settled (has_id name) (T.test seen) items.now) }
 {
     match names.at(name) {
         Some(to) => to,
-        None => settle(items, stage, Some(name)),
+        None => settled(items, name, seen),
     }
 }
 

@@ -1,6 +1,6 @@
 //! Where the cells stand among the shown rows and columns.
 
-ghost use Rattle.std.specs.Prelude.{◌≡◌, ◌++◌, IfOk, OnOk, filter, map};
+ghost use Rattle.std.specs.Prelude.{◌≡◌, ◌++◌, [], IfOk, OnOk, filter, map};
 ghost use Rattle.ft_props.specs.Element.{ElementId, same_id};
 ghost use Rattle.ft_msg.specs.Content.{stage_view};
 ghost use Rattle.ft_plain_lists.specs.NamedLists.{listed};
@@ -12,6 +12,7 @@ use crate::elements::PlainElement;
 use crate::named_lists::NamedLists;
 use crate::names::ElementName;
 use ft_base::OutOfMemory;
+use ft_base::moved::after;
 use ft_json::ValText;
 use std::alloc::Global;
 
@@ -58,14 +59,31 @@ impl PlainCells {
         let alloc = *self.items.allocator();
         let columns = by_column(alloc, self.items.as_slice())?;
         let mut rows = NamedLists::new(alloc);
+        let done = self.place_columns(&mut rows, &columns, cols, stage);
+        drop(columns);
+        after(done, rows)
+    }
+
+    // Adds the cells of the shown columns to their rows, where `columns` are these cells by column.
+    fn place_columns<'a>(
+        &self,
+        rows: &mut NamedLists<PlacedValue<'a>>,
+        columns: &NamedLists<&'a PlainCell>,
+        cols: &[PlainElement],
+        stage: u64,
+    ) -> Result<(), OutOfMemory>
+        requires rows { (x : ElementId) → listed x rows.old.lists ≡ [] }
+        requires columns { (x : ElementId) → map cell_behind (listed x columns.now.lists) ≡ filter (λ cell. same_id x cell.col) self.now }
+        ensures { OnOk result ((x : ElementId) → map placed_value (listed x rows.new.lists) ≡ placed_cells self.now x 0 (stage_view stage cols.now)) }
+    {
         let mut place: u64 = 0;
         for col in cols {
             if col.is_seen_at(stage) {
-                place_column(&mut rows, place, columns.of(col.name()))?;
+                place_column(rows, place, columns.of(col.name()))?;
                 place += 1;
             }
         }
-        Ok(rows)
+        Ok(())
     }
 }
 

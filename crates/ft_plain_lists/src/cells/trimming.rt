@@ -1,6 +1,6 @@
 //! Cells as a summary has them.
 
-ghost use Rattle.std.specs.Prelude.{◌≡◌, ◌&&◌, IfOk, filter, not};
+ghost use Rattle.std.specs.Prelude.{◌≡◌, ◌&&◌, ◌++◌, IfOk, OnOk, filter, not};
 ghost use Rattle.ft_props.specs.Element.{has_sequenced_removal};
 ghost use Rattle.ft_op.specs.Cells.{is_null};
 ghost use Rattle.ft_plain_lists.specs.NameTables.{HasAnswers};
@@ -11,7 +11,7 @@ use crate::elements::PlainElement;
 use crate::name_tables::{NameTable, note_removals};
 use crate::names::ElementName;
 use ft_base::OutOfMemory;
-use ft_base::moved::push;
+use ft_base::moved::{after, both, push};
 use std::alloc::Global;
 
 impl PlainCells {
@@ -24,16 +24,36 @@ impl PlainCells {
         ensures { IfOk result (λ kept. kept ≡ filter (λ c. not (is_null c.value) && not (has_sequenced_removal rows.now c.row) && not (has_sequenced_removal cols.now c.col)) self.now) }
     {
         let alloc = *self.items.allocator();
-        let gone_rows = removals(alloc, rows)?;
-        let gone_cols = removals(alloc, cols)?;
+        let (gone_rows, gone_cols) = both(removals(alloc, rows), removals(alloc, cols))?;
         let mut items = Vec::new(alloc);
-        for cell in &self.items {
-            if cell.is_kept(rows, &gone_rows, cols, &gone_cols) {
-                push(&mut items, cell.copied()?)?;
-            }
-        }
-        Ok(PlainCells { items })
+        let cells = self.items.as_slice();
+        let done = push_kept(&mut items, cells, rows, &gone_rows, cols, &gone_cols);
+        drop(gone_rows);
+        drop(gone_cols);
+        after(done, PlainCells { items })
     }
+}
+
+// Adds copies of the cells whose value isn't null and whose row and column aren't removed, by the same tables
+// as `is_kept`.
+fn push_kept(
+    items: &mut Vec<PlainCell>,
+    cells: &[PlainCell],
+    rows: &[PlainElement],
+    gone_rows: &NameTable<bool>,
+    cols: &[PlainElement],
+    gone_cols: &NameTable<bool>,
+) -> Result<(), OutOfMemory>
+    requires rows { HasAnswers (has_sequenced_removal rows.now) gone_rows.now }
+    requires cols { HasAnswers (has_sequenced_removal cols.now) gone_cols.now }
+    ensures { OnOk result (items.new.items ≡ items.old.items ++ filter (λ c. not (is_null c.value) && not (has_sequenced_removal rows.now c.row) && not (has_sequenced_removal cols.now c.col)) cells.now) }
+{
+    for cell in cells {
+        if cell.is_kept(rows, gone_rows, cols, gone_cols) {
+            push(items, cell.copied()?)?;
+        }
+    }
+    Ok(())
 }
 
 impl PlainCell {
@@ -79,5 +99,10 @@ fn is_gone(items: &[PlainElement], gone: &NameTable<bool>, name: ElementName) ->
 fn is_removed(items: &[PlainElement], name: ElementName) -> bool
     ensures { result ≡ has_sequenced_removal items.now name }
 {
-    items.iter().any(|e| e.has_name(&name) && e.is_removed())
+    for e in items {
+        if e.has_name(&name) && e.is_removed() {
+            return true;
+        }
+    }
+    false
 }

@@ -3,7 +3,6 @@
 ghost use Rattle.std.specs.Prelude.{◌≡◌, ◌+◌, ◌++◌, [], ◌∷◌, IfOk, OnOk, OnErr, cond, filter, nat_eq, not};
 ghost use Rattle.std.specs.List.{list_any};
 ghost use Rattle.ft_base.specs.Visibility.{is_acked, is_of_stage};
-ghost use Rattle.ft_props.specs.Element.{with_pending_annotation, with_pending_removal, without_pending};
 ghost use Rattle.ft_props.specs.Steps.{acked_element, acked_props, acked_removal, acked_stamp, author};
 ghost use Rattle.ft_props.specs.Steps.{carried_element, is_annotated_by, is_inserted_by, is_removed_by, remaining_removal};
 ghost use Rattle.ft_plain_lists.specs.Contents.{content_of};
@@ -16,23 +15,6 @@ use ft_props::{Changes, Props};
 use std::alloc::Global;
 
 impl PlainElement {
-    /// Marks it as removed by the pending stage.
-    pub fn remove_at_stage(&mut self, stage: u64)
-        ensures { self.new ≡ with_pending_removal stage self.old }
-    {
-        self.removal_stage = Some(stage);
-    }
-
-    /// Adds changes of the pending stage.
-    ///
-    /// Returns `OutOfMemory` where there is no room for them, and then nothing changed.
-    pub fn annotate_at_stage(&mut self, stage: u64, changes: &Changes) -> Result<(), OutOfMemory>
-        ensures ok { OnOk result (self.new ≡ with_pending_annotation stage changes.now self.old) }
-        ensures err { OnErr result (self.new ≡ self.old) }
-    {
-        push_changes(&mut self.pending, stage, changes)
-    }
-
     /// Whether the pending stage inserted it.
     pub fn is_inserted_by(&self, stage: u64) -> bool
         ensures { result ≡ is_inserted_by stage self.now }
@@ -47,14 +29,22 @@ impl PlainElement {
     pub fn is_removed_by(&self, stage: u64) -> bool
         ensures { result ≡ is_removed_by stage self.now }
     {
-        self.removal_stage.is_some_and(|own| own == stage)
+        match self.removal_stage {
+            Some(own) => own == stage,
+            None => false,
+        }
     }
 
     /// Whether the pending stage has changes of it.
     pub fn is_annotated_by(&self, stage: u64) -> bool
         ensures { result ≡ is_annotated_by stage self.now }
     {
-        self.pending.iter().any(|(own, _)| *own == stage)
+        for (own, _) in &self.pending {
+            if *own == stage {
+                return true;
+            }
+        }
+        false
     }
 
     /// Whether a removal of it is sequenced.
@@ -64,20 +54,13 @@ impl PlainElement {
         has_any_sequenced(self.dels.as_slice())
     }
 
-    /// Takes its pending removal and its pending changes away.
-    pub fn forget_pending(&mut self)
-        ensures { self.new ≡ without_pending self.old }
-    {
-        self.removal_stage = None;
-        self.pending.clear();
-    }
-
-    /// Takes what is pending on it away, if a removal of it is sequenced.
+    /// Takes its pending removal and its pending changes away, if a removal of it is sequenced.
     pub fn carry(&mut self)
         ensures { self.new ≡ carried_element self.old }
     {
         if self.is_removed() {
-            self.forget_pending();
+            self.removal_stage = None;
+            self.pending.clear();
         }
     }
 
@@ -177,9 +160,9 @@ impl PlainElement {
         Ok(props)
     }
 
-    /// An equal element.
-    pub fn copy(&self) -> Result<PlainElement, OutOfMemory>
-        ensures { IfOk result (λ copy. copy ≡ self.now) }
+    /// An equal element, but with this insertion.
+    pub(super) fn copy_with(&self, ins: Stamp) -> Result<PlainElement, OutOfMemory>
+        ensures { IfOk result (λ copy. copy ≡ record self.now { ins = ins }) }
     {
         let changes = copied_changes(*self.pending.allocator(), self.pending.as_slice());
         let kept = both(self.dels.copy(), self.props.copy());
@@ -187,7 +170,7 @@ impl PlainElement {
         Ok(PlainElement {
             nth: self.nth,
             content: self.content,
-            ins: self.ins,
+            ins,
             dels,
             removal_stage: self.removal_stage,
             by: self.by,
@@ -199,7 +182,7 @@ impl PlainElement {
 
 impl Copied for PlainElement {
     fn copied(&self) -> Result<PlainElement, OutOfMemory> {
-        self.copy()
+        self.copy_with(self.ins)
     }
 }
 
@@ -220,7 +203,7 @@ fn copied_changes(
 // Adds changes of the pending stage behind the others.
 //
 // Returns `OutOfMemory` where there is no room for them, and then nothing changed.
-fn push_changes(
+pub(super) fn push_changes(
     pending: &mut Vec<(u64, Changes)>,
     stage: u64,
     changes: &Changes,

@@ -1,6 +1,7 @@
 //! What a summary writes of an element, and what it keeps of one.
 
-ghost use Rattle.std.specs.Prelude.{◌≡◌, IfOk};
+ghost use Rattle.std.specs.Prelude.{◌≡◌, IfOk, cond};
+ghost use Rattle.ft_base.specs.declared.stamps.Stamp.TheVariants.{Acked};
 ghost use Rattle.ft_props.specs.Compaction.{has_collectable_removal, is_collectable, is_insertion_at_or_below, trim_element};
 
 use crate::elements::PlainElement;
@@ -48,12 +49,18 @@ impl PlainElement {
     pub fn trimmed(&self, min: u64) -> Result<PlainElement, OutOfMemory>
         ensures { IfOk result (λ e. e ≡ trim_element min self.now) }
     {
-        let mut e = self.copy()?;
-        if is_at_or_below(&self.ins, min) {
-            e.ins = Stamp::Acked { seq: 0, conn: 0 };
-        }
-        Ok(e)
+        self.copy_with(trimmed_insertion(self.ins, min))
     }
+}
+
+// The insertion, or the universal one in place of one at or below the minimum.
+fn trimmed_insertion(ins: Stamp, min: u64) -> Stamp
+    ensures { result ≡ cond (is_insertion_at_or_below min ins) (Acked 0 0) ins }
+{
+    if is_at_or_below(&ins, min) {
+        return Stamp::Acked { seq: 0, conn: 0 };
+    }
+    ins
 }
 
 // Whether the first removal is at or below the minimum.

@@ -24,15 +24,6 @@ use std::alloc::Global;
 
 impl Copied for PlainInterval {
     fn copied(&self) -> Result<PlainInterval, OutOfMemory> {
-        self.copy()
-    }
-}
-
-impl PlainInterval {
-    /// An equal interval.
-    pub fn copy(&self) -> Result<PlainInterval, OutOfMemory>
-        ensures { IfOk result (λ copy. copy ≡ self.now) }
-    {
         let ((label, id), props) = self.copied_parts()?;
         Ok(PlainInterval {
             label,
@@ -42,7 +33,9 @@ impl PlainInterval {
             props,
         })
     }
+}
 
+impl PlainInterval {
     /// Copies of its label, its id and its properties.
     pub(crate) fn copied_parts(&self) -> Result<((Text, Text), Props), OutOfMemory>
         ensures label { IfOk result (λ parts. parts.0.0 ≡ self.now.label) }
@@ -86,6 +79,7 @@ impl PlainIntervals {
         let mut names = table_of_ends(alloc, items, self.items.as_slice(), None)?;
         note_settled(&mut names, items, AtStage(stage));
         settle_all(self.items.as_mut_slice(), &names, items, stage);
+        drop(names);
         Ok(())
     }
 

@@ -72,6 +72,5 @@ fn removed_element(
     ensures { IfOk result (λ e. e ≡ record { nth = nth; content = content_of content; ins = ins; dels = dels.now; removal_stage = None; by = by; props = props.now; pending = [] }) }
 {
     let (dels, props) = both(dels.copy(), props.copy())?;
-    let e = PlainElement::new(alloc, nth, content, ins, by, props);
-    Ok(e.with_removals(dels))
+    Ok(PlainElement::new(alloc, nth, content, ins, dels, by, props))
 }

@@ -1,19 +1,19 @@
 //! What a client's own edits make of a list, and what their acknowledgement and a reconnection do.
 
-ghost use Rattle.std.specs.Prelude.{◌≡◌, ◌+◌, [], IfOk, OnOk, OnErr, filter, length, map, replicate};
+ghost use Rattle.std.specs.Prelude.{◌≡◌, ◌+◌, ◌<◌, ◌^◌, [], IfOk, IsOkAnd, OnOk, OnErr, filter, length, map, replicate};
 ghost use Rattle.ft_base.specs.Scan.{no_run, put, retain_map};
 ghost use Rattle.ft_props.specs.Element.{GridUnit, is_sequenced, seen, with_pending_annotation, with_pending_removal};
 ghost use Rattle.ft_props.specs.Steps.{acked_element, acked_list, after_local_insertion, after_local_mark, carried_element};
 ghost use Rattle.ft_props.specs.Steps.{is_inserted_by, put_stage, put_stages, rebuilt_list, stage_position};
 ghost use Rattle.ft_plain_lists.specs.Contents.{content_of};
 
-use crate::copies::copied_items;
+use crate::copies::{Copied, copied_items};
 use crate::element_tests::{Before, ElementTest, InsertedBy};
+use crate::elements::marks::{PendingChanges, PendingRemoval};
 use crate::elements::{Content, PlainElement};
 use crate::lists::{PlainList, check_room};
-use crate::marks::{PendingChanges, PendingRemoval};
 use crate::scans::{insertion_place, mark_range, new_elements, put_at, rank, units};
-use ft_base::moved::push;
+use ft_base::moved::{after, fill, push};
 use ft_base::{OutOfMemory, Stamp};
 use ft_props::{Changes, Props};
 use std::alloc::Global;
@@ -47,7 +47,7 @@ impl PlainList {
     {
         check_room(self.items.len(), contents.len())?;
         let ins = Stamp::Local { stage };
-        let new = new_elements(self.alloc(), 0, ins, None, props, contents)?;
+        let new = new_elements(self.alloc(), 0, ins, None, props, contents);
         put_behind(&mut self.items, p, Before(stage), new)
     }
 
@@ -120,25 +120,38 @@ impl PlainList {
         ensures ok { OnOk result (self.new ≡ rebuilt_list stages.now self.old) }
         ensures err { OnErr result (self.new ≡ self.old) }
     {
-        let mut items = carried_elements(self.alloc(), self.items.as_slice())?;
-        put_stages(self.items.as_slice(), &mut items, stages)?;
-        check_room(0, items.len())?;
-        self.items = items;
-        Ok(())
+        let rebuilt = rebuilt_elements(self.alloc(), self.items.as_slice(), stages);
+        fill(&mut self.items, rebuilt)
     }
 }
 
-// Puts the new elements in directly behind the `p`-th one that is seen.
+// The elements, with those of each of these pending stages put in afresh.
 //
-// Returns `OutOfMemory` where there is no room for them, and then the list is as it was.
+// Returns `OutOfMemory` where there is no room for them or they would be more than 2^53 - 1.
+fn rebuilt_elements(
+    alloc: Global,
+    items: &[PlainElement],
+    stages: &[u64],
+) -> Result<Vec<PlainElement>, OutOfMemory>
+    ensures items { IfOk result (λ v. v.items ≡ put_stages items.now (retain_map is_sequenced carried_element items.now) stages.now) }
+    ensures countable { IfOk result (λ v. length v.items < 2 ^ 53) }
+{
+    let mut rebuilt = carried_elements(alloc, items)?;
+    let done = put_stages(items, &mut rebuilt, stages);
+    after(done, rebuilt)
+}
+
+// Puts the new elements in directly behind the `p`-th one that is seen, if they were made.
+//
+// Returns `OutOfMemory` where they weren't or there is no room for them, and then the list is as it was.
 fn put_behind<T: ElementTest>(
     items: &mut Vec<PlainElement>,
     p: u64,
     seen: T,
-    new: Vec<PlainElement>,
+    new: Result<Vec<PlainElement>, OutOfMemory>,
 ) -> Result<(), OutOfMemory>
-    ensures ok { OnOk result (items.new.items ≡ put (T.test seen) no_run p new.items items.old.items) }
-    ensures count { OnOk result (length items.new.items ≡ length items.old.items + length new.items) }
+    ensures ok { OnOk result (IsOkAnd new (λ v. items.new.items ≡ put (T.test seen) no_run p v.items items.old.items)) }
+    ensures count { OnOk result (IsOkAnd new (λ v. length items.new.items ≡ length items.old.items + length v.items)) }
     ensures err { OnErr result (items.new.items ≡ items.old.items) }
 {
     let place = insertion_place(items.as_slice(), p, seen);
@@ -180,25 +193,27 @@ fn carried_elements(alloc: Global, items: &[PlainElement]) -> Result<Vec<PlainEl
 fn carried_element(e: &PlainElement) -> Result<PlainElement, OutOfMemory>
     ensures { IfOk result (λ carried. carried ≡ carried_element e.now) }
 {
-    let mut carried = e.copy()?;
+    let mut carried = e.copied()?;
     carried.carry();
     Ok(carried)
 }
 
 // Puts into `rebuilt` the elements that each of the stages has in `items`.
 //
-// Returns `OutOfMemory` where there is no room for them, and then those of some stages may be there.
+// Returns `OutOfMemory` where there is no room for them or the list would have more than 2^53 - 1 elements, and then
+// those of some stages may be there.
 fn put_stages(
     items: &[PlainElement],
     rebuilt: &mut Vec<PlainElement>,
     stages: &[u64],
 ) -> Result<(), OutOfMemory>
-    ensures { OnOk result (rebuilt.new.items ≡ put_stages items.now rebuilt.old.items stages.now) }
+    ensures items { OnOk result (rebuilt.new.items ≡ put_stages items.now rebuilt.old.items stages.now) }
+    ensures countable { OnOk result (length rebuilt.new.items < 2 ^ 53) }
 {
     for stage in stages {
         put_stage(items, rebuilt, *stage)?;
     }
-    Ok(())
+    check_room(0, rebuilt.len())
 }
 
 // Puts into `rebuilt` the elements that the stage has in `items`, after as many elements of the stage
@@ -212,7 +227,7 @@ fn put_stage(
 ) -> Result<(), OutOfMemory>
     ensures { OnOk result (rebuilt.new.items ≡ put_stage items.now rebuilt.old.items stage) }
 {
-    let new = elements_of_stage(*rebuilt.allocator(), items, stage)?;
+    let new = elements_of_stage(*rebuilt.allocator(), items, stage);
     let place = stage_position(items, stage);
     put_behind(rebuilt, place, Before(stage), new)
 }
@@ -235,7 +250,7 @@ fn elements_of_stage(
     let mut found = Vec::new(alloc);
     for e in items {
         if e.is_inserted_by(stage) {
-            push(&mut found, e.copy()?)?;
+            push(&mut found, e.copied()?)?;
         }
     }
     Ok(found)

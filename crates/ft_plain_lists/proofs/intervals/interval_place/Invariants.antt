@@ -1,7 +1,7 @@
 use Rattle.std.proofs.Common.{◌≡◌, drop}
 use Rattle.ft_op.specs.Intervals.{interval_cmp}
 use Rattle.ft_plain_lists.specs.Rising.{rising_place}
-use Rattle.ft_plain_lists.proofs.RisingPlace.{place_from}
+use Rattle.ft_plain_lists.proofs.PlacedItem.{place_from}
 use Rattle.ft_plain_lists.proofs.intervals.interval_place.Given as goal
 
 -- the place in all is as many places on as were passed

@@ -5,4 +5,5 @@ use Rattle.ft_plain_lists.proofs.scans.push_new.Goals as goal
 pub returns : goal.returns
 returns c =
     let old = c.args.elements.now.items in
-    on_ok_weaker c.push.result (λ made. rw (← c.in_ok-props.ensures) (made ∙ ap (λ e. old ++ (e ∷ [])) c.new-e.ensures)) c.push.ensures.items
+    let e = rw c.new.ensures at c.new-e.ensures in
+    on_ok_weaker c.push.result (λ made. rw (← c.in_ok-props.ensures) (made ∙ ap (λ e. old ++ (e ∷ [])) e)) c.push.ensures.items

@@ -1,20 +1,24 @@
-use Rattle.std.proofs.Common.{◌∙◌, ap, sym}
+use Rattle.std.proofs.Common.{◌∙◌, ap, length, subst, sym}
 use Rattle.std.proofs.lemmas.Result.{on_ok_weaker}
-use Rattle.std.specs.List.{position}
-use Rattle.ft_op.specs.Cells.{is_cell, put_cell}
-use Rattle.ft_plain_lists.proofs.PlacedCell.{put_cell-found, put_cell-missing}
+use Rattle.ft_op.specs.Cells.{Cell, is_cell, put_cell}
+use Rattle.ft_plain_lists.specs.Places.{IsPlaceIn, found_place, put_item}
+use Rattle.ft_plain_lists.proofs.PlacedItem.{cell-put, found-in}
 use Rattle.ft_plain_lists.proofs.cells.PlainCells.put.Goals as goal
 
-pub returns-in-Some-clause-ok : goal.returns-in-Some-clause-ok
-returns-in-Some-clause-ok c =
-    let at = ap (position (is_cell c.args.cell.row c.args.cell.col)) c.self.view_is
-    ∙ ap (λ cell. position (is_cell cell.row cell.col) c.args.self.now) (sym c.cell.view_is) ∙ sym c.cell_place.ensures ∙ c.in-Some.is in
-    c.replace.ensures ∙ sym (put_cell-found c.args.cell c.self.inside.items.items c.in-Some.i at) ∙ ap (put_cell c.args.cell) c.self.view_is
+pub put_item-requires : goal.put_item-requires
+put_item-requires c =
+    let xs = c.self.inside.items.items in
+    let cell = c.args.cell in
+    let place = c.cell_place-place.ensures ∙ ap (found_place (is_cell c.cell.inside.row c.cell.inside.col)) c.as_slice.ensures.value
+    ∙ ap (λ (x : Cell). found_place (is_cell x.row x.col) xs) c.cell.view_is in
+    subst (λ r. IsPlaceIn r (length xs)) (sym place) (found-in (is_cell cell.row cell.col) xs)
 
-pub returns-in-None-clause-ok : goal.returns-in-None-clause-ok
-returns-in-None-clause-ok c =
-    let at = ap (position (is_cell c.args.cell.row c.args.cell.col)) c.self.view_is
-    ∙ ap (λ cell. position (is_cell cell.row cell.col) c.args.self.now) (sym c.cell.view_is) ∙ sym c.cell_place.ensures ∙ c.in-None.is in
-    on_ok_weaker c.push.result
-    (λ made. made ∙ sym (put_cell-missing c.args.cell c.self.inside.items.items at) ∙ ap (put_cell c.args.cell) c.self.view_is)
-    c.push.ensures.items
+pub returns-clause-ok : goal.returns-clause-ok
+returns-clause-ok c =
+    let xs = c.self.inside.items.items in
+    let cell = c.args.cell in
+    let place = c.cell_place-place.ensures ∙ ap (found_place (is_cell c.cell.inside.row c.cell.inside.col)) c.as_slice.ensures.value
+    ∙ ap (λ (x : Cell). found_place (is_cell x.row x.col) xs) c.cell.view_is in
+    on_ok_weaker c.put_item.result
+    (λ made. made ∙ ap (λ r. put_item r cell xs) place ∙ sym (cell-put cell xs) ∙ ap (put_cell cell) c.self.view_is)
+    c.put_item.ensures.items

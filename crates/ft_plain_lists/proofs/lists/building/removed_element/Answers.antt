@@ -7,4 +7,4 @@ returns c =
     let copies = c.in_ok-dels.ensures in
     let dels = IfOk-at_ok (λ ds. ds ≡ c.args.dels.now) copies.first c.copy.ensures in
     let props = IfOk-at_ok (λ ps. ps ≡ c.args.props.now) copies.second c.copy-2.ensures in
-    rw (c.with_removals.ensures, c.new-e.ensures, dels, props) refl
+    rw (c.new.ensures, dels, props) refl

@@ -1,6 +1,6 @@
 use Rattle.std.proofs.Common.{◌∙◌, ap, sym}
 use Rattle.ft_op.specs.Intervals.{Interval}
-use Rattle.ft_plain_lists.proofs.intervals.PlainInterval.copy.Goals as goal
+use Rattle.ft_plain_lists.proofs.intervals.pending.PlainIntervalCopied.copied.Goals as goal
 
 pub returns : goal.returns
 returns c =

@@ -4,7 +4,7 @@ use Rattle.ft_msg.specs.Content.{stage_view}
 use Rattle.ft_plain_lists.specs.NamedLists.{listed}
 use Rattle.ft_plain_lists.specs.PlacedCells.{placed_cells}
 use Rattle.ft_plain_lists.specs.PlacedValues.{placed_value}
-use Rattle.ft_plain_lists.proofs.cells.PlainCells.placed.Given as goal
+use Rattle.ft_plain_lists.proofs.cells.PlainCells.place_columns.Given as goal
 
 -- the values of a row so far, and those in the rest of the columns, are all of the row
 abbrev pub invariant-loop-col : goal.invariant-loop-col

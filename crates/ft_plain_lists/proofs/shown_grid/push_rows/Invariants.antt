@@ -1,6 +1,6 @@
 use Rattle.std.proofs.Common.{◌≡◌, ◌≤◌, [], ◌++◌, drop}
 use Rattle.ft_msg.specs.Content.{all_cells, stage_view}
-use Rattle.ft_plain_lists.proofs.shown_grid.shown_cells.Given as goal
+use Rattle.ft_plain_lists.proofs.shown_grid.push_rows.Given as goal
 
 -- the cells so far, and those of the rest of the rows, are all
 abbrev pub invariant-loop-row : goal.invariant-loop-row

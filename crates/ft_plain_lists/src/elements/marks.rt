@@ -3,7 +3,8 @@
 ghost use Rattle.ft_props.specs.Element.{with_annotation, with_pending_annotation, with_pending_removal, with_removal};
 
 use crate::elements::PlainElement;
-use ft_base::OutOfMemory;
+use crate::elements::pending::push_changes;
+use ft_base::{OutOfMemory, Stamp};
 use ft_props::Changes;
 
 /// Something that is put on an element.
@@ -33,7 +34,10 @@ impl ElementMark for Removal {
     ghost marked = { λ r e. with_removal r.seq r.conn e };
 
     fn put_on(&self, e: &mut PlainElement) -> Result<(), OutOfMemory> {
-        e.remove(self.seq, self.conn)
+        e.dels.push(Stamp::Acked {
+            seq: self.seq,
+            conn: self.conn,
+        })
     }
 }
 
@@ -42,7 +46,8 @@ impl ElementMark for Changes {
     ghost marked = { λ c e. with_annotation c e };
 
     fn put_on(&self, e: &mut PlainElement) -> Result<(), OutOfMemory> {
-        e.annotate(self)
+        e.props = e.props.changed(self)?;
+        Ok(())
     }
 }
 
@@ -54,7 +59,7 @@ impl ElementMark for PendingRemoval {
     ghost marked = { λ r e. with_pending_removal r.0 e };
 
     fn put_on(&self, e: &mut PlainElement) -> Result<(), OutOfMemory> {
-        e.remove_at_stage(self.0);
+        e.removal_stage = Some(self.0);
         Ok(())
     }
 }
@@ -70,6 +75,6 @@ impl<'a> ElementMark for PendingChanges<'a> {
     ghost marked = { λ c e. with_pending_annotation c.stage c.changes.now e };
 
     fn put_on(&self, e: &mut PlainElement) -> Result<(), OutOfMemory> {
-        e.annotate_at_stage(self.stage, self.changes)
+        push_changes(&mut e.pending, self.stage, self.changes)
     }
 }

@@ -1,6 +1,6 @@
 use Rattle.std.proofs.Common.{◌≡◌, ◌∙◌, Ok, refl}
 use Rattle.std.proofs.lemmas.Result.{IfOk-at_ok}
-use Rattle.ft_plain_lists.proofs.elements.PlainElement.copy.Goals as goal
+use Rattle.ft_plain_lists.proofs.elements.PlainElement.copy_with.Goals as goal
 
 pub returns : goal.returns
 returns c =

@@ -1,5 +1,0 @@
-use Rattle.std.proofs.Common.{sym}
-use Rattle.ft_plain_lists.proofs.slides.noted_settle.Goals as goal
-
-pub returns-in-Some : goal.returns-in-Some
-returns-in-Some c = c.requires.right c.args.name c.in-Some.to (sym c.in-Some.ensures)
