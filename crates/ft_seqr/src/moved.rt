@@ -1,8 +1,20 @@
 //! Values that are moved without a look at what they are. So the proofs of those who move large ones take none of them apart.
 
-ghost use Rattle.std.specs.Prelude.{◌≡◌, ◌++◌, ◌∷◌, [], IfOk, Ok, OnErr};
+ghost use Rattle.std.specs.Prelude.{◌≡◌, ◌++◌, ◌∷◌, [], Err, IfErr, IfOk, Ok, OnErr};
 
 use ft_base::OutOfMemory;
+
+/// What was made, and the value beside it, or why it wasn't made.
+pub fn made_beside<A: Drop, B: Drop, E>(made: Result<A, E>, value: B) -> Result<(A, B), E>
+    ensures made { IfOk result (λ pair. made ≡ Ok pair.0) }
+    ensures value { IfOk result (λ pair. pair.1 ≡ value) }
+    ensures err { IfErr result (λ fault. made ≡ Err fault) }
+{
+    match made {
+        Ok(made) => Ok((made, value)),
+        Err(fault) => Err(fault),
+    }
+}
 
 /// Adds an item behind the others, and gives the value beside it, if both were made.
 ///
