@@ -18,4 +18,5 @@ returns c =
     let s = ap₂ (put_given (codes "start")) c.given_start.ensures (c.in_ok-put_given_set.ensures.value ∙ p) in
     let all = s ∙ interval_fields (given_end ends) (written_text c.args.id.now) word (written_text c.args.label.now) props (given_start ends) in
     on_ok_weaker c.put_number-2.result
-    (λ is. (ap object (is ∙ all), c.as_str-label.ensures.is_text, c.as_str-id.ensures.is_text, c.in_ok-put_given_set.ensures.keyed)) c.put_number-2.ensures
+    (λ is. (ap object (is ∙ all), c.as_str-label.ensures.is_text, c.as_str-id.ensures.is_text, c.in_ok-put_given_set.ensures.keyed))
+    c.put_number-2.ensures
