@@ -1,8 +1,7 @@
 -- The last lines of a command, and how it ends, where it may tell no counts.
-use Rattle.std.proofs.Common.{◌≡◌, ℕ, append-nil, Option, Some, None, Result, Ok, Err, string_bytes, sym, ◌∙◌, ap}
-use Rattle.std.specs.Prelude.{IfOk}
-use Rattle.std.specs.declared.alloc.Global.{Global}
-use Rattle.std.specs.declared.string.String.{String}
+use Rattle.std.proofs.Common.{◌≡◌, ℕ, List, ◌++◌, append-nil, Option, Some, None, Result, sym, ◌∙◌, ap}
+use Rattle.std.specs.Prelude.{OnOk}
+use Rattle.std.proofs.lemmas.Result.{on_ok_weaker}
 use Rattle.ft_io.specs.Lines.{with_lf}
 use Rattle.ft_op.specs.Document.{Document}
 use Rattle.ft_seqr.specs.SessionReport.{closing_lines}
@@ -11,18 +10,19 @@ use Rattle.ft_replay.specs.declared.endings.Ending.{Ending}
 use Rattle.ft_replay.specs.LineForm.{bytes_of, last_lines, last_ending, refused_count, ending_by}
 use Rattle.ft_replay.specs.Listening.{counts_in, counts_of}
 
-module _ {E : Type 0} (refused : ℕ) (given : Option Counts) where
-  pub lines-none : (doc : Option Document) (result : Result (String Global) E) → given ≡ None → given ≡ counts_of doc → IfOk result (λ text. string_bytes text ≡ with_lf (refused_count refused))
-      → IfOk result (λ text. string_bytes text ≡ bytes_of (last_lines refused doc))
-  lines-none None (Ok text) e h b = b ∙ sym (append-nil (with_lf (refused_count refused)))
-  lines-none None (Err why) e h b = tt
-  lines-none (Some doc) result e h b = let wrong : None ≡ Some (counts_in doc) = sym e ∙ h in absurd cc
+module _ {T E : Type 0} (refused : ℕ) (given : Option Counts) (before now : List ℕ) (result : Result T E) where
+  pub lines-none : (doc : Option Document) → given ≡ None → given ≡ counts_of doc → OnOk result (now ≡ before ++ with_lf (refused_count refused))
+      → OnOk result (now ≡ before ++ bytes_of (last_lines refused doc))
+  lines-none None e h b =
+      let line = with_lf (refused_count refused) in
+      on_ok_weaker result (λ (is : now ≡ before ++ line). is ∙ ap (λ (bytes : List ℕ). before ++ bytes) (sym (append-nil line))) b
+  lines-none (Some doc) e h b = let wrong : None ≡ Some (counts_in doc) = sym e ∙ h in absurd cc
 
-  pub lines-some : (doc : Option Document) (counts : Counts) (result : Result (String Global) E) → given ≡ Some counts → given ≡ counts_of doc
-      → ((d : Document) → counts ≡ counts_in d → IfOk result (λ text. string_bytes text ≡ bytes_of (closing_lines refused d)))
-      → IfOk result (λ text. string_bytes text ≡ bytes_of (last_lines refused doc))
-  lines-some None counts result e h f = let wrong : Some counts ≡ None = sym e ∙ h in absurd cc
-  lines-some (Some doc) counts result e h f = let both : Some counts ≡ Some (counts_in doc) = sym e ∙ h in let same : counts ≡ counts_in doc = (cc) in f doc same
+  pub lines-some : (doc : Option Document) (counts : Counts) → given ≡ Some counts → given ≡ counts_of doc
+      → ((d : Document) → counts ≡ counts_in d → OnOk result (now ≡ before ++ bytes_of (closing_lines refused d)))
+      → OnOk result (now ≡ before ++ bytes_of (last_lines refused doc))
+  lines-some None counts e h f = let wrong : Some counts ≡ None = sym e ∙ h in absurd cc
+  lines-some (Some doc) counts e h f = let both : Some counts ≡ Some (counts_in doc) = sym e ∙ h in let same : counts ≡ counts_in doc = (cc) in f doc same
 
 module _ (refused : ℕ) (given : Option Counts) (ending : Ending) where
   pub ending-none : (doc : Option Document) → given ≡ None → given ≡ counts_of doc → ending ≡ ending_by refused 0 → ending ≡ last_ending refused doc

@@ -9,4 +9,6 @@ mod MapSteps
 mod GeneratedLaws
 mod PlayLaws
 mod LastLines
+mod ClientHeads
+mod ContentLines
 mod SessionPieces

@@ -4,6 +4,7 @@ pub mod Observation
 pub mod Observers
 pub mod Loading
 pub mod LineForm
+pub mod Heads
 pub mod Listening
 pub mod Writing
 pub mod Run

@@ -1,20 +1,21 @@
 //! The lines that an event writes.
 
-ghost use Rattle.std.specs.Prelude.{◌≡◌, ◌∷◌, ◌++◌, None, IfOk, codes, string_bytes};
-ghost use Rattle.ft_io.specs.Lines.{with_lf};
+ghost use Rattle.std.specs.Prelude.{◌≡◌, ◌∷◌, ◌++◌, None, IfOk, OnOk, string_bytes};
 ghost use Rattle.ft_msg.specs.Content.{content};
-ghost use Rattle.ft_seqr.specs.SessionReport.{as_shown, head_line, link_word, output_lines};
-ghost use Rattle.ft_seqr.specs.ViewLines.{content_lines, json_string};
+ghost use Rattle.ft_seqr.specs.SessionReport.{as_shown, head_line, output_lines};
+ghost use Rattle.ft_seqr.specs.ViewLines.{content_lines};
 ghost use Rattle.ft_seqr.specs.World.{NamedClient, NaiveWorld, Output};
 ghost use Rattle.ft_session.specs.Outputs.{IsViewOf, Tells};
 ghost use Rattle.ft_replay.specs.LineForm.{bytes_of};
 ghost use Rattle.ft_replay.specs.Listening.{told_refusal, told_text};
 
+use crate::heads::push_head;
 use crate::listener::Told;
 use crate::view_lines::push_content;
+use ft_base::moved::after;
 use ft_base::{OutOfMemory, Text};
-use ft_json::{ValText, quote};
-use ft_msg::{Link, View};
+use ft_json::ValText;
+use ft_msg::View;
 use ft_session::Out;
 use std::alloc::Global;
 
@@ -43,44 +44,23 @@ pub fn client_text(alloc: Global, name: &Text, view: &View) -> Result<String, Ou
     ensures { (c : NamedClient) → IsViewOf c name.now view.now
         → IfOk result (λ text. string_bytes text ≡ bytes_of (head_line c ∷ content_lines (content c.client))) }
 {
-    let mut text = head_text(alloc, name, view)?;
-    push_content(alloc, &mut text, view)?;
-    Ok(text)
+    let mut text = String::new(alloc);
+    let pushed = push_client(alloc, &mut text, name, view);
+    after(pushed, text)
 }
 
-// The first of these lines, with its LF.
-#[tactic(auto, unfolding(ft_seqr::specs::SessionReport::head_line))]
-fn head_text(alloc: Global, name: &Text, view: &View) -> Result<String, OutOfMemory>
-    ensures { (c : NamedClient) → IsViewOf c name.now view.now → IfOk result (λ line. string_bytes line ≡ with_lf (head_line c)) }
+// Adds these lines.
+fn push_client(
+    alloc: Global,
+    text: &mut String,
+    name: &Text,
+    view: &View,
+) -> Result<(), OutOfMemory>
+    ensures { (c : NamedClient) → IsViewOf c name.now view.now
+        → OnOk result (string_bytes text.new ≡ string_bytes text.old ++ bytes_of (head_line c ∷ content_lines (content c.client))) }
 {
-    let mut text = name_and_link(alloc, name, view.numbers.link)?;
-    let seq = view.numbers.seq;
-    let min = view.numbers.min;
-    let pending = view.numbers.pending;
-    let counts = format!(in alloc; " seq {seq} min {min} pending {pending}\n")?;
-    text.push_str(counts.as_str())?;
-    Ok(text)
-}
-
-/// That line up to the numbers, of the client of this name and link.
-pub fn name_and_link(alloc: Global, name: &Text, link: Link) -> Result<String, OutOfMemory>
-    ensures { IfOk result (λ text. string_bytes text ≡ codes "client " ++ (json_string name.now ++ (codes " " ++ link_word link))) }
-{
-    let string = quote(alloc, name)?;
-    let quoted = string.as_str();
-    let word = link_word(link);
-    Ok(format!(in alloc; "client {quoted} {word}")?)
-}
-
-// The word of a link.
-fn link_word(link: Link) -> &'static str
-    ensures { result.now ≡ link_word link }
-{
-    match link {
-        Link::Offline => "offline",
-        Link::Joining { .. } => "joining",
-        Link::Online { .. } => "online",
-    }
+    push_head(alloc, text, name, view.numbers)?;
+    push_content(alloc, text, view)
 }
 
 // The values, one a line, each with its LF.
@@ -88,9 +68,17 @@ fn values_text(alloc: Global, values: &[ValText]) -> Result<String, OutOfMemory>
     ensures { IfOk result (λ text. string_bytes text ≡ bytes_of values.now) }
 {
     let mut text = String::new(alloc);
+    let pushed = push_values(&mut text, values);
+    after(pushed, text)
+}
+
+// Adds the values, one a line.
+fn push_values(text: &mut String, values: &[ValText]) -> Result<(), OutOfMemory>
+    ensures { OnOk result (string_bytes text.new ≡ string_bytes text.old ++ bytes_of values.now) }
+{
     for value in values {
         text.push_str(value.as_str())?;
         text.push('\n')?;
     }
-    Ok(text)
+    Ok(())
 }

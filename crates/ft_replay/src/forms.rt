@@ -124,7 +124,7 @@ fn report_lines<L: Listener, S: Source, K: Sink>(
     ensures steady { OnOk result ((S.faults src.new ≡ S.faults src.old) × (K.faults out.new ≡ K.faults out.old)) }
 {
     let refused = read_lines(alloc, lines, listener, src, out)?;
-    close_lines(alloc, refused, listener, out)
+    close_lines(refused, listener, out)
 }
 
 // Reads the lines of a command, and writes what each of them writes. Returns how many of them were refused.

@@ -17,6 +17,7 @@ mod endings;
 mod event_lines;
 mod forms;
 mod generated;
+mod heads;
 mod listener;
 mod loading;
 mod map_lines;

@@ -3,19 +3,22 @@
 ghost use Rattle.std.specs.Prelude.{◌≡◌, ◌++◌, None, IfOk, OnOk, map, string_bytes};
 ghost use Rattle.ft_io.specs.Lines.{with_lf};
 ghost use Rattle.ft_shared_map.specs.Maps.{entry_of, map_of};
-ghost use Rattle.ft_map.specs.MapReport.{entry_line, head_line, output_lines, view_lines};
+ghost use Rattle.ft_map.specs.MapReport.{entry_line, output_lines, view_lines};
 ghost use Rattle.ft_map.specs.MapSession.{MapOutput, NamedMapClient};
-ghost use Rattle.ft_map.specs.MapWorlds.{AreNumbersOf, IsViewOf, Tells};
+ghost use Rattle.ft_map.specs.MapWorlds.{IsViewOf, Tells};
 ghost use Rattle.ft_replay.specs.LineForm.{bytes_of};
 ghost use Rattle.ft_replay.specs.Listening.{told_refusal, told_text};
 
-use crate::event_lines::name_and_link;
+use crate::heads::push_head;
 use crate::listener::Told;
+use crate::view_lines::push_quoted;
+use ft_base::moved::after;
 use ft_base::{OutOfMemory, Text};
-use ft_json::{ValText, quote};
+use ft_json::ValText;
 use ft_map::{MapOut, MapPair};
 use ft_msg::Numbers;
 use std::alloc::Global;
+use std::fmt::Write;
 
 /// What is told of an event that writes this: nothing, the lines of a client's view, or the line of its summary. Each line has its LF.
 pub fn told_map_output(alloc: Global, out: &MapOut) -> Result<Told, OutOfMemory>
@@ -48,23 +51,24 @@ fn view_text(
 ) -> Result<String, OutOfMemory>
     ensures { (c : NamedMapClient) → IsViewOf c name.now numbers pairs.now → IfOk result (λ text. string_bytes text ≡ bytes_of (view_lines c)) }
 {
-    let mut text = head_text(alloc, name, numbers)?;
-    push_entries(alloc, &mut text, pairs)?;
-    Ok(text)
+    let mut text = String::new(alloc);
+    let pushed = push_view(alloc, &mut text, name, numbers, pairs);
+    after(pushed, text)
 }
 
-// The first of these lines, with its LF.
-#[tactic(auto, unfolding(ft_map::specs::MapReport::head_line))]
-fn head_text(alloc: Global, name: &Text, numbers: Numbers) -> Result<String, OutOfMemory>
-    ensures { (c : NamedMapClient) → name.now ≡ c.name → AreNumbersOf c.client numbers → IfOk result (λ line. string_bytes line ≡ with_lf (head_line c)) }
+// Adds these lines.
+fn push_view(
+    alloc: Global,
+    text: &mut String,
+    name: &Text,
+    numbers: Numbers,
+    pairs: &[MapPair],
+) -> Result<(), OutOfMemory>
+    ensures { (c : NamedMapClient) → IsViewOf c name.now numbers pairs.now
+        → OnOk result (string_bytes text.new ≡ string_bytes text.old ++ bytes_of (view_lines c)) }
 {
-    let mut text = name_and_link(alloc, name, numbers.link)?;
-    let seq = numbers.seq;
-    let min = numbers.min;
-    let pending = numbers.pending;
-    let counts = format!(in alloc; " seq {seq} min {min} pending {pending}\n")?;
-    text.push_str(counts.as_str())?;
-    Ok(text)
+    push_head(alloc, text, name, numbers)?;
+    push_entries(alloc, text, pairs)
 }
 
 // Adds the lines of the entries.
@@ -72,28 +76,25 @@ fn push_entries(alloc: Global, text: &mut String, pairs: &[MapPair]) -> Result<(
     ensures { OnOk result (string_bytes text.new ≡ string_bytes text.old ++ bytes_of (map entry_line (map_of pairs.now))) }
 {
     for pair in pairs {
-        let line = entry_line(alloc, pair)?;
-        text.push_str(line.as_str())?;
+        push_entry(alloc, text, pair)?;
     }
     Ok(())
 }
 
-// The line of an entry, with its LF.
-fn entry_line(alloc: Global, pair: &MapPair) -> Result<String, OutOfMemory>
-    ensures { IfOk result (λ line. string_bytes line ≡ with_lf (entry_line (entry_of pair.now))) }
+// Adds the line of an entry.
+fn push_entry(alloc: Global, text: &mut String, pair: &MapPair) -> Result<(), OutOfMemory>
+    ensures { OnOk result (string_bytes text.new ≡ string_bytes text.old ++ with_lf (entry_line (entry_of pair.now))) }
 {
-    let string = quote(alloc, &pair.key)?;
-    let key = string.as_str();
+    text.push_str("entry ")?;
+    push_quoted(alloc, text, &pair.key)?;
     let value = pair.value.as_str();
-    Ok(format!(in alloc; "entry {key} {value}\n")?)
+    Ok(write!(text, " {value}\n")?)
 }
 
 // The line of a value, with its LF.
 fn value_text(alloc: Global, value: &ValText) -> Result<String, OutOfMemory>
     ensures { IfOk result (λ text. string_bytes text ≡ with_lf value.now) }
 {
-    let mut text = String::new(alloc);
-    text.push_str(value.as_str())?;
-    text.push('\n')?;
-    Ok(text)
+    let line = value.as_str();
+    Ok(format!(in alloc; "{line}\n")?)
 }

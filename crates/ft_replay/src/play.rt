@@ -13,17 +13,19 @@ ghost use Rattle.ft_replay.specs.Writing.{WritesBytes};
 
 use crate::endings::{Ending, Fault};
 use crate::generated::session_events;
-use crate::report::closing_text;
+use crate::report::push_closing;
 use crate::settings::Settings;
 use crate::showing::Showing;
 use crate::sums::added;
 use crate::writing::put_text;
 use ft_base::OutOfMemory;
+use ft_base::moved::after;
 use ft_io::Sink;
 use ft_msg::Replica;
 use ft_seqr::{Event, Refusal};
 use ft_session::{Out, World};
 use std::alloc::Global;
+use std::fmt::Write;
 
 /// A session as far as it was played: a world that always found memory, how many events it refused, and
 /// the clients that it showed.
@@ -143,13 +145,19 @@ impl<R: Replica + Drop> Play<R> {
     fn text(&self, settings: Settings) -> Result<String, OutOfMemory>
         ensures { (at : Played) → Plays self.now at → IfOk result (λ text. string_bytes text ≡ bytes_of (lines_of_play settings at)) }
     {
-        let first_text = settings_text(self.alloc, settings)?;
-        let last_text = closing_text(self.alloc, self.refused, self.world.counts())?;
-        let first = first_text.as_str();
-        let lines = self.showing.lines.as_str();
-        let agreement = agreement_text(self.showing.agreement.all);
-        let last = last_text.as_str();
-        Ok(format!(in self.alloc; "{first}{lines}{agreement}{last}")?)
+        let mut text = String::new(self.alloc);
+        let pushed = self.push_text(&mut text, settings);
+        after(pushed, text)
+    }
+
+    // Adds what is written of it.
+    fn push_text(&self, text: &mut String, settings: Settings) -> Result<(), OutOfMemory>
+        ensures { (at : Played) → Plays self.now at → OnOk result (string_bytes text.new ≡ string_bytes text.old ++ bytes_of (lines_of_play settings at)) }
+    {
+        push_settings(text, settings)?;
+        text.push_str(self.showing.lines.as_str())?;
+        text.push_str(agreement_text(self.showing.agreement.all))?;
+        push_closing(text, self.refused, self.world.counts())
     }
 
     // How that ends.
@@ -175,15 +183,15 @@ fn show(alloc: Global, showing: &mut Showing, out: Out) -> Result<(), OutOfMemor
     }
 }
 
-// The first line, with its LF.
+// Adds the first line.
 #[tactic(auto, unfolding(crate::specs::Play::settings_line))]
-fn settings_text(alloc: Global, settings: Settings) -> Result<String, OutOfMemory>
-    ensures { IfOk result (λ text. string_bytes text ≡ with_lf (settings_line settings)) }
+fn push_settings(text: &mut String, settings: Settings) -> Result<(), OutOfMemory>
+    ensures { OnOk result (string_bytes text.new ≡ string_bytes text.old ++ with_lf (settings_line settings)) }
 {
     let clients = settings.clients;
     let edits = settings.edits;
     let seed = settings.seed;
-    Ok(format!(in alloc; "play {clients} {edits} {seed}\n")?)
+    Ok(write!(text, "play {clients} {edits} {seed}\n")?)
 }
 
 // The line that says whether the clients agree, with its LF.

@@ -11,7 +11,7 @@ ghost use Rattle.ft_replay.specs.Writing.{WritesBytes};
 use crate::endings::{Ending, Fault};
 use crate::listener::{LINE_LIMIT, Listener, Told};
 use crate::refusals::refused_line;
-use crate::report::{last_ending, last_text};
+use crate::report::{last_ending, push_last};
 use crate::writing::{put, put_text};
 use ft_base::OutOfMemory;
 use ft_io::{Line, Sink};
@@ -75,7 +75,6 @@ pub fn hear_line<L: Listener, K: Sink>(
 ///
 /// Returns `Write` only where the sink's count of faults rose, and `OutOfMemory` where there is no room for the lines.
 pub fn close_lines<L: Listener, K: Sink>(
-    alloc: Global,
     refused: u64,
     listener: &L,
     out: &mut K,
@@ -85,18 +84,17 @@ pub fn close_lines<L: Listener, K: Sink>(
         → WritesBytes (K.contents out.old) (K.contents out.new) (K.faults out.old) (K.faults out.new) (bytes_of (form_end L.form at)) result }
     ensures steady { OnOk result (K.faults out.new ≡ K.faults out.old) }
 {
-    put_text(out, end_text(alloc, refused, listener))?;
+    put_text(out, end_text(refused, listener))?;
     Ok(last_ending(refused, listener.counts()))
 }
 
 // What stands behind the lines, of which so many were refused.
-fn end_text<L: Listener>(alloc: Global, refused: u64, listener: &L) -> Result<String, OutOfMemory>
+fn end_text<L: Listener>(refused: u64, listener: &L) -> Result<String, OutOfMemory>
     ensures { (lines : ℕ) (at : Progress L.Made) → Follows (L.holds listener.now) lines refused at
         → IfOk result (λ text. string_bytes text ≡ bytes_of (form_end L.form at)) }
 {
     let mut text = listener.view_text()?;
-    let last = last_text(alloc, refused, listener.counts())?;
-    text.push_str(last.as_str())?;
+    push_last(&mut text, refused, listener.counts())?;
     Ok(text)
 }
 

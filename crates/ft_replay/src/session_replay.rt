@@ -107,7 +107,7 @@ impl<R: Replica + Drop> SessionReplay<R> {
             → WritesBytes (K.contents out.old) (K.contents out.new) (K.faults out.old) (K.faults out.new) (end_bytes heard) result }
         ensures steady { OnOk result (K.faults out.new ≡ K.faults out.old) }
     {
-        let ending = close_lines(self.alloc, self.refused, &self.run, out);
+        let ending = close_lines(self.refused, &self.run, out);
         drop(self);
         ending
     }

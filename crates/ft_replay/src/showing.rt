@@ -5,15 +5,17 @@ ghost use Rattle.ft_io.specs.Lines.{with_lf};
 ghost use Rattle.ft_msg.specs.Answers.{view_content};
 ghost use Rattle.ft_seqr.specs.World.{NamedClient};
 ghost use Rattle.ft_session.specs.Outputs.{IsViewOf};
-ghost use Rattle.ft_replay.specs.Play.{client_line, client_numbers, content_numbers, text_hash};
+ghost use Rattle.ft_replay.specs.Play.{client_line, content_numbers, text_hash};
 ghost use Rattle.ft_replay.specs.Playing.{HasShown, agrees_with, content_text};
 
+use crate::heads::{push_counts, push_name};
 use crate::sums::added;
 use crate::view_lines::push_content;
+use ft_base::moved::after;
 use ft_base::{Datum, OutOfMemory, Text};
-use ft_json::quote;
 use ft_msg::View;
 use std::alloc::Global;
+use std::fmt::Write;
 
 /// The clients that were shown: their lines, and whether they agree.
 #[derive(Drop)]
@@ -61,8 +63,7 @@ impl Showing {
         ensures first { self.new.agreement.first ≡ self.old.agreement.first }
         ensures all { OnOk result (self.new.agreement.all ≡ agrees_with self.old.agreement view.now) }
     {
-        let line = client_line(alloc, name, view)?;
-        self.lines.push_str(line.as_str())?;
+        push_client_line(alloc, &mut self.lines, name, view)?;
         self.agreement.all = self.agreement.all_with(alloc, view)?;
         Ok(())
     }
@@ -127,44 +128,34 @@ fn content_text(alloc: Global, view: &View) -> Result<String, OutOfMemory>
     ensures { IfOk result (λ text. string_bytes text ≡ content_text view.now) }
 {
     let mut text = String::new(alloc);
-    push_content(alloc, &mut text, view)?;
-    Ok(text)
+    let pushed = push_content(alloc, &mut text, view);
+    after(pushed, text)
 }
 
-// The line of a client, with its LF.
+// Adds the line of a client.
 #[tactic(auto, unfolding(crate::specs::Play::client_line))]
-fn client_line(alloc: Global, name: &Text, view: &View) -> Result<String, OutOfMemory>
-    ensures { (c : NamedClient) → IsViewOf c name.now view.now → IfOk result (λ line. string_bytes line ≡ with_lf (client_line c)) }
+fn push_client_line(
+    alloc: Global,
+    text: &mut String,
+    name: &Text,
+    view: &View,
+) -> Result<(), OutOfMemory>
+    ensures { (c : NamedClient) → IsViewOf c name.now view.now
+        → OnOk result (string_bytes text.new ≡ string_bytes text.old ++ with_lf (client_line c)) }
 {
-    let mut line = client_numbers(alloc, name, view)?;
-    let content = content_numbers(alloc, view)?;
-    line.push_str(content.as_str())?;
-    line.push('\n')?;
-    Ok(line)
+    push_name(alloc, text, name)?;
+    push_counts(text, view.numbers)?;
+    push_content_numbers(text, view)?;
+    Ok(text.push('\n')?)
 }
 
-// The name and the numbers of a client.
-fn client_numbers(alloc: Global, name: &Text, view: &View) -> Result<String, OutOfMemory>
-    ensures { (c : NamedClient) → IsViewOf c name.now view.now → IfOk result (λ text. string_bytes text ≡ client_numbers c) }
-{
-    let string = quote(alloc, name)?;
-    let quoted = string.as_str();
-    let mut text = format!(in alloc; "client {quoted}")?;
-    let seq = view.numbers.seq;
-    let min = view.numbers.min;
-    let pending = view.numbers.pending;
-    let numbers = format!(in alloc; " seq {seq} min {min} pending {pending}")?;
-    text.push_str(numbers.as_str())?;
-    Ok(text)
-}
-
-// How many characters and markers a view shows, and the hash of the characters.
-fn content_numbers(alloc: Global, view: &View) -> Result<String, OutOfMemory>
-    ensures { IfOk result (λ text. string_bytes text ≡ content_numbers (view_content view.now)) }
+// Adds how many characters and markers a view shows, and the hash of the characters.
+fn push_content_numbers(text: &mut String, view: &View) -> Result<(), OutOfMemory>
+    ensures { OnOk result (string_bytes text.new ≡ string_bytes text.old ++ content_numbers (view_content view.now)) }
 {
     let length = length_of(view)?;
     let hash = hash_of(&view.text);
-    Ok(format!(in alloc; " length {length} hash {hash}")?)
+    Ok(write!(text, " length {length} hash {hash}")?)
 }
 
 // How many characters and markers a view shows.

@@ -1,6 +1,0 @@
-use Rattle.std.proofs.Common.{◌≡◌, ◌++◌, drop, string_bytes}
-use Rattle.ft_replay.specs.LineForm.{bytes_of}
-use Rattle.ft_replay.proofs.event_lines.values_text.Given as goal
-
-abbrev pub invariant-loop-value : goal.invariant-loop-value
-invariant-loop-value l = string_bytes l.text ++ bytes_of (drop l.value-index l.values) ≡ bytes_of l.values
