@@ -7,7 +7,7 @@ use Rattle.ft_replay.specs.LineForm.{bytes_of}
 use Rattle.ft_door.specs.declared.calls.Told.TheVariants.{Full, Refused, Taken}
 use Rattle.ft_door.specs.declared.clients.HeldClient.{HeldClient}
 use Rattle.ft_door.specs.Clients.{CallsClient, GoesOn, SendsDraft, ShowsClient, call_bytes, call_number, refusal_bytes, unread_by}
-use Rattle.ft_door.specs.Editors.{EditorState, IsEditor, NaiveEditor, TellsStep, draft_bytes, oldest_bytes, shown_lines, with_queue}
+use Rattle.ft_door.specs.Editors.{EditorState, NaiveEditor, TellsStep, draft_bytes, oldest_bytes, shown_lines, with_queue}
 
 module _ {R : Type 0} (run : HeldClient R) (s t : EditorState) where
   -- a call was taken
@@ -55,31 +55,30 @@ module _ {R : Type 0} (run : HeldClient R) (s t : EditorState) where
     known = refl;
   }
 
-  -- a draft was written, and counts as sent
-  pub draft-sent : (new : HeldClient R) (line : List ℕ) → new.client ≡ Some t → unread_by new ≡ unread_by run ++ line
-      → ((x : NaiveEditor) → IsEditor s x → oldest_bytes x.client.queue ≡ Some line)
-      → ((x : NaiveEditor) → IsEditor s x → IsEditor t (with_queue (drop 1 x.client.queue) x))
-      → SendsDraft (record run { client = Some s }) new 0
-  draft-sent new line is written oldest sent = record {
-    sent = λ x zero h. by x h x.client.queue refl (oldest x h);
-    none = λ x is. absurd (cc);
-    client = λ large. absurd (omega (arith, large));
-    unread = λ large. absurd (omega (arith, large));
-    closed = λ is. absurd (cc);
-    known = refl;
-  }
-    where
-      by : (x : NaiveEditor) → IsEditor s x → (queue : List Draft) → x.client.queue ≡ queue → oldest_bytes queue ≡ Some line
-          → (d : Draft) × (ds : List Draft) × (x.client.queue ≡ d ∷ ds) × GoesOn new.client (with_queue ds x) × (unread_by new ≡ unread_by run ++ draft_bytes d)
-      by x h [] e o = absurd (cc)
-      by x h (d ∷ ds) e o =
-          let same : draft_bytes d ≡ line = (cc) in (
-            d,
-            ds,
-            e,
-            subst (λ client. GoesOn client (with_queue ds x)) (sym is) (subst (λ queue. IsEditor t (with_queue (drop 1 queue) x)) e (sent x h)),
-            written ∙ ap (λ bytes. unread_by run ++ bytes) (sym same),
-          )
+-- a draft was written, and counts as sent
+pub draft-sent : {R : Type 0} (old new : HeldClient R) (line : List ℕ) → unread_by new ≡ unread_by old ++ line
+    → ((x : NaiveEditor) → GoesOn old.client x → oldest_bytes x.client.queue ≡ Some line)
+    → ((x : NaiveEditor) → GoesOn old.client x → GoesOn new.client (with_queue (drop 1 x.client.queue) x)) → SendsDraft old new 0
+draft-sent old new line written oldest sent = record {
+  sent = λ x zero h. by x h x.client.queue refl (oldest x h);
+  none = λ x is. absurd (cc);
+  client = λ large. absurd (omega (arith, large));
+  unread = λ large. absurd (omega (arith, large));
+  closed = λ is. absurd (cc);
+  known = refl;
+}
+  where
+    by : (x : NaiveEditor) → GoesOn old.client x → (queue : List Draft) → x.client.queue ≡ queue → oldest_bytes queue ≡ Some line
+        → (d : Draft) × (ds : List Draft) × (x.client.queue ≡ d ∷ ds) × GoesOn new.client (with_queue ds x) × (unread_by new ≡ unread_by old ++ draft_bytes d)
+    by x h [] e o = absurd (cc)
+    by x h (d ∷ ds) e o =
+        let same : draft_bytes d ≡ line = (cc) in (
+          d,
+          ds,
+          e,
+          subst (λ queue. GoesOn new.client (with_queue (drop 1 queue) x)) e (sent x h),
+          written ∙ ap (λ bytes. unread_by old ++ bytes) (sym same),
+        )
 
 -- there was no memory for a call
 pub call-ended : {R : Type 0} (old new : HeldClient R) (step : NaiveEditor → Step NaiveEditor) (exceeds : NaiveEditor → Bool) → new.client ≡ None → unread_by new ≡ unread_by old
@@ -97,13 +96,12 @@ call-ended old new step exceeds is same = record {
 }
 
 -- there is nothing to send
-pub nothing-sent : {R : Type 0} (old new : HeldClient R) (s : EditorState) → old.client ≡ Some s → new.client ≡ Some s → unread_by new ≡ unread_by old
-    → ((x : NaiveEditor) → IsEditor s x → None ≡ oldest_bytes x.client.queue) → SendsDraft old new 8
-nothing-sent old new s was is same oldest = record {
+pub nothing-sent : {R : Type 0} (run : HeldClient R) → ((x : NaiveEditor) → GoesOn run.client x → None ≡ oldest_bytes x.client.queue) → SendsDraft run run 8
+nothing-sent run oldest = record {
   sent = λ x zero. absurd (cc);
-  none = λ x eight h. by x.client.queue (oldest x (subst (λ client. GoesOn client x) was h));
-  client = λ large. is ∙ sym was;
-  unread = λ large. same;
+  none = λ x eight h. by x.client.queue (oldest x h);
+  client = λ large. refl;
+  unread = λ large. refl;
   closed = λ is. absurd (cc);
   known = refl;
 }
@@ -124,11 +122,11 @@ draft-kept old new client unread = record {
 }
 
 -- a view is written, or there was no memory for it
-pub view-shown : {R : Type 0} (old new : HeldClient R) (s : EditorState) (text : List ℕ) → old.client ≡ Some s → new.client ≡ Some s
-    → unread_by new ≡ unread_by old ++ text → ((x : NaiveEditor) → IsEditor s x → text ≡ bytes_of (shown_lines x)) → ShowsClient old new 0
-view-shown old new s text was is written shown = record {
-  shown = λ x zero h. written ∙ ap (λ bytes. unread_by old ++ bytes) (shown x (subst (λ client. GoesOn client x) was h));
-  client = is ∙ sym was;
+pub view-shown : {R : Type 0} (old new : HeldClient R) → new.client ≡ old.client
+    → ((x : NaiveEditor) → GoesOn old.client x → unread_by new ≡ unread_by old ++ bytes_of (shown_lines x)) → ShowsClient old new 0
+view-shown old new is shown = record {
+  shown = λ x zero h. shown x h;
+  client = is;
   unread = λ large. absurd (omega (arith, large));
   closed = λ is. absurd (cc);
   known = refl;

@@ -1,12 +1,16 @@
 -- What waits behind what was written before: what a line writes, or no more than the first of it where there was no memory.
-use Rattle.std.proofs.Common.{◌≡◌, ℕ, zero, suc, ◌+◌, ◌≤◌, List, [], ◌∷◌, ◌++◌, Some, None, Ok, Err, refl, sym, ◌∙◌, ap, append_assoc, arith}
+use Rattle.std.proofs.Common.{◌≡◌, ℕ, zero, suc, ◌+◌, ◌<◌, ◌≤◌, List, [], ◌∷◌, ◌++◌, Some, None, Ok, Err, refl, sym, ◌∙◌, ap, append_assoc, arith, length}
+use Rattle.ft_io.specs.Reader.{input_limit}
 use Rattle.ft_msg.specs.declared.replica.Replica.{Ghosts}
+use Rattle.ft_replay.specs.declared.endings.Ending.{Ending}
+use Rattle.ft_replay.specs.declared.endings.Ending.TheVariants.{Done, SomeRefused}
 use Rattle.ft_replay.specs.declared.endings.Fault.{Fault}
 use Rattle.ft_replay.specs.declared.endings.Fault.TheVariants.{Read, Write, OutOfMemory, InputLimit}
-use Rattle.ft_replay.specs.SessionReplays.{LinesGrow, end_bytes, heard_refused, line_bytes, lines_bytes}
+use Rattle.ft_replay.specs.SessionReplays.{LinesGrow, ReportsEnd, end_bytes, heard_ending, heard_refused, line_bytes, lines_bytes, report_bytes}
 use Rattle.ft_replay.specs.Writing.{Begins, SaysOfWritten, WritesBytes}
+use Rattle.ft_report.specs.Reports.{ending_number}
 use Rattle.ft_door.specs.declared.sessions.HeldSession.{HeldSession}
-use Rattle.ft_door.specs.Runs.{Breaks, ClosesSession, HearsLine, Stands, unread_of}
+use Rattle.ft_door.specs.Runs.{Breaks, ClosesSession, HearsLine, IsClosed, Stands, unread_of}
 
 -- a fault says that the first of the bytes were written
 begins_of : (T rose : Type 0) (bytes written : List ℕ) (fault : Fault) → SaysOfWritten {T = T} rose bytes written (Err fault) → Begins written bytes
@@ -61,6 +65,17 @@ report-more waits unread heard line read before now done grow is h =
     ∙ ap (λ later. lines_bytes heard ++ later) h.says
     ∙ sym (grow heard line)
 
+-- the last lines were written behind those that wait, and the report is whole
+pub report-whole : {T : Type 0} (waits unread : List ℕ) (heard : List (List ℕ)) (read : List ℕ) (before now : ℕ) (done : T) → ReportsEnd
+    → read ++ waits ≡ lines_bytes heard → WritesBytes {T = T} (Some waits) (Some unread) before now (end_bytes heard) (Ok done)
+    → read ++ unread ≡ report_bytes heard
+report-whole waits unread heard read before now done end is h =
+    ap (λ later. read ++ later) h.takes
+    ∙ sym (append_assoc read waits h.written)
+    ∙ ap (λ front. front ++ h.written) is
+    ∙ ap (λ later. lines_bytes heard ++ later) h.says
+    ∙ sym (end heard)
+
 -- how many were refused, by the status of a line more
 pub refused-more : (before now old new status : ℕ) → before ≡ old → now ≡ new → (old ≤ new) × (new ≤ old + 1)
     → (before ≤ now → now ≤ before + 1 → before + status ≡ now) → new ≡ old + status
@@ -93,3 +108,37 @@ line-heard old new line (suc zero) low h r = record {
   known = refl;
 }
 line-heard old new line (suc (suc n)) low h r = absurd (omega (arith, low))
+
+-- there were as many lines as there may be, and nothing changed
+pub line-full : {R : Type 0} {g : Ghosts R} (old new : HeldSession R g) (line : List ℕ) → new ≡ old
+    → ((heard : List (List ℕ)) → (read : List ℕ) → Stands old heard read → input_limit < length heard) → HearsLine old new line 6
+line-full old new line same many = record {
+  heard = λ heard read small. absurd (omega (arith, small));
+  refused = λ heard read small. absurd (omega (arith, small));
+  broken = λ heard read is. absurd (cc);
+  full = λ heard read six has. many heard read has;
+  same = λ large. same;
+  closed = λ is. absurd (cc);
+  known = refl;
+}
+
+-- the session is closed, and its report ends so
+pub session-closed : {R : Type 0} {g : Ghosts R} (old new : HeldSession R g) (ending : Ending)
+    → ((heard : List (List ℕ)) → (read : List ℕ) → Stands old heard read → IsClosed new heard read)
+    → ((heard : List (List ℕ)) → (read : List ℕ) → Stands old heard read → ending ≡ heard_ending heard) → ClosesSession old new (ending_number ending)
+session-closed old new Done closed ends = record {
+  closed = λ heard read small has. closed heard read has;
+  ends = λ heard read small has. ap ending_number (ends heard read has);
+  broken = λ heard read is. absurd (cc);
+  same = λ is. absurd (cc);
+  none = λ is. absurd (cc);
+  known = refl;
+}
+session-closed old new SomeRefused closed ends = record {
+  closed = λ heard read small has. closed heard read has;
+  ends = λ heard read small has. ap ending_number (ends heard read has);
+  broken = λ heard read is. absurd (cc);
+  same = λ is. absurd (cc);
+  none = λ is. absurd (cc);
+  known = refl;
+}

@@ -1,10 +1,10 @@
 //! A client that is held between calls.
 
-ghost use Rattle.std.specs.Prelude.{◌≡◌, ◌++◌, [], Bool, IfOk, None, Some, length, string_bytes};
+ghost use Rattle.std.specs.Prelude.{◌≡◌, Bool, IfOk, None, Some, drop, length, option_map, string_bytes};
 ghost use Rattle.ft_seqr.specs.Walk.{Step};
 ghost use Rattle.ft_replay.specs.LineForm.{bytes_of};
-ghost use Rattle.ft_door.specs.Clients.{CallsClient, IsNew, ReadsClient, SendsDraft, ShowsClient, refusal_bytes, unread_by};
-ghost use Rattle.ft_door.specs.Editors.{EditorState, IsEditor, NaiveEditor, TellsStep, call_exceeds, call_step, oldest_bytes, shown_lines};
+ghost use Rattle.ft_door.specs.Clients.{CallsClient, GoesOn, IsNew, ReadsClient, SendsDraft, ShowsClient, refusal_bytes, unread_by};
+ghost use Rattle.ft_door.specs.Editors.{EditorState, NaiveEditor, TellsStep, call_exceeds, call_step, oldest_bytes, shown_lines, with_queue};
 
 use crate::calls::{Call, Told};
 use crate::editors::Editor;
@@ -67,7 +67,10 @@ impl<R: Replica + Drop> HeldClient<R> {
             return CLOSED;
         };
         match client.take(call, bytes) {
-            Ok((client, told)) => self.settle(client, told),
+            Ok((client, told)) => {
+                drop(self.client.replace(client));
+                self.settle(told)
+            }
             Err(OutOfMemory) => OUT_OF_MEMORY,
         }
     }
@@ -79,18 +82,11 @@ impl<R: Replica + Drop> HeldClient<R> {
     pub fn outgoing(&mut self) -> u32
         ensures { SendsDraft self.old self.new result }
     {
-        let Some(client) = self.client.take() else {
-            return CLOSED;
-        };
-        match client.draft() {
-            Ok(Some(line)) => self.send(client, line.as_str()),
-            Ok(None) => {
-                self.client = Some(client);
-                NOTHING
-            }
-            Err(OutOfMemory) => {
-                self.client = Some(client);
-                OUT_OF_MEMORY
+        match &self.client {
+            None => CLOSED,
+            Some(client) => {
+                let line = client.draft();
+                self.send(&line)
             }
         }
     }
@@ -102,14 +98,11 @@ impl<R: Replica + Drop> HeldClient<R> {
     pub fn view(&mut self) -> u32
         ensures { ShowsClient self.old self.new result }
     {
-        let Some(client) = self.client.take() else {
-            return CLOSED;
-        };
-        match client.view_text() {
-            Ok(text) => self.show(client, text.as_str()),
-            Err(OutOfMemory) => {
-                self.client = Some(client);
-                OUT_OF_MEMORY
+        match &self.client {
+            None => CLOSED,
+            Some(client) => {
+                let lines = client.view_text();
+                self.show(&lines)
             }
         }
     }
@@ -128,76 +121,67 @@ impl<R: Replica + Drop> HeldClient<R> {
         self.waiting.read(room)
     }
 
-    // Keeps the client, and puts the lines of what it shows behind what waits.
-    fn show(&mut self, client: Editor<R>, lines: &str) -> u32
-        requires { self.old.client ≡ None }
-        ensures { ((x : NaiveEditor) → IsEditor client x → lines.now ≡ bytes_of (shown_lines x))
-            → ShowsClient (record self.old { client = Some client }) self.new result }
+    // Puts the lines of what it shows behind what waits, if they were made.
+    fn show(&mut self, lines: &Result<String, OutOfMemory>) -> u32
+        ensures { ((x : NaiveEditor) → GoesOn self.old.client x → IfOk lines.now (λ text. string_bytes text ≡ bytes_of (shown_lines x))) → ShowsClient self.old self.new result }
     {
-        match self.waiting.push(lines.as_bytes()) {
-            Ok(()) => {
-                self.client = Some(client);
-                DONE
-            }
-            Err(OutOfMemory) => {
-                self.client = Some(client);
-                OUT_OF_MEMORY
-            }
-        }
-    }
-
-    // Keeps the client behind a call of which this is told, and writes why it is refused, if it is.
-    fn settle(&mut self, client: Editor<R>, told: Told) -> u32
-        requires { self.old.client ≡ None }
-        ensures { (s : EditorState) (step : NaiveEditor → Step NaiveEditor) (exceeds : NaiveEditor → Bool) → TellsStep told s client step exceeds
-            → CallsClient step exceeds (record self.old { client = Some s }) self.new result }
-    {
-        match told {
-            Told::Taken => {
-                self.client = Some(client);
-                DONE
-            }
-            Told::Refused(why) => self.refuse(client, why),
-            Told::Full => {
-                self.client = Some(client);
-                TOO_LONG
-            }
-        }
-    }
-
-    // Keeps the client, and writes why a call was refused; without memory for that it is at its end.
-    fn refuse(&mut self, client: Editor<R>, why: Refusal) -> u32
-        requires { self.old.client ≡ None }
-        ensures { (s : EditorState) (step : NaiveEditor → Step NaiveEditor) (exceeds : NaiveEditor → Bool) → TellsStep (Told.Refused why) s client step exceeds
-            → CallsClient step exceeds (record self.old { client = Some s }) self.new result }
-    {
-        let Ok(text) = refusal_line(self.alloc, why) else {
-            return OUT_OF_MEMORY;
-        };
-        match self.waiting.push(text.as_bytes()) {
-            Ok(()) => {
-                self.client = Some(client);
-                SOME_REFUSED
-            }
+        match self.waiting.push_made(lines) {
+            Ok(()) => DONE,
             Err(OutOfMemory) => OUT_OF_MEMORY,
         }
     }
 
-    // Keeps the client, and puts the line of its oldest draft behind what waits, which counts as sent then.
-    fn send(&mut self, client: Editor<R>, line: &str) -> u32
-        requires { self.old.client ≡ None }
-        ensures { ((x : NaiveEditor) → IsEditor client x → oldest_bytes x.client.queue ≡ Some line.now)
-            → SendsDraft (record self.old { client = Some client }) self.new result }
+    // What is told of a call, and is written of it where it is refused.
+    fn settle(&mut self, told: Told) -> u32
+        ensures { (s t : EditorState) (step : NaiveEditor → Step NaiveEditor) (exceeds : NaiveEditor → Bool) → self.old.client ≡ Some t → TellsStep told s t step exceeds
+            → CallsClient step exceeds (record self.old { client = Some s }) self.new result }
+    {
+        match told {
+            Told::Taken => DONE,
+            Told::Refused(why) => self.refuse(why),
+            Told::Full => TOO_LONG,
+        }
+    }
+
+    // Writes why a call was refused; without memory for that the client is at its end.
+    fn refuse(&mut self, why: Refusal) -> u32
+        ensures { (s t : EditorState) (step : NaiveEditor → Step NaiveEditor) (exceeds : NaiveEditor → Bool) → self.old.client ≡ Some t → TellsStep (Told.Refused why) s t step exceeds
+            → CallsClient step exceeds (record self.old { client = Some s }) self.new result }
+    {
+        let line = refusal_line(self.alloc, why);
+        match self.waiting.push_made(&line) {
+            Ok(()) => SOME_REFUSED,
+            Err(OutOfMemory) => {
+                drop(self.client.take());
+                OUT_OF_MEMORY
+            }
+        }
+    }
+
+    // Puts the line of its oldest draft behind what waits, if there is one and it was made; the draft counts as sent then.
+    fn send(&mut self, made: &Result<Option<String>, OutOfMemory>) -> u32
+        ensures { ((x : NaiveEditor) → GoesOn self.old.client x → IfOk made.now (λ line. option_map (λ text. string_bytes text) line ≡ oldest_bytes x.client.queue))
+            → SendsDraft self.old self.new result }
+    {
+        let Ok(line) = made else {
+            return OUT_OF_MEMORY;
+        };
+        match line {
+            Some(text) => self.send_line(text.as_str()),
+            None => NOTHING,
+        }
+    }
+
+    // Puts the line of its oldest draft behind what waits, which counts as sent then.
+    fn send_line(&mut self, line: &str) -> u32
+        ensures { ((x : NaiveEditor) → GoesOn self.old.client x → oldest_bytes x.client.queue ≡ Some line.now) → SendsDraft self.old self.new result }
     {
         match self.waiting.push(line.as_bytes()) {
             Ok(()) => {
-                self.client = Some(client.sent());
+                count_sent(&mut self.client);
                 DONE
             }
-            Err(OutOfMemory) => {
-                self.client = Some(client);
-                OUT_OF_MEMORY
-            }
+            Err(OutOfMemory) => OUT_OF_MEMORY,
         }
     }
 }
@@ -208,4 +192,13 @@ fn refusal_line(alloc: Global, why: Refusal) -> Result<String, OutOfMemory>
 {
     let number = why.number();
     Ok(format!(in alloc; "refused {number} {why}\n")?)
+}
+
+// The oldest draft of the client counts as sent, if there is a client.
+fn count_sent<R: Replica + Drop>(client: &mut Option<Editor<R>>)
+    ensures { (x : NaiveEditor) → GoesOn client.old x → GoesOn client.new (with_queue (drop 1 x.client.queue) x) }
+{
+    if let Some(client) = client {
+        client.sent();
+    }
 }

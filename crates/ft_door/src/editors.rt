@@ -7,6 +7,7 @@ ghost use Rattle.ft_door.specs.Editors.{IsEditor, NaiveEditor, TellsStep, call_e
 use crate::calls::{Call, Told};
 use crate::parts::Parts;
 use ft_base::OutOfMemory;
+use ft_base::moved::beside;
 use ft_laws_sessions::formed::client_drafts_are_well_formed;
 use ft_msg::Replica;
 use std::alloc::Global;
@@ -47,7 +48,8 @@ impl<R: Replica + Drop> Editor<R> {
         ensures { IfOk result (λ p. TellsStep p.1 self p.0 (call_step call bytes.now) (call_exceeds call bytes.now)) }
     {
         let Editor { mut parts } = self;
-        let told = parts.take(call, bytes)?;
+        let told = parts.take(call, bytes);
+        let (told, parts) = beside(told, parts)?;
         let editor = Editor { parts };
         Ok((editor, told))
     }
@@ -63,14 +65,11 @@ impl<R: Replica + Drop> Editor<R> {
         self.parts.draft()
     }
 
-    /// The editor whose oldest draft counts as sent.
-    pub fn sent(self) -> Editor<R>
-        ensures { (x : NaiveEditor) → IsEditor self x → IsEditor result (with_queue (drop 1 x.client.queue) x) }
+    /// The oldest draft counts as sent.
+    pub fn sent(&mut self)
+        ensures { (x : NaiveEditor) → IsEditor self.old x → IsEditor self.new (with_queue (drop 1 x.client.queue) x) }
     {
-        let Editor { mut parts } = self;
-        parts.sent();
-        let editor = Editor { parts };
-        editor
+        self.parts.sent();
     }
 
     /// The lines of what it shows, each with its LF.

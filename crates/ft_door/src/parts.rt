@@ -1,7 +1,9 @@
 //! What an editor has, and what each call makes of it.
 
-ghost use Rattle.std.specs.Prelude.{◌≡◌, ◌+◌, ◌*◌, ◌<◌, ◌≤◌, ◌^◌, ◌&&◌, true, not, Some, Ok, IfOk, IfNone, IfSome, IsTrue, false, chars, drop, length, option_map, slice_get, string_bytes};
+ghost use Rattle.std.specs.Prelude.{◌≡◌, ◌+◌, ◌*◌, ◌<◌, ◌≤◌, ◌^◌, ◌&&◌, ℕ, List, true, not, Some, Ok, IfOk, IfNone, IfSome, IsTrue, OnOk, false, chars, drop, length, option_copied, option_map, slice_get, string_bytes};
 ghost use Rattle.ft_op.specs.WellFormed.{IsWellFormed};
+ghost use Rattle.ft_json.specs.Readers.{Reads};
+ghost use Rattle.ft_sumdoc.specs.Summary.{summary};
 ghost use Rattle.ft_sumdoc.specs.Valid.{IsValidSummary};
 ghost use Rattle.ft_msg.specs.declared.messages.Draft.{Draft};
 ghost use Rattle.ft_msg.specs.declared.messages.Message.{Message};
@@ -12,15 +14,17 @@ ghost use Rattle.ft_msg.specs.Process.{process};
 ghost use Rattle.ft_msg.specs.Reached.{IsReached};
 ghost use Rattle.ft_msg.specs.WellFormed.{HasNumbersInRange, IsWellFormedDraft, IsWellFormedMessage};
 ghost use Rattle.ft_seqr.specs.declared.refusals.Refusal.TheVariants.{NotConnected};
+ghost use Rattle.ft_seqr.specs.EventReader.{ReadsEvent};
 ghost use Rattle.ft_seqr.specs.Refusals.{refusal_of_process};
 ghost use Rattle.ft_seqr.specs.WellFormedEvent.{IsWellFormedEvent};
 ghost use Rattle.ft_seqr.specs.World.{body_load, op_load};
 ghost use Rattle.ft_replay.specs.LineForm.{bytes_of};
-ghost use Rattle.ft_replay.specs.Observation.{names_with, numbered_entry};
+ghost use Rattle.ft_replay.specs.Observation.{names_with, numbered_entry, sender_number};
 ghost use Rattle.ft_door.specs.Editors.{EditorState, AnswersStep, IsEditor, NaiveEditor, TellsStep, call_exceeds, call_step, connect_as, connect_line, draft_bytes, drop_step, dropped_unless, edit_event, edit_exceeds, edit_line, edit_line_exceeds, edited, edited_op, editor_of, is_awaited_by, is_join, is_offline, is_sender, joining_as, load_limit, load_line, load_line_exceeds, load_of, load_reading, load_reading_exceeds, message_exceeds, message_refusal, name_limit, never_exceeds, new_editor, next_exceeds, no_name, oldest_bytes, process_line, process_line_exceeds, shown_lines, shown_link, take_message, take_next, told_of, waits_after, with_queue};
 
 use crate::calls::{Call, Told};
 use crate::giving::{begin_join, give_edit, give_entry, lose_link, order_fault};
+use ft_base::moved::both;
 use ft_base::{Datum, OutOfMemory, Text};
 use ft_laws_sessions::formed::reads_are_well_formed;
 use ft_msg::{
@@ -28,12 +32,13 @@ use ft_msg::{
     ViewFault, read_message, write_draft,
 };
 use ft_op::ChannelOp;
-use ft_replay::{client_text, number_sender, table_of};
+use ft_replay::{client_text, table_of};
 use ft_seqr::{Event, Refusal, read_event};
 use ft_session::{body_load, op_load};
 use ft_sumdoc::{SumDoc, SumFault, read_summary};
 use std::alloc::Global;
 use std::marker::Model;
+use std::mem;
 
 // How many names there may be before the next message: a number has 32 bits.
 const NAME_LIMIT: u64 = 4_294_967_295;
@@ -74,13 +79,12 @@ impl<R: Replica + Drop> Parts<R> {
     pub fn new(alloc: Global) -> Result<Parts<R>, OutOfMemory>
         ensures { IfOk result (λ a. IsEditor a new_editor) }
     {
-        let name = Text::new(alloc, "")?;
-        let replica = R::start(alloc)?;
-        let names = Names::new(alloc);
+        let name = Text::new(alloc, "");
+        let (name, replica) = both(name, R::start(alloc))?;
         Ok(Parts {
             alloc,
             replica,
-            names,
+            names: Names::new(alloc),
             name,
             waits: false,
             load: 0,
@@ -140,23 +144,32 @@ impl<R: Replica + Drop> Parts<R> {
     fn edit(&mut self, line: &[u8]) -> Result<Told, OutOfMemory>
         ensures { IfOk result (λ told. TellsStep told self.old self.new (edit_line line.now) (edit_line_exceeds line.now)) }
     {
-        match read_event(self.alloc, line) {
-            Ok(event) => {
-                reads_are_well_formed();
-                self.take_event(event)
-            }
+        reads_are_well_formed();
+        let read = read_event(self.alloc, line);
+        let told = self.take_read(&read);
+        drop(read);
+        told
+    }
+
+    // Takes the event that a line is, if it is one, which is to be an edit.
+    fn take_read(&mut self, read: &Result<Event, Refusal>) -> Result<Told, OutOfMemory>
+        requires { IfOk read.now IsWellFormedEvent }
+        ensures { (line : List ℕ) → ReadsEvent line read.now → IfOk result (λ told. TellsStep told self.old self.new (edit_line line) (edit_line_exceeds line)) }
+    {
+        match read {
+            Ok(event) => self.take_event(event),
             Err(Refusal::OutOfMemory) => Err(OutOfMemory),
-            Err(refusal) => Ok(Told::Refused(refusal)),
+            Err(refusal) => Ok(Told::Refused(*refusal)),
         }
     }
 
     // Takes an event, which is to be an edit.
-    fn take_event(&mut self, event: Event) -> Result<Told, OutOfMemory>
-        requires { IsWellFormedEvent event }
-        ensures { IfOk result (λ told. TellsStep told self.old self.new (λ x. edit_event x (edited_op event)) (λ x. edit_exceeds x (edited_op event))) }
+    fn take_event(&mut self, event: &Event) -> Result<Told, OutOfMemory>
+        requires { IsWellFormedEvent event.now }
+        ensures { IfOk result (λ told. TellsStep told self.old self.new (λ x. edit_event x (edited_op event.now)) (λ x. edit_exceeds x (edited_op event.now))) }
     {
         match edited_op(event) {
-            Some(op) => self.take_edit(&op),
+            Some(op) => self.take_edit(op),
             None => Ok(Told::Refused(Refusal::Malformed(Cause::UnknownWord))),
         }
     }
@@ -189,21 +202,33 @@ impl<R: Replica + Drop> Parts<R> {
         ensures { IfOk result (λ told. TellsStep told self.old self.new (process_line line.now) (process_line_exceeds line.now)) }
     {
         match read_message(self.alloc, line) {
-            Ok(msg) => self.take_message(msg),
+            Ok(msg) => self.take_whole(msg),
             Err(Cause::OutOfMemory) => Err(OutOfMemory),
             Err(cause) => Ok(Told::Refused(Refusal::of_cause(cause))),
         }
     }
 
-    // Takes a message.
-    fn take_message(&mut self, msg: Message) -> Result<Told, OutOfMemory>
+    // Takes a message, which is done with.
+    fn take_whole(&mut self, msg: Message) -> Result<Told, OutOfMemory>
         requires formed { IsWellFormedMessage msg }
         requires in_range { HasNumbersInRange msg }
         ensures { IfOk result (λ told. TellsStep told self.old self.new (λ x. take_message x msg) (λ x. message_exceeds x msg)) }
     {
-        let refusal = self.order_refusal(&msg)?;
+        let mut entry = Entry { msg, origin: 0 };
+        let told = self.take_message(&mut entry);
+        drop(entry);
+        told
+    }
+
+    // Takes a message, whose entry gets the number of its sender.
+    fn take_message(&mut self, entry: &mut Entry) -> Result<Told, OutOfMemory>
+        requires formed { IsWellFormedMessage entry.old.msg }
+        requires in_range { HasNumbersInRange entry.old.msg }
+        ensures { IfOk result (λ told. TellsStep told self.old self.new (λ x. take_message x entry.old.msg) (λ x. message_exceeds x entry.old.msg)) }
+    {
+        let refusal = self.order_refusal(&entry.msg)?;
         match refusal {
-            None => self.take_next(msg),
+            None => self.take_next(entry),
             Some(why) => Ok(Told::Refused(why)),
         }
     }
@@ -219,13 +244,13 @@ impl<R: Replica + Drop> Parts<R> {
     }
 
     // Takes the next message.
-    fn take_next(&mut self, msg: Message) -> Result<Told, OutOfMemory>
-        requires { IsWellFormedMessage msg }
-        ensures { IfOk result (λ told. TellsStep told self.old self.new (λ x. take_next x msg) (λ x. next_exceeds x msg.body)) }
+    fn take_next(&mut self, entry: &mut Entry) -> Result<Told, OutOfMemory>
+        requires { IsWellFormedMessage entry.old.msg }
+        ensures { IfOk result (λ told. TellsStep told self.old self.new (λ x. take_next x entry.old.msg) (λ x. next_exceeds x entry.old.msg.body)) }
     {
-        let found = self.load_after(&msg.body)?;
+        let found = self.load_after(&entry.msg.body)?;
         match found {
-            Some(load) => self.take_at(msg, load),
+            Some(load) => self.take_at(entry, load),
             None => Ok(Told::Full),
         }
     }
@@ -243,16 +268,17 @@ impl<R: Replica + Drop> Parts<R> {
     }
 
     // Takes the next message, with which the load is this.
-    fn take_at(&mut self, msg: Message, load: u64) -> Result<Told, OutOfMemory>
-        requires formed { IsWellFormedMessage msg }
+    fn take_at(&mut self, entry: &mut Entry, load: u64) -> Result<Told, OutOfMemory>
+        requires formed { IsWellFormedMessage entry.old.msg }
         requires room { length self.old.names < name_limit }
-        requires sum { load ≡ self.old.load + (1 + body_load msg.body) }
+        requires sum { load ≡ self.old.load + (1 + body_load entry.old.msg.body) }
         requires low { load ≤ load_limit }
-        ensures { IfOk result (λ told. TellsStep told self.old self.new (λ x. take_next x msg) (λ x. next_exceeds x msg.body)) }
+        ensures { IfOk result (λ told. TellsStep told self.old self.new (λ x. take_next x entry.old.msg) (λ x. next_exceeds x entry.old.msg.body)) }
     {
-        let joins = is_awaited(self.waits, &msg, &self.name);
-        let entry = number_sender(&mut self.names, msg)?;
-        self.take_entry(&entry, joins, load)
+        let joins = is_awaited(self.waits, &entry.msg, &self.name);
+        let origin = sender_number(&mut self.names, &entry.msg.client_id)?;
+        entry.origin = origin;
+        self.take_entry(entry, joins, load)
     }
 
     // Takes an entry whose sender has its number, and which is the join that it waits for, or isn't.
@@ -314,10 +340,23 @@ impl<R: Replica + Drop> Parts<R> {
     fn load(&mut self, line: &[u8]) -> Result<Told, OutOfMemory>
         ensures { IfOk result (λ told. TellsStep told self.old self.new (load_line line.now) (load_line_exceeds line.now)) }
     {
-        match read_summary(self.alloc, line) {
-            Ok(sum) => self.start_from(&sum),
+        let read = read_summary(self.alloc, line);
+        let told = self.load_read(&read);
+        drop(read);
+        told
+    }
+
+    // Starts anew, from the summary that bytes are, if they are one.
+    fn load_read(&mut self, read: &Result<SumDoc, SumFault>) -> Result<Told, OutOfMemory>
+        requires valid { IfOk read.now IsValidSummary }
+        requires few { IfOk read.now (λ sum. length sum.conns < 2 ^ 32) }
+        ensures { (line : List ℕ) → Reads SumFault.OutOfMemory (summary line) IsValidSummary read.now
+            → IfOk result (λ told. TellsStep told self.old self.new (load_line line) (load_line_exceeds line)) }
+    {
+        match read {
+            Ok(sum) => self.start_from(sum),
             Err(SumFault::OutOfMemory) => Err(OutOfMemory),
-            Err(fault) => Ok(Told::Refused(Refusal::Summary(fault))),
+            Err(fault) => Ok(Told::Refused(Refusal::Summary(*fault))),
         }
     }
 
@@ -342,9 +381,9 @@ impl<R: Replica + Drop> Parts<R> {
             → IfOk result (λ told. TellsStep told self.old self.new (λ x. load_reading x (Ok sum.now)) (λ x. load_reading_exceeds (Ok sum.now))) }
     {
         let alloc = self.alloc;
-        let names = table_of(alloc, &sum.conns)?;
-        let name = Text::new(alloc, "")?;
-        *self = Parts {
+        let table = table_of(alloc, &sum.conns);
+        let (names, name) = both(table, Text::new(alloc, ""))?;
+        let parts = Parts {
             alloc,
             replica,
             names,
@@ -352,6 +391,7 @@ impl<R: Replica + Drop> Parts<R> {
             waits: false,
             load,
         };
+        drop(mem::replace(self, parts));
         Ok(Told::Taken)
     }
 
@@ -363,7 +403,9 @@ impl<R: Replica + Drop> Parts<R> {
         let mut view = view;
         let link = shown_link(self.waits, view.numbers.link);
         view.numbers.link = link;
-        client_text(self.alloc, &self.name, &view)
+        let text = client_text(self.alloc, &self.name, &view);
+        drop(view);
+        text
     }
 }
 
@@ -374,6 +416,20 @@ fn fault_refusal(number: u64, fault: Option<ProcessFault>) -> Option<Refusal>
     match fault {
         None => None,
         Some(fault) => Some(Refusal::of_process(number, fault)),
+    }
+}
+
+// The number of the connection with this name, a new one where it has none yet; 0 for no name.
+//
+// Returns `OutOfMemory` where there is no room for a new name.
+fn sender_number(names: &mut Names, sender: &Option<Text>) -> Result<u32, OutOfMemory>
+    requires { length names.old < name_limit }
+    ensures ok { IfOk result (λ number. number ≡ sender_number names.old sender.now) }
+    ensures names { OnOk result (names.new ≡ names_with names.old sender.now) }
+{
+    match sender {
+        Some(name) => names.number(name),
+        None => Ok(0),
     }
 }
 
@@ -444,8 +500,8 @@ fn waits_after(refusal: Option<Refusal>, waits: bool, joins: bool) -> bool
 }
 
 // The operation of the event, if it is an edit.
-fn edited_op(event: Event) -> Option<ChannelOp>
-    ensures { result ≡ edited_op event }
+fn edited_op(event: &Event) -> Option<&ChannelOp>
+    ensures { option_copied result ≡ edited_op event.now }
 {
     if let Event::Edit { op, .. } = event {
         Some(op)

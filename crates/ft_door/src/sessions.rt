@@ -59,7 +59,7 @@ impl<R: Replica + Drop> HeldSession<R> {
         };
         session_pieces();
         if session.is_full() {
-            self.session = Some(session);
+            drop(self.session.replace(session));
             return TOO_LONG;
         }
         self.hear_more(session, line)
@@ -108,7 +108,7 @@ impl<R: Replica + Drop> HeldSession<R> {
         match session.hear(line, &mut self.waiting) {
             Ok(session) => {
                 let status = status_of(before, session.refused());
-                self.session = Some(session);
+                drop(self.session.replace(session));
                 status
             }
             Err(_) => OUT_OF_MEMORY,

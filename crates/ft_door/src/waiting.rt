@@ -1,6 +1,6 @@
 //! What was written and waits to be read.
 
-ghost use Rattle.std.specs.Prelude.{◌≡◌, ◌<◌, ◌≤◌, [], ◌++◌, OnErr, OnOk, drop, length, take};
+ghost use Rattle.std.specs.Prelude.{◌≡◌, ◌<◌, ◌≤◌, ℕ, List, [], ◌++◌, IfOk, OnErr, OnOk, drop, length, string_bytes, take};
 
 use ft_base::OutOfMemory;
 use ft_io::{Failed, Sink};
@@ -37,6 +37,20 @@ impl Waiting {
     {
         self.bytes.extend_from_slice(bytes)?;
         Ok(())
+    }
+
+    /// Puts the bytes of a text behind those that wait, if it was made.
+    ///
+    /// Returns `OutOfMemory` where it wasn't, or there is no room for it, and then none is put there.
+    pub fn push_made(&mut self, made: &Result<String, OutOfMemory>) -> Result<(), OutOfMemory>
+        ensures ok { (bytes : List ℕ) → IfOk made.now (λ text. string_bytes text ≡ bytes)
+            → OnOk result (drop self.new.taken self.new.bytes.items ≡ drop self.old.taken self.old.bytes.items ++ bytes) }
+        ensures err { OnErr result (drop self.new.taken self.new.bytes.items ≡ drop self.old.taken self.old.bytes.items) }
+    {
+        match made {
+            Ok(text) => self.push(text.as_bytes()),
+            Err(_) => Err(OutOfMemory),
+        }
     }
 
     /// How many bytes wait.

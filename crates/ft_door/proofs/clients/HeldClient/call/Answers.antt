@@ -10,7 +10,7 @@ returns-in-Ok g c =
     let exceeds = call_exceeds c.args.call c.args.bytes.now in
     let same : Some c.in-Some.client ≡ c.args.self.now.client = (cc) in
     subst (λ client. CallsClient step exceeds (record c.args.self.now { client = client }) c.settle.new.self c.settle.result) same
-    (c.settle.ensures c.in-Some.client step exceeds c.in-Ok.ensures)
+    (c.settle.ensures c.in-Some.client c.in-Ok.client step exceeds c.replace.ensures.after c.in-Ok.ensures)
 
 pub returns-in-Err : goal.returns-in-Err
 returns-in-Err g c =

@@ -9,9 +9,9 @@ use Rattle.ft_door.proofs.parts.Parts.process.Goals as goal
 
 pub returns-in-Ok : goal.returns-in-Ok
 returns-in-Ok g c =
-    subst (λ (r : Result Message Cause). IfOk c.take_message.result (λ told. TellsStep told c.args.self.now c.take_message.new.self (λ x. message_reading x r)
+    subst (λ (r : Result Message Cause). IfOk c.take_whole.result (λ told. TellsStep told c.args.self.now c.take_whole.new.self (λ x. message_reading x r)
     (λ x. message_reading_exceeds x r)))
-    (sym c.in-Ok.ensures.reads.ok) c.take_message.ensures
+    (sym c.in-Ok.ensures.reads.ok) c.take_whole.ensures
 
 pub returns-in-Err : goal.returns-in-Err
 returns-in-Err g c =

@@ -14,4 +14,4 @@ returns-in-Some g c =
 
 pub returns-in-None : goal.returns-in-None
 returns-in-None g c =
-    refused-told (Malformed UnknownWord) c.args.self.now (λ x. edit_event x (edited_op c.args.event)) (λ x h. ap (edit_event x) (sym c.in-None.ensures))
+    refused-told (Malformed UnknownWord) c.args.self.now (λ x. edit_event x (edited_op c.args.event.now)) (λ x h. ap (edit_event x) (sym c.in-None.ensures))
