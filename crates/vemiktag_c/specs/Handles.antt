@@ -4,6 +4,8 @@ use Rattle.ft_door.specs.Clients.{IsNew, ReadsClient, unread_by}
 use Rattle.ft_door.specs.Runs.{ClosesSession, HearsLine, ReadsReport, Stands, unread_of}
 use Rattle.vemiktag_c.specs.declared.runs.ClientRun.{ClientRun}
 use Rattle.vemiktag_c.specs.declared.handles.Handle.{Handle}
+use Rattle.vemiktag_c.specs.declared.asks.Role.{Role}
+use Rattle.vemiktag_c.specs.Asks.{IsNewAs}
 use Rattle.vemiktag_c.specs.Opening.{open_run}
 
 -- the run that a handle holds, where it is open
@@ -72,3 +74,9 @@ freed_status (Some run) = 0
 pub record Frees (old new : Handle) (status : ℕ) : Type 0 where
   pub closed : held_run new ≡ None
   pub told : status ≡ freed_status (held_run old)
+
+-- a run was opened as this; without memory there is none
+pub record OpensAs (role : Role) (new : Handle) (status : ℕ) : Type 0 where
+  pub opened : status ≡ 0 → (r : ClientRun) × (held_run new ≡ Some r) × IsNewAs role r.session r.client
+  pub none : status ≡ 5 → held_run new ≡ None
+  pub known : IsTrue (nat_eq status 0 || nat_eq status 5)

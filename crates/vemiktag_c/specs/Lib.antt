@@ -1,3 +1,4 @@
+pub mod Asks
 pub mod Handles
 pub mod Holding
 pub mod Opening

@@ -4,6 +4,7 @@ ghost use Rattle.std.specs.Prelude.{◌≡◌, false, true, IsSome, IsTrue, None
 ghost use Rattle.vemiktag_c.specs.Opening.{open_run};
 
 use crate::held::Held;
+use crate::loose::Loose;
 use crate::runs::ClientRun;
 use std::alloc::Global;
 use std::mem::replace;
@@ -23,7 +24,7 @@ impl Handle {
         ensures { open_run result.is_open result.held.run ≡ Some run.value }
     {
         Handle {
-            held: Held::of(run),
+            held: Held::hide(Loose::of(run)),
             is_open: true,
         }
     }
@@ -44,6 +45,10 @@ impl Handle {
         ensures run { option_map (λ b. b.value) result ≡ open_run self.old.is_open self.old.held.run }
     {
         let Handle { held, is_open } = replace(self, Handle::closed(alloc));
-        if is_open { Some(held.into_box()) } else { None }
+        if is_open {
+            Some(held.show().whole())
+        } else {
+            None
+        }
     }
 }

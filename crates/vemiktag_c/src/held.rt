@@ -37,23 +37,8 @@ impl Held {
         }
     }
 
-    /// The run of a box.
-    pub fn of(run: Box<ClientRun>) -> Held
-        ensures { result.run ≡ Some run.value }
-    {
-        Held::hide(Loose::of(run))
-    }
-
-    /// The box again.
-    pub fn into_box(self) -> Box<ClientRun>
-        requires { IsSome self.run }
-        ensures { self.run ≡ Some result.value }
-    {
-        self.show().whole()
-    }
-
-    // The run of a box that is taken apart.
-    fn hide(loose: Loose<ClientRun, Global>) -> Held
+    /// The run of a box that is taken apart.
+    pub fn hide(loose: Loose<ClientRun, Global>) -> Held
         ensures { result.run ≡ Some loose.value }
     {
         let Loose { at, alloc } = loose;
@@ -63,8 +48,8 @@ impl Held {
         }
     }
 
-    // The box taken apart again.
-    fn show(self) -> Loose<ClientRun, Global>
+    /// The box taken apart again.
+    pub fn show(self) -> Loose<ClientRun, Global>
         requires { IsSome self.run }
         ensures { self.run ≡ Some result.value }
     {

@@ -1,24 +1,27 @@
-//! Vemiktag for C and for what can call C: the functions that `include/vemiktag.h` declares, a call of `ft_door` each.
+//! Vemiktag for C and for what can call C: the functions that `include/vemiktag.h` declares. `vemiktag_report` is a call of
+//! `ft_report`, and each other one a call of `ft_door`.
 //!
 //! A session and a client are structs that C holds. Each call of a closed one returns `CLOSED`, and changes nothing.
 #![tactic(auto)]
 
 ghost use Rattle.std.specs.Prelude.{[], IfOk};
-ghost use Rattle.ft_door.specs.Clients.{CallsClient, IsNew, SendsDraft, ShowsClient};
+ghost use Rattle.ft_door.specs.Clients.{CallsClient, SendsDraft, ShowsClient};
 ghost use Rattle.ft_door.specs.Editors.{call_exceeds, call_step};
 ghost use Rattle.ft_report.specs.Reports.{Tells};
-ghost use Rattle.ft_door.specs.Runs.{Stands};
-ghost use Rattle.vemiktag_c.specs.Handles.{Calls, Closes, Frees, Hears, Opens, OpensClient, ReadsOn, ReadsOnClient, WaitsOn, held_run};
+ghost use Rattle.vemiktag_c.specs.Asks.{Answers, Counts, IsNewAs};
+ghost use Rattle.vemiktag_c.specs.Handles.{Calls, Closes, Frees, Hears, Opens, OpensAs, OpensClient, ReadsOn, ReadsOnClient, WaitsOn, client_waiting, held_run, waiting};
 
+mod asks;
 mod handles;
 mod held;
 mod loose;
 mod runs;
 
+use asks::{Ask, Role, answer, new_parts};
 use ft_base::OutOfMemory;
 use ft_client::Client;
+use ft_door::Call;
 use ft_door::sessions::CLOSED;
-use ft_door::{Call, HeldClient, HeldSession};
 use ft_report::{DONE, OUT_OF_MEMORY, report_into};
 use handles::Handle;
 use runs::ClientRun;
@@ -49,14 +52,7 @@ pub extern "C" fn vemiktag_report(
 pub extern "C" fn vemiktag_session_new(alloc: Global, session: &mut Handle) -> u32
     ensures { Opens session.new result }
 {
-    drop(session.take(alloc));
-    match opened_session(alloc) {
-        Ok(run) => {
-            *session = Handle::open(run);
-            DONE
-        }
-        Err(OutOfMemory) => OUT_OF_MEMORY,
-    }
+    opened(alloc, session, Role::Session)
 }
 
 /// Gives the session a line, without its LF; `count` is how many bytes of its report wait then to be read.
@@ -72,14 +68,7 @@ pub extern "C" fn vemiktag_session_line(
 ) -> u32
     ensures { Hears session.old session.new line.now count.new result }
 {
-    *count = 0;
-    let Some(mut held) = session.take(alloc) else {
-        return CLOSED;
-    };
-    let status = held.session.hear(line);
-    *count = held.session.unread();
-    *session = Handle::open(held);
-    status
+    asked(alloc, session, Ask::Line, line, &mut [], count)
 }
 
 /// Puts the last lines behind what waits to be read; the session takes no more lines then. `count` is how many bytes wait.
@@ -94,14 +83,7 @@ pub extern "C" fn vemiktag_session_close(
 ) -> u32
     ensures { Closes session.old session.new count.new result }
 {
-    *count = 0;
-    let Some(mut held) = session.take(alloc) else {
-        return CLOSED;
-    };
-    let status = held.session.close();
-    *count = held.session.unread();
-    *session = Handle::open(held);
-    status
+    asked(alloc, session, Ask::Close, &[], &mut [], count)
 }
 
 /// Reads the next bytes of the report into the first of `report`, as many as it has room for; `count` is how many.
@@ -116,13 +98,7 @@ pub extern "C" fn vemiktag_session_read(
 ) -> u32
     ensures { ReadsOn session.old session.new report.new count.new result }
 {
-    *count = 0;
-    let Some(mut held) = session.take(alloc) else {
-        return CLOSED;
-    };
-    *count = held.session.read(report);
-    *session = Handle::open(held);
-    DONE
+    asked(alloc, session, Ask::ReadReport, &[], report, count)
 }
 
 /// Frees what the session holds: it is closed then.
@@ -148,14 +124,7 @@ pub extern "C" fn vemiktag_session_free(alloc: Global, session: &mut Handle) -> 
 pub extern "C" fn vemiktag_client_new(alloc: Global, client: &mut Handle) -> u32
     ensures { OpensClient client.new result }
 {
-    drop(client.take(alloc));
-    match opened_client(alloc) {
-        Ok(run) => {
-            *client = Handle::open(run);
-            DONE
-        }
-        Err(OutOfMemory) => OUT_OF_MEMORY,
-    }
+    opened(alloc, client, Role::Client)
 }
 
 /// The client starts anew, from the summary that these bytes are. What it had is gone.
@@ -167,7 +136,14 @@ pub extern "C" fn vemiktag_client_new(alloc: Global, client: &mut Handle) -> u32
 pub extern "C" fn vemiktag_client_load(alloc: Global, client: &mut Handle, summary: &[u8]) -> u32
     ensures { Calls (λ a b s. CallsClient (call_step Call.Load summary.now) (call_exceeds Call.Load summary.now) a.client b.client s) (held_run client.old) (held_run client.new) result }
 {
-    called(alloc, client, Call::Load, summary)
+    asked(
+        alloc,
+        client,
+        Ask::Call(Call::Load),
+        summary,
+        &mut [],
+        &mut 0,
+    )
 }
 
 /// The client waits for the join of the connection of this name, from which on it is online.
@@ -178,7 +154,14 @@ pub extern "C" fn vemiktag_client_load(alloc: Global, client: &mut Handle, summa
 pub extern "C" fn vemiktag_client_connect(alloc: Global, client: &mut Handle, name: &[u8]) -> u32
     ensures { Calls (λ a b s. CallsClient (call_step Call.Connect name.now) (call_exceeds Call.Connect name.now) a.client b.client s) (held_run client.old) (held_run client.new) result }
 {
-    called(alloc, client, Call::Connect, name)
+    asked(
+        alloc,
+        client,
+        Ask::Call(Call::Connect),
+        name,
+        &mut [],
+        &mut 0,
+    )
 }
 
 /// The client has no connection any more: its drafts that aren't sent are gone, its edits stay pending.
@@ -188,7 +171,7 @@ pub extern "C" fn vemiktag_client_connect(alloc: Global, client: &mut Handle, na
 pub extern "C" fn vemiktag_client_drop(alloc: Global, client: &mut Handle) -> u32
     ensures { Calls (λ a b s. CallsClient (call_step Call.Drop []) (call_exceeds Call.Drop []) a.client b.client s) (held_run client.old) (held_run client.new) result }
 {
-    called(alloc, client, Call::Drop, &[])
+    asked(alloc, client, Ask::Call(Call::Drop), &[], &mut [], &mut 0)
 }
 
 /// The client takes an edit of its own, which is the text of an event `edit`; the `client` in there is passed over.
@@ -199,7 +182,7 @@ pub extern "C" fn vemiktag_client_drop(alloc: Global, client: &mut Handle) -> u3
 pub extern "C" fn vemiktag_client_edit(alloc: Global, client: &mut Handle, edit: &[u8]) -> u32
     ensures { Calls (λ a b s. CallsClient (call_step Call.Edit edit.now) (call_exceeds Call.Edit edit.now) a.client b.client s) (held_run client.old) (held_run client.new) result }
 {
-    called(alloc, client, Call::Edit, edit)
+    asked(alloc, client, Ask::Call(Call::Edit), edit, &mut [], &mut 0)
 }
 
 /// The client takes the next message of the order, which is the text of one.
@@ -209,7 +192,14 @@ pub extern "C" fn vemiktag_client_edit(alloc: Global, client: &mut Handle, edit:
 pub extern "C" fn vemiktag_client_process(alloc: Global, client: &mut Handle, message: &[u8]) -> u32
     ensures { Calls (λ a b s. CallsClient (call_step Call.Process message.now) (call_exceeds Call.Process message.now) a.client b.client s) (held_run client.old) (held_run client.new) result }
 {
-    called(alloc, client, Call::Process, message)
+    asked(
+        alloc,
+        client,
+        Ask::Call(Call::Process),
+        message,
+        &mut [],
+        &mut 0,
+    )
 }
 
 /// Puts the line of the client's oldest draft that isn't sent behind what waits to be read; it counts as sent then.
@@ -220,12 +210,7 @@ pub extern "C" fn vemiktag_client_process(alloc: Global, client: &mut Handle, me
 pub extern "C" fn vemiktag_client_outgoing(alloc: Global, client: &mut Handle) -> u32
     ensures { Calls (λ a b s. SendsDraft a.client b.client s) (held_run client.old) (held_run client.new) result }
 {
-    let Some(mut held) = client.take(alloc) else {
-        return CLOSED;
-    };
-    let status = held.client.outgoing();
-    *client = Handle::open(held);
-    status
+    asked(alloc, client, Ask::Outgoing, &[], &mut [], &mut 0)
 }
 
 /// Puts the lines of what the client shows behind what waits to be read.
@@ -235,12 +220,7 @@ pub extern "C" fn vemiktag_client_outgoing(alloc: Global, client: &mut Handle) -
 pub extern "C" fn vemiktag_client_view(alloc: Global, client: &mut Handle) -> u32
     ensures { Calls (λ a b s. ShowsClient a.client b.client s) (held_run client.old) (held_run client.new) result }
 {
-    let Some(mut held) = client.take(alloc) else {
-        return CLOSED;
-    };
-    let status = held.client.view();
-    *client = Handle::open(held);
-    status
+    asked(alloc, client, Ask::View, &[], &mut [], &mut 0)
 }
 
 /// Tells how many bytes wait to be read.
@@ -254,13 +234,7 @@ pub extern "C" fn vemiktag_client_waiting(
 ) -> u32
     ensures { WaitsOn client.old client.new count.new result }
 {
-    *count = 0;
-    let Some(held) = client.take(alloc) else {
-        return CLOSED;
-    };
-    *count = held.client.unread();
-    *client = Handle::open(held);
-    DONE
+    asked(alloc, client, Ask::Waiting, &[], &mut [], count)
 }
 
 /// Reads the next bytes that wait into the first of `told`, as many as it has room for; `count` is how many.
@@ -275,13 +249,7 @@ pub extern "C" fn vemiktag_client_read(
 ) -> u32
     ensures { ReadsOnClient client.old client.new told.new count.new result }
 {
-    *count = 0;
-    let Some(mut held) = client.take(alloc) else {
-        return CLOSED;
-    };
-    *count = held.client.read(told);
-    *client = Handle::open(held);
-    DONE
+    asked(alloc, client, Ask::ReadTold, &[], told, count)
 }
 
 /// Frees what the client holds: it is closed then.
@@ -294,32 +262,46 @@ pub extern "C" fn vemiktag_client_free(alloc: Global, client: &mut Handle) -> u3
     vemiktag_session_free(alloc, client)
 }
 
-// Does this with the client.
-fn called(alloc: Global, client: &mut Handle, call: Call, bytes: &[u8]) -> u32
-    ensures { Calls (λ a b s. CallsClient (call_step call bytes.now) (call_exceeds call bytes.now) a.client b.client s) (held_run client.old) (held_run client.new) result }
+// Asks this of the run of a handle, with these bytes, and room for what is read. A closed one answers `CLOSED`, and `count` is 0.
+fn asked(
+    alloc: Global,
+    handle: &mut Handle,
+    ask: Ask,
+    bytes: &[u8],
+    room: &mut [u8],
+    count: &mut usize,
+) -> u32
+    ensures run { Calls (λ a b s. Answers ask bytes.now a.session a.client b.session b.client room.new count.new s) (held_run handle.old) (held_run handle.new) result }
+    ensures count { Counts ask (waiting (held_run handle.new)) (client_waiting (held_run handle.new)) room.new count.new }
 {
-    let Some(mut held) = client.take(alloc) else {
+    *count = 0;
+    let Some(mut held) = handle.take(alloc) else {
         return CLOSED;
     };
-    let status = held.client.call(call, bytes);
-    *client = Handle::open(held);
+    let ClientRun { session, client } = &mut *held;
+    let status = answer(session, client, ask, bytes, room, count);
+    *handle = Handle::open(held);
     status
 }
 
-// A session before its first line.
-fn opened_session(alloc: Global) -> Result<Box<ClientRun>, OutOfMemory>
-    ensures { IfOk result (λ b. Stands b.value.session [] []) }
+// Opens the handle as this. A run that it had is freed first.
+fn opened(alloc: Global, handle: &mut Handle, role: Role) -> u32
+    ensures { OpensAs role handle.new result }
 {
-    let session = HeldSession::new(alloc)?;
-    let client = HeldClient::ended(alloc);
-    Ok(Box::new(alloc, ClientRun { session, client })?)
+    vemiktag_session_free(alloc, handle);
+    match new_run(alloc, role) {
+        Ok(run) => {
+            *handle = Handle::open(run);
+            DONE
+        }
+        Err(OutOfMemory) => OUT_OF_MEMORY,
+    }
 }
 
-// A new client.
-fn opened_client(alloc: Global) -> Result<Box<ClientRun>, OutOfMemory>
-    ensures { IfOk result (λ b. IsNew b.value.client) }
+// A run that is opened as this.
+fn new_run(alloc: Global, role: Role) -> Result<Box<ClientRun>, OutOfMemory>
+    ensures { IfOk result (λ b. IsNewAs role b.value.session b.value.client) }
 {
-    let client = HeldClient::new(alloc)?;
-    let session = HeldSession::ended(alloc);
+    let (session, client) = new_parts::<Client>(alloc, role)?;
     Ok(Box::new(alloc, ClientRun { session, client })?)
 }

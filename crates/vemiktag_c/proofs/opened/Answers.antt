@@ -1,5 +1,5 @@
 use Rattle.std.proofs.Common.{rules}
-use Rattle.vemiktag_c.proofs.vemiktag_session_new.Goals as goal
+use Rattle.vemiktag_c.proofs.opened.Goals as goal
 
 pub returns-in-Ok : goal.returns-in-Ok
 returns-in-Ok c = record {
