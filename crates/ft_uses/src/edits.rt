@@ -23,7 +23,7 @@ pub fn insert<R: Replica>(
         seg: Seg::Chars { text },
         props: PropSet::new(alloc),
     };
-    edit(client, &ChannelOp::Text(TextOp::One(op)))
+    edit(client, ChannelOp::Text(TextOp::One(op)))
 }
 
 /// Takes the characters from `pos1` up to before `pos2` away.
@@ -34,7 +34,7 @@ pub fn remove<R: Replica>(client: &mut R, pos1: u32, pos2: u32) -> Result<(), Fa
         pos1: u64::from(pos1),
         pos2: u64::from(pos2),
     };
-    edit(client, &ChannelOp::Text(TextOp::One(op)))
+    edit(client, ChannelOp::Text(TextOp::One(op)))
 }
 
 /// Puts a note on the characters from `first` to `last`.
@@ -58,13 +58,14 @@ pub fn note<R: Replica>(
         },
         props: PropSet::new(alloc),
     };
-    edit(client, &ChannelOp::Text(op))
+    edit(client, ChannelOp::Text(op))
 }
 
 // The client takes the edit.
-fn edit<R: Replica>(client: &mut R, op: &ChannelOp) -> Result<(), Fault>
-    requires { IsWellFormed op.now }
+fn edit<R: Replica>(client: &mut R, op: ChannelOp) -> Result<(), Fault>
+    requires { IsWellFormed op }
 {
-    client.edit(op)?;
-    Ok(())
+    let done = client.edit(&op);
+    drop(op);
+    Ok(done?)
 }

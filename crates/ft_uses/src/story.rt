@@ -26,17 +26,17 @@ fn play<R: Replica>(
     bob: &mut R,
 ) -> Result<(), Fault> {
     begin(alloc, server, ann, bob)?;
-    show_both(alloc, out, ann, bob)?;
+    show_both(out, ann, bob)?;
     type_at_once(alloc, ann, bob)?;
-    show_both(alloc, out, ann, bob)?;
+    show_both(out, ann, bob)?;
     exchange(server, ann, bob)?;
-    show_both(alloc, out, ann, bob)?;
+    show_both(out, ann, bob)?;
     note_cat(alloc, server, ann, bob)?;
-    show_both(alloc, out, ann, bob)?;
+    show_both(out, ann, bob)?;
     part(alloc, server, ann, bob)?;
-    show_both(alloc, out, ann, bob)?;
+    show_both(out, ann, bob)?;
     come_back(server, ann, bob)?;
-    show_both(alloc, out, ann, bob)
+    show_both(out, ann, bob)
 }
 
 // Both connect, and Ann types the first line.
@@ -102,7 +102,7 @@ fn exchange<R: Replica>(server: &mut Server, ann: &mut R, bob: &mut R) -> Result
 }
 
 // Writes what each shows.
-fn show_both<R: Replica>(alloc: Global, out: &mut String, ann: &R, bob: &R) -> Result<(), Fault> {
-    show(alloc, out, "ann", ann)?;
-    show(alloc, out, "bob", bob)
+fn show_both<R: Replica>(out: &mut String, ann: &R, bob: &R) -> Result<(), Fault> {
+    show(out, "ann", ann)?;
+    show(out, "bob", bob)
 }
