@@ -1,6 +1,6 @@
 //! Edits of a tree.
 
-ghost use Rattle.std.specs.Prelude.{◌≡◌, ◌<◌, ◌≤◌, IsTrue, OnOk};
+ghost use Rattle.std.specs.Prelude.{◌≡◌, ◌<◌, IsTrue, OnOk};
 ghost use Rattle.ft_tests_tree.specs.Playing.{Goes};
 ghost use Rattle.ft_tests_tree.specs.Passing.{Passes};
 
@@ -8,14 +8,11 @@ use crate::faults::StepFault;
 use crate::progress::Progress;
 use crate::texts::{erase, hear, strike, write};
 use ft_base::{Perspective, Steps};
-use ft_block::LenView;
+use ft_props::PropSet;
 use ft_tree::{TextContent, Tree};
 use std::alloc::Global;
 use std::marker::Brand;
 use std::sync::ledger::{Blank, Ledger};
-
-// The view of the client.
-const LOCAL: LenView = LenView::Stage(u64::MAX);
 
 /// What an edit does.
 #[derive(Clone, Copy)]
@@ -37,14 +34,6 @@ pub(crate) struct Edit<'a> {
     pub(crate) at: Perspective,
 }
 
-// Whether the perspective may be asked, and sees so many elements.
-fn may_be_made(tree: &Tree<TextContent>, count: u64, at: Perspective) -> bool
-    requires { IsTrue tree.now.usable }
-    ensures { IsTrue result → tree.now.floor ≤ at.r }
-{
-    at.r >= tree.floor() && count <= tree.length(LenView::At(at))
-}
-
 // Makes the edit, of that stage if it is the client's own, and tells whether it can be made.
 fn make<G: Ledger>(
     alloc: Global,
@@ -59,47 +48,18 @@ fn make<G: Ledger>(
     requires some { 0 < blank.parts }
     ensures { OnOk result (Passes tree.old tree.new) }
 {
-    make_counted(alloc, tree, edit, stage, &mut Steps::<G>::new(blank))
-}
-
-// The same, counted by these steps.
-fn make_counted<G: Ledger>(
-    alloc: Global,
-    tree: &mut Tree<TextContent>,
-    edit: &Edit,
-    stage: u64,
-    steps: &mut Steps<G>,
-) -> Result<bool, StepFault>
-    requires { IsTrue tree.old.usable }
-    ensures { OnOk result (Passes tree.old tree.new) }
-{
-    match edit.kind {
-        Kind::Insert => {
-            if !may_be_made(tree, edit.p, edit.at) {
-                return Ok(false);
-            }
-            hear(alloc, tree, edit.p, edit.text, edit.seq, edit.at, steps)?;
-        }
-        Kind::Write => {
-            if edit.p > tree.length(LOCAL) {
-                return Ok(false);
-            }
-            write(alloc, tree, edit.p, edit.text, stage, steps)?;
-        }
-        Kind::Remove => {
-            if edit.p > edit.q || !may_be_made(tree, edit.q, edit.at) {
-                return Ok(false);
-            }
-            strike(tree, edit.p, edit.q, edit.seq, edit.at, steps)?;
-        }
-        Kind::Erase => {
-            if edit.p > edit.q || edit.q > tree.length(LOCAL) {
-                return Ok(false);
-            }
-            erase(tree, edit.p, edit.q, stage, steps)?;
-        }
-    }
-    Ok(true)
+    let props = PropSet::new(alloc);
+    let mut steps = Steps::<G>::new(blank);
+    let made = match edit.kind {
+        Kind::Insert => hear(
+            alloc, tree, edit.p, edit.text, &props, edit.seq, edit.at, &mut steps,
+        ),
+        Kind::Write => write(alloc, tree, edit.p, edit.text, &props, stage, &mut steps),
+        Kind::Remove => strike(tree, edit.p, edit.q, edit.seq, edit.at, &mut steps),
+        Kind::Erase => erase(tree, edit.p, edit.q, stage, &mut steps),
+    };
+    drop(props);
+    made
 }
 
 /// Makes an edit, of the next stage if it is the client's own, and tells whether it can be made.

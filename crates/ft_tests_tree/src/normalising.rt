@@ -3,7 +3,6 @@
 ghost use Rattle.std.specs.Prelude.{◌≡◌, ◌++◌, ◌∷◌, [], IfOk, IsTrue, OnOk, true};
 ghost use Rattle.ft_base.specs.declared.stamps.Stamp.TheVariants.{Acked, Local};
 ghost use Rattle.ft_tests_tree.specs.Markers.{elements_of, marker_element, two_stages};
-ghost use Rattle.ft_rebase.specs.StageLists.{StandSideBySide};
 
 use crate::faults::StepFault;
 use crate::sights::{push_insertions, push_leaves};
@@ -55,8 +54,9 @@ fn add(alloc: Global, tree: &mut Tree<TextContent>, e: Element) -> Result<(), St
         return Err(StepFault::TooLarge);
     }
     let props = Props::new(alloc);
-    tree.append(TextContent::marker(7), &props, e)?;
-    Ok(())
+    let added = tree.append(TextContent::marker(7), &props, e);
+    drop(props);
+    Ok(added?)
 }
 
 // Puts in four markers: one, a removed one, one of stage 2 and one of stage 1.
@@ -73,16 +73,21 @@ fn fill(alloc: Global, tree: &mut Tree<TextContent>) -> Result<(), StepFault>
     Ok(())
 }
 
-// Adds the leaves, what is sent again of the stages 1 and 2, and the leaves once the tree is normalised.
-fn push_both(alloc: Global, tree: &mut Tree<TextContent>, out: &mut String) -> Result<(), StepFault>
+// Fills the tree, and adds its leaves, what is sent again of the stages 1 and 2, and the leaves once the tree is normalised.
+fn push_filled(
+    alloc: Global,
+    tree: &mut Tree<TextContent>,
+    out: &mut String,
+) -> Result<(), StepFault>
     requires usable { IsTrue tree.old.usable }
-    requires side { StandSideBySide (λ e. e.stamps) (elements_of tree.old) }
+    requires empty { elements_of tree.old ≡ [] }
 {
-    push_leaves(alloc, tree, out)?;
-    push_insertions(alloc, tree, 1, out)?;
-    push_insertions(alloc, tree, 2, out)?;
+    fill(alloc, tree)?;
+    push_leaves(tree, out)?;
+    push_insertions(tree, 1, out)?;
+    push_insertions(tree, 2, out)?;
     normalise(tree)?;
-    push_leaves(alloc, tree, out)
+    push_leaves(tree, out)
 }
 
 /// Adds the leaves of a tree whose two stages stand behind what was removed, what is sent again of these, and the leaves once
@@ -91,6 +96,5 @@ fn push_both(alloc: Global, tree: &mut Tree<TextContent>, out: &mut String) -> R
 /// Returns `OutOfMemory` where there is no room for it.
 pub(crate) fn push_normalised(alloc: Global, out: &mut String) -> Result<(), StepFault> {
     let mut tree = Tree::new(alloc);
-    fill(alloc, &mut tree)?;
-    push_both(alloc, &mut tree, out)
+    push_filled(alloc, &mut tree, out)
 }

@@ -114,7 +114,7 @@ fn take_step(
             compact(alloc, tree, progress, first, budget, out)
         }
         Some(Verb::Leaves) => {
-            push_leaves(alloc, tree, out)?;
+            push_leaves(tree, out)?;
             Ok(true)
         }
         Some(Verb::Normalise) => {

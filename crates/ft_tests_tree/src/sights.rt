@@ -8,36 +8,25 @@ use ft_arena::NodeId;
 use ft_base::{Element, OutOfMemory, Stamp};
 use ft_rebase::{Piece, regenerate};
 use ft_tree::{TextContent, Tree};
-use std::alloc::Global;
+use std::fmt::Write;
 
 /// Adds the line of a number behind a word.
-pub(crate) fn push_count(
-    alloc: Global,
-    word: &str,
-    count: u64,
-    out: &mut String,
-) -> Result<(), OutOfMemory> {
-    let line = format!(in alloc; "{word} {count}\n")?;
-    out.push_str(line.as_str())?;
-    Ok(())
+pub(crate) fn push_count(word: &str, count: u64, out: &mut String) -> Result<(), OutOfMemory> {
+    Ok(write!(out, "{word} {count}\n")?)
 }
 
 /// Adds a line for each leaf, and one for how many elements there are.
-pub(crate) fn push_leaves(
-    alloc: Global,
-    tree: &Tree<TextContent>,
-    out: &mut String,
-) -> Result<(), StepFault>
+pub(crate) fn push_leaves(tree: &Tree<TextContent>, out: &mut String) -> Result<(), StepFault>
     requires { IsTrue tree.now.usable }
 {
-    push_each(alloc, tree, out)?;
+    push_each(tree, out)?;
     let count = tree.elements()?.len() as u64;
-    push_count(alloc, "elements", count, out)?;
+    push_count("elements", count, out)?;
     Ok(())
 }
 
 // Adds a line for each leaf.
-fn push_each(alloc: Global, tree: &Tree<TextContent>, out: &mut String) -> Result<(), OutOfMemory>
+fn push_each(tree: &Tree<TextContent>, out: &mut String) -> Result<(), OutOfMemory>
     requires { IsTrue tree.now.usable }
 {
     let mut at = tree.first_leaf();
@@ -45,57 +34,44 @@ fn push_each(alloc: Global, tree: &Tree<TextContent>, out: &mut String) -> Resul
         let Some(id) = at else {
             return Ok(());
         };
-        push_leaf(alloc, tree, id, out)?;
+        push_leaf(tree, id, out)?;
         at = tree.next_leaf(id);
     }
     Ok(())
 }
 
 // Adds the line of a leaf: its node, its text (a marker is `*`), its insertion and its removals.
-fn push_leaf(
-    alloc: Global,
-    tree: &Tree<TextContent>,
-    id: NodeId,
-    out: &mut String,
-) -> Result<(), OutOfMemory>
+fn push_leaf(tree: &Tree<TextContent>, id: NodeId, out: &mut String) -> Result<(), OutOfMemory>
     requires usable { IsTrue tree.now.usable }
     requires live { IsLeafIn tree.now.leaves id }
 {
     let node = id.0;
     let text = tree.leaf_content(id).text().unwrap_or("*");
-    let head = format!(in alloc; "  {node} {text}")?;
-    out.push_str(head.as_str())?;
-    push_stamps(alloc, tree.leaf_element(id), out)
+    write!(out, "  {node} {text}")?;
+    push_stamps(tree.leaf_element(id), out)
 }
 
 // Adds the stamps of a leaf, and ends its line.
-fn push_stamps(alloc: Global, e: &Element, out: &mut String) -> Result<(), OutOfMemory> {
-    push_stamp(alloc, "+", &e.ins, out)?;
+fn push_stamps(e: &Element, out: &mut String) -> Result<(), OutOfMemory> {
+    push_stamp("+", &e.ins, out)?;
     for stamp in e.dels.as_slice() {
-        push_stamp(alloc, "-", stamp, out)?;
+        push_stamp("-", stamp, out)?;
     }
     out.push_str("\n")?;
     Ok(())
 }
 
 // Adds a stamp behind a sign.
-fn push_stamp(
-    alloc: Global,
-    sign: &str,
-    stamp: &Stamp,
-    out: &mut String,
-) -> Result<(), OutOfMemory> {
-    let text = match stamp {
-        Stamp::Acked { seq, conn } => format!(in alloc; " {sign}{seq} by {conn}")?,
-        Stamp::Local { stage } => format!(in alloc; " {sign}stage {stage}")?,
-    };
-    out.push_str(text.as_str())?;
+fn push_stamp(sign: &str, stamp: &Stamp, out: &mut String) -> Result<(), OutOfMemory> {
+    match stamp {
+        Stamp::Acked { seq, conn } => write!(out, " {sign}{seq} by {conn}")?,
+        Stamp::Local { stage } => write!(out, " {sign}stage {stage}")?,
+    }
     Ok(())
 }
 
 /// Adds a line for each of the insertions as which the stage is sent again.
 pub(crate) fn push_insertions(
-    alloc: Global,
     tree: &Tree<TextContent>,
     stage: u64,
     out: &mut String,
@@ -104,7 +80,7 @@ pub(crate) fn push_insertions(
 {
     for piece in &regenerate(tree, stage)? {
         if let Piece::Insert { pos } = piece {
-            push_count(alloc, "insert", *pos, out)?;
+            push_count("insert", *pos, out)?;
         }
     }
     Ok(())

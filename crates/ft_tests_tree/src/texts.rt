@@ -5,6 +5,7 @@ ghost use Rattle.ft_tests_tree.specs.Passing.{HasNoChanges, Passes};
 
 use crate::faults::StepFault;
 use ft_base::{Perspective, Steps};
+use ft_block::LenView;
 use ft_props::PropSet;
 use ft_tree::{Content, TextContent, Tree};
 use std::alloc::Global;
@@ -12,6 +13,17 @@ use std::sync::ledger::Ledger;
 
 // The most elements that a tree has here.
 const MOST: u64 = 1_000_000_000;
+
+// The view of the client.
+const LOCAL: LenView = LenView::Stage(u64::MAX);
+
+// Whether the perspective may be asked, and sees so many elements.
+fn may_be_made(tree: &Tree<TextContent>, count: u64, at: Perspective) -> bool
+    requires { IsTrue tree.now.usable }
+    ensures { IsTrue result → tree.now.floor ≤ at.r }
+{
+    at.r >= tree.floor() && count <= tree.length(LenView::At(at))
+}
 
 /// A run of those characters, of a pending insertion; a single `*` is a marker instead.
 pub(crate) fn run(alloc: Global, text: &str) -> Result<TextContent, StepFault> {
@@ -25,68 +37,78 @@ pub(crate) fn run(alloc: Global, text: &str) -> Result<TextContent, StepFault> {
     Ok(TextContent::run(alloc, text)?)
 }
 
-/// Puts a run in, of a pending stage, directly after the `p`-th character of the local view.
+/// Puts a run in, of a pending stage, directly after the `p`-th character of the local view, and tells whether that can be
+/// done.
 pub(crate) fn write<G: Ledger>(
     alloc: Global,
     tree: &mut Tree<TextContent>,
     p: u64,
     text: &str,
+    props: &PropSet,
     stage: u64,
     steps: &mut Steps<G>,
-) -> Result<(), StepFault>
+) -> Result<bool, StepFault>
     requires { IsTrue tree.old.usable }
     ensures { OnOk result (Passes tree.old tree.new) }
 {
+    if p > tree.length(LOCAL) {
+        return Ok(false);
+    }
     let content = run(alloc, text)?;
     if tree.made() > MOST || content.len() > 1000 {
         return Err(StepFault::TooLarge);
     }
-    let props = PropSet::new(alloc);
-    tree.insert_local(p, content, &props, stage, steps)?;
-    Ok(())
+    tree.insert_local(p, content, props, stage, steps)?;
+    Ok(true)
 }
 
-/// Puts a run in under number `seq`, directly after the `p`-th character that the perspective sees.
+/// Puts a run in under number `seq`, directly after the `p`-th character that the perspective sees, and tells whether that
+/// can be done.
 pub(crate) fn hear<G: Ledger>(
     alloc: Global,
     tree: &mut Tree<TextContent>,
     p: u64,
     text: &str,
+    props: &PropSet,
     seq: u64,
     at: Perspective,
     steps: &mut Steps<G>,
-) -> Result<(), StepFault>
-    requires usable { IsTrue tree.old.usable }
-    requires floor { tree.old.floor ≤ at.r }
+) -> Result<bool, StepFault>
+    requires { IsTrue tree.old.usable }
     ensures { OnOk result (Passes tree.old tree.new) }
 {
+    if !may_be_made(tree, p, at) {
+        return Ok(false);
+    }
     let content = run(alloc, text)?;
     if tree.made() > MOST || content.len() > 1000 {
         return Err(StepFault::TooLarge);
     }
-    let props = PropSet::new(alloc);
-    tree.insert_remote(p, content, &props, seq, at, steps)?;
-    Ok(())
+    tree.insert_remote(p, content, props, seq, at, steps)?;
+    Ok(true)
 }
 
-/// Marks the characters of the local view from the `p`-th up to before the `q`-th as removed by a stage.
+/// Marks the characters of the local view from the `p`-th up to before the `q`-th as removed by a stage, and tells whether
+/// that can be done.
 pub(crate) fn erase<G: Ledger>(
     tree: &mut Tree<TextContent>,
     p: u64,
     q: u64,
     stage: u64,
     steps: &mut Steps<G>,
-) -> Result<(), StepFault>
-    requires usable { IsTrue tree.old.usable }
-    requires order { p ≤ q }
+) -> Result<bool, StepFault>
+    requires { IsTrue tree.old.usable }
     ensures { OnOk result (Passes tree.old tree.new) }
 {
+    if p > q || q > tree.length(LOCAL) {
+        return Ok(false);
+    }
     tree.remove_local(p, q, stage, steps)?;
-    Ok(())
+    Ok(true)
 }
 
-/// Removes under number `seq` the characters that the perspective sees from the `p`-th up to before the
-/// `q`-th.
+/// Removes under number `seq` the characters that the perspective sees from the `p`-th up to before the `q`-th, and tells
+/// whether that can be done.
 pub(crate) fn strike<G: Ledger>(
     tree: &mut Tree<TextContent>,
     p: u64,
@@ -94,14 +116,15 @@ pub(crate) fn strike<G: Ledger>(
     seq: u64,
     at: Perspective,
     steps: &mut Steps<G>,
-) -> Result<(), StepFault>
-    requires usable { IsTrue tree.old.usable }
-    requires order { p ≤ q }
-    requires floor { tree.old.floor ≤ at.r }
+) -> Result<bool, StepFault>
+    requires { IsTrue tree.old.usable }
     ensures { OnOk result (Passes tree.old tree.new) }
 {
+    if p > q || !may_be_made(tree, q, at) {
+        return Ok(false);
+    }
     tree.remove_remote(p, q, seq, at, steps)?;
-    Ok(())
+    Ok(true)
 }
 
 /// Acknowledges a stage under number `seq` of connection 1.

@@ -62,30 +62,32 @@ pub(crate) fn unmark(
 
 // How many leaves a sweep over so many takes out.
 fn some_swept(
-    alloc: Global,
     tree: &mut Tree<TextContent>,
     floor: u64,
     leaves: u64,
+    taken: &mut Vec<TextContent>,
 ) -> Result<u64, StepFault>
     requires usable { IsTrue tree.old.usable }
     requires rising { tree.old.floor ≤ floor }
     requires free { HasNoReferences tree.old }
     ensures { OnOk result (Stays tree.old tree.new) }
 {
-    let mut taken = Vec::new(alloc);
-    let count = scour(tree, floor, leaves, &mut taken)?;
+    let count = scour(tree, floor, leaves, taken)?;
     Ok(count)
 }
 
 // How many leaves one over all takes out.
-fn all_swept(alloc: Global, tree: &mut Tree<TextContent>, floor: u64) -> Result<u64, StepFault>
+fn all_swept(
+    tree: &mut Tree<TextContent>,
+    floor: u64,
+    taken: &mut Vec<TextContent>,
+) -> Result<u64, StepFault>
     requires usable { IsTrue tree.old.usable }
     requires rising { tree.old.floor ≤ floor }
     requires free { HasNoReferences tree.old }
     ensures { OnOk result (Stays tree.old tree.new) }
 {
-    let mut taken = Vec::new(alloc);
-    let count = scour_all(tree, floor, &mut taken)?;
+    let count = scour_all(tree, floor, taken)?;
     Ok(count)
 }
 
@@ -101,10 +103,13 @@ fn swept(
     requires free { HasNoReferences tree.old }
     ensures { OnOk result (Stays tree.old tree.new) }
 {
-    match budget {
-        Some(leaves) => some_swept(alloc, tree, floor, leaves),
-        None => all_swept(alloc, tree, floor),
-    }
+    let mut taken = Vec::new(alloc);
+    let count = match budget {
+        Some(leaves) => some_swept(tree, floor, leaves, &mut taken),
+        None => all_swept(tree, floor, &mut taken),
+    };
+    drop(taken);
+    count
 }
 
 /// Compacts so many leaves, or all where no number is given, adds how many that takes out, and tells whether it can be done.
@@ -126,6 +131,6 @@ pub(crate) fn compact(
     }
     progress.calm = false;
     let count = swept(alloc, tree, floor, budget)?;
-    push_count(alloc, "taken", count, out)?;
+    push_count("taken", count, out)?;
     Ok(true)
 }

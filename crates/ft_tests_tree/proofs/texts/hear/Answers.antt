@@ -10,5 +10,5 @@ use Rattle.ft_tests_tree.proofs.texts.hear.Goals as goal
 pub returns : goal.returns
 returns g c =
     passes_put (seen_in (At c.args.at)) is_pending c.args.p (Acked c.args.seq c.args.at.c) (text_author c.args.seq c.args.at.c)
-    (apply [] c.new-props.result) (text_units c.in_ok-content.content) _ c.args.tree.now c.insert_remote.new.self
+    (apply [] c.args.props.now) (text_units c.in_ok-content.content) _ c.args.tree.now c.insert_remote.new.self
     c.in_ok-insert_remote.ensures.elements c.in_ok-insert_remote.ensures.refs c.in_ok-insert_remote.ensures.rest

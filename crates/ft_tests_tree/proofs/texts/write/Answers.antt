@@ -10,6 +10,6 @@ use Rattle.ft_tests_tree.proofs.texts.write.Goals as goal
 
 pub returns : goal.returns
 returns g c =
-    passes_put (seen_in last_stage) no_run c.args.p (Local c.args.stage) c.in_ok-content.content.by (apply [] c.new-props.result)
+    passes_put (seen_in last_stage) no_run c.args.p (Local c.args.stage) c.in_ok-content.content.by (apply [] c.args.props.now)
     (text_units c.in_ok-content.content) _ c.args.tree.now c.insert_local.new.self
     c.in_ok-insert_local.ensures.elements c.in_ok-insert_local.ensures.refs c.in_ok-insert_local.ensures.rest

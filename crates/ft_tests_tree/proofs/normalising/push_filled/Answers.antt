@@ -3,8 +3,8 @@ use Rattle.ft_tree_leaves.specs.Elements.{TreeElement}
 use Rattle.ft_props.specs.Element.{ElementContent}
 use Rattle.ft_rebase.specs.StageLists.{StandSideBySide}
 use Rattle.ft_tests_tree.proofs.MarkerLists.{stages-side}
-use Rattle.ft_tests_tree.proofs.normalising.push_normalised.Goals as goal
+use Rattle.ft_tests_tree.proofs.normalising.push_filled.Goals as goal
 
-pub push_both-requires-clause-side : goal.push_both-requires-clause-side
-push_both-requires-clause-side c =
+pub normalise-requires-clause-side : goal.normalise-requires-clause-side
+normalise-requires-clause-side c =
     subst (λ (es : List (TreeElement ElementContent)). StandSideBySide (λ e. e.stamps) es) (sym c.in_ok-fill.ensures.elements) stages-side
