@@ -5,7 +5,7 @@ ghost use Rattle.ft_op.specs.WellFormed.{IsWellFormed, is_count};
 ghost use Rattle.ft_msg.specs.WellFormed.{IsWellFormedDraft, IsWellFormedMessage};
 ghost use Rattle.ft_sumdoc.specs.Valid.{IsValidSummary};
 
-use ft_base::{Datum, OutOfMemory};
+use ft_base::{Datum, OutOfMemory, Text};
 use ft_json::{
     Field, FieldFault, canonical, num_field, quote, read_line, signed_field, text_field,
 };
@@ -21,60 +21,79 @@ const OTHER_COPY: &str = "the copy is another one";
 /// A value, as it is kept.
 pub fn value(alloc: Global, bytes: &[u8]) -> Result<String, Cause> {
     let value = read_line(alloc, bytes)?;
-    let kept = canonical(alloc, &value)?;
-    owned(alloc, kept.as_str())
+    let kept = canonical(alloc, &value);
+    drop(value);
+    owned(alloc, kept?.as_str())
 }
 
 /// The field `pos1` as a number from -1 on and as a number of either sign.
 pub fn numbers(alloc: Global, bytes: &[u8]) -> Result<String, Cause> {
     let value = read_line(alloc, bytes)?;
-    both_numbers(
-        alloc,
-        num_field(&value, Field::Pos1),
-        signed_field(&value, Field::Pos1),
-    )
+    let number = num_field(&value, Field::Pos1);
+    let signed = signed_field(&value, Field::Pos1);
+    drop(value);
+    both_numbers(alloc, number, signed)
 }
 
 /// The string of the field `id`.
 pub fn string(alloc: Global, bytes: &[u8]) -> Result<String, Cause> {
     let value = read_line(alloc, bytes)?;
-    let text = text_field(alloc, &value, Field::Id)?;
-    let string = quote(alloc, &text)?;
-    owned(alloc, string.as_str())
+    let text = text_field(alloc, &value, Field::Id);
+    drop(value);
+    quoted(alloc, &text?)
 }
 
 /// An operation of the text.
 pub fn text(alloc: Global, bytes: &[u8]) -> Result<String, Cause> {
     let value = read_line(alloc, bytes)?;
-    operation(alloc, &ChannelOp::Text(read_text_op(alloc, &value)?))
+    let op = read_text_op(alloc, &value);
+    drop(value);
+    operation(alloc, ChannelOp::Text(op?))
 }
 
 /// An operation of the grid.
 pub fn grid(alloc: Global, bytes: &[u8]) -> Result<String, Cause> {
     let value = read_line(alloc, bytes)?;
-    operation(alloc, &ChannelOp::Grid(read_grid_op(alloc, &value)?))
+    let op = read_grid_op(alloc, &value);
+    drop(value);
+    operation(alloc, ChannelOp::Grid(op?))
 }
 
 /// A sequenced message.
 pub fn message(alloc: Global, bytes: &[u8]) -> Result<String, Cause> {
     let msg = read_message(alloc, bytes)?;
-    message_text(alloc, &msg)
+    let told = message_text(alloc, &msg);
+    drop(msg);
+    told
 }
 
 /// A draft.
 pub fn draft(alloc: Global, bytes: &[u8]) -> Result<String, Cause> {
     let draft = read_draft(alloc, bytes)?;
-    draft_text(alloc, &draft)
+    let told = draft_text(alloc, &draft);
+    drop(draft);
+    told
 }
 
 /// A summary.
 pub fn summary(alloc: Global, bytes: &[u8]) -> Result<String, SumFault> {
     let sum = read_summary(alloc, bytes)?;
-    summary_text(alloc, &sum)
+    let told = summary_text(alloc, &sum);
+    drop(sum);
+    told
 }
 
-// An operation.
-fn operation(alloc: Global, op: &ChannelOp) -> Result<String, Cause>
+// An operation, which is done with.
+fn operation(alloc: Global, op: ChannelOp) -> Result<String, Cause>
+    requires { IsWellFormed op }
+{
+    let told = operation_text(alloc, &op);
+    drop(op);
+    told
+}
+
+// The text of an operation.
+fn operation_text(alloc: Global, op: &ChannelOp) -> Result<String, Cause>
     requires { IsWellFormed op.now }
 {
     if !op_is_copied(op)? {
@@ -121,7 +140,9 @@ fn summary_text(alloc: Global, sum: &SumDoc) -> Result<String, SumFault>
 // Whether a copy is the same.
 fn summary_is_copied(sum: &SumDoc) -> Result<bool, OutOfMemory> {
     let copy = sum.copy()?;
-    Ok(copy.same(sum))
+    let is_same = copy.same(sum);
+    drop(copy);
+    Ok(is_same)
 }
 
 // The text as a string of its own.
@@ -135,19 +156,25 @@ fn summary_owned(alloc: Global, text: &str) -> Result<String, SumFault> {
 // Whether a copy is the same.
 fn op_is_copied(op: &ChannelOp) -> Result<bool, OutOfMemory> {
     let copy = op.copy()?;
-    Ok(copy.same(op))
+    let is_same = copy.same(op);
+    drop(copy);
+    Ok(is_same)
 }
 
 // Whether a copy is the same.
 fn message_is_copied(msg: &Message) -> Result<bool, OutOfMemory> {
     let copy = msg.copy()?;
-    Ok(copy.same(msg))
+    let is_same = copy.same(msg);
+    drop(copy);
+    Ok(is_same)
 }
 
 // Whether a copy is the same.
 fn draft_is_copied(draft: &Draft) -> Result<bool, OutOfMemory> {
     let copy = draft.copy()?;
-    Ok(copy.same(draft))
+    let is_same = copy.same(draft);
+    drop(copy);
+    Ok(is_same)
 }
 
 // Both numbers, or why there are none.
@@ -173,6 +200,12 @@ fn number_text(alloc: Global, number: Result<i64, FieldFault>) -> Result<String,
             Ok(format!(in alloc; "{refusal}")?)
         }
     }
+}
+
+// The string of a text.
+fn quoted(alloc: Global, text: &Text) -> Result<String, Cause> {
+    let string = quote(alloc, text)?;
+    owned(alloc, string.as_str())
 }
 
 // The text as a string of its own.
