@@ -101,8 +101,9 @@ uint32_t vemiktag_client_new(vemiktag_client *client);
 /* It starts anew, offline, from a summary, which is the text of one. What it had is gone. */
 uint32_t vemiktag_client_load(vemiktag_client *client, const uint8_t *summary, size_t length);
 
-/* It waits for the join of the connection of this name, which is one that nobody had before. The join is a message that your server puts into the
- * order; once the client has processed it, it is online, and has its pending edits to send. Refused where it has a connection or waits for one. */
+/* It waits for the join of the connection of this name, which is one that nobody had before. The join is a message that your server puts into
+ * the log; once the client has processed it, it is online, and has its pending edits to send. Refused where it has a connection or waits for
+ * one. */
 uint32_t vemiktag_client_connect(vemiktag_client *client, const uint8_t *name, size_t length);
 
 /* Its connection is gone: what it had to send is gone too, and its edits stay pending. Refused where it has none and waits for none. */
@@ -111,7 +112,7 @@ uint32_t vemiktag_client_drop(vemiktag_client *client);
 /* It takes an edit of its own, which shows at once: the text of an event `edit`, whose `client` is passed over. */
 uint32_t vemiktag_client_edit(vemiktag_client *client, const uint8_t *edit, size_t length);
 
-/* It takes the next message of the order, which is the text of one: each message, its own too. */
+/* It takes the next message of the log, which is the text of one: each message, its own too. */
 uint32_t vemiktag_client_process(vemiktag_client *client, const uint8_t *message, size_t length);
 
 /* Puts its oldest draft that isn't sent behind what waits to be read, as a line; it counts as sent then.
