@@ -15,7 +15,7 @@ WORD = re.compile(r"[^\s(){}\[\],;.=λ→×]+")
 def imports_of(text, prefix="(?:pub )?use "):
     """The names that a file imports from specs of this repository, each with its module and its own name there."""
     found = {}
-    for line in re.findall(rf"^{prefix}Rattle\.(ft_\S+?\.specs\.[\w.]*?)\.\{{([^}}]*)\}}", text, re.M | re.S):
+    for line in re.findall(rf"^[ ]*{prefix}Rattle\.(ft_\S+?\.specs\.[\w.]*?)\.\{{([^}}]*)\}}", text, re.M | re.S):
         for item in line[1].split(","):
             own, _, alias = item.strip().partition(" as ")
             found[alias or own] = (line[0], own)
@@ -23,9 +23,15 @@ def imports_of(text, prefix="(?:pub )?use "):
 
 
 def definitions_of(text):
-    """The bodies of a file's definitions by name: from a line that begins one to the next such line."""
-    bodies, name = {}, None
+    """The bodies of a file's definitions by name: from a line that begins one to the next such line. Those of a `module` stand two columns in."""
+    bodies, name, inside = {}, None, False
     for line in text.splitlines():
+        if line.startswith("module "):
+            name, inside = None, True
+            continue
+        if inside and line and not line[0].isspace():
+            inside = False
+        line = line[2:] if inside else line
         if line.startswith(("use ", "pub use ", "--")):
             name = None
         elif line and not line[0].isspace() and line[0] not in "})]":
