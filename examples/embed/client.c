@@ -42,7 +42,7 @@ static char *told(struct editor *editor) {
     return text;
 }
 
-/* ---- the order */
+/* ---- the server */
 
 /* No connection that is joined will refer to a number below that. */
 static void raise_minimum(void) {
@@ -55,7 +55,7 @@ static void raise_minimum(void) {
     }
 }
 
-/* Puts a message into the order: the fields that the editor's connection tells, and those that the order adds. */
+/* Puts a message into the log: the fields that the editor's connection tells, and those that the server adds. */
 static void put(const struct editor *editor, const char *rest) {
     expect(sent < MOST, "there is room for a message");
     raise_minimum();
@@ -83,7 +83,7 @@ static unsigned long number_behind(const char *draft, const char *word) {
 
 /* ---- the editors */
 
-/* It waits for its join, and the server puts that into the order. */
+/* It waits for its join, and the server puts that into the log. */
 static void join(struct editor *editor, const char *name) {
     expect(vemiktag_client_connect(&editor->client, (const uint8_t *)name, strlen(name)) == VEMIKTAG_DONE, "it may connect");
     editor->refers = minimum;

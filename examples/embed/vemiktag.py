@@ -166,7 +166,7 @@ class Client:
         self.edit({"type": 1, "pos1": start, "pos2": end})
 
     def process(self, message):
-        """Takes the next message of the order, a dict."""
+        """Takes the next message of the log, a dict."""
         self._call("process", json.dumps(message).encode())
 
     def outgoing(self):
