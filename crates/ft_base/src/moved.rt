@@ -1,30 +1,34 @@
 //! Values that are moved without a look at what they are. So the proofs of those who move large ones take none of them apart.
 
-ghost use Rattle.std.specs.Prelude.{◌≡◌, ◌<◌, ◌++◌, ◌∷◌, [], IfOk, Ok, OnErr, OnOk, drop};
+ghost use Rattle.std.specs.Prelude.{◌≡◌, ◌<◌, ◌++◌, ◌∷◌, [], Err, IfErr, IfOk, IsOk, Ok, OnErr, OnOk, drop, if◌then◌else◌};
 ghost use Rattle.std.specs.VecDeque.{deque_capacity, deque_len};
 
 use crate::memory::OutOfMemory;
 use std::alloc::Global;
 use std::collections::VecDeque;
 
-/// The value, if what was to be done before is done.
-pub fn after<D: Drop, T: Drop>(done: Result<D, OutOfMemory>, value: T) -> Result<T, OutOfMemory>
+/// The value, if what was to be done before is done, or why it isn't.
+pub fn after<D: Drop, T: Drop, E: Drop>(done: Result<D, E>, value: T) -> Result<T, E>
     ensures done { OnOk result ((d : D) × (done ≡ Ok d)) }
     ensures value { IfOk result (λ given. given ≡ value) }
+    ensures err { IfErr result (λ why. done ≡ Err why) }
 {
-    done?;
-    Ok(value)
+    match done {
+        Ok(_) => Ok(value),
+        Err(why) => Err(why),
+    }
 }
 
-/// What was made, and the value beside it, if it was made.
-pub fn beside<A: Drop, B: Drop>(
-    made: Result<A, OutOfMemory>,
-    value: B,
-) -> Result<(A, B), OutOfMemory>
+/// What was made, and the value beside it, or why it wasn't made.
+pub fn beside<A: Drop, B: Drop, E: Drop>(made: Result<A, E>, value: B) -> Result<(A, B), E>
     ensures made { IfOk result (λ pair. made ≡ Ok pair.0) }
     ensures value { IfOk result (λ pair. pair.1 ≡ value) }
+    ensures err { IfErr result (λ why. made ≡ Err why) }
 {
-    Ok((made?, value))
+    match made {
+        Ok(made) => Ok((made, value)),
+        Err(why) => Err(why),
+    }
 }
 
 /// Both values, if both were made.
@@ -78,6 +82,39 @@ pub fn push<T: Drop>(items: &mut Vec<T>, item: T) -> Result<(), OutOfMemory>
     ensures items { OnOk result (items.new.items ≡ items.old.items ++ item ∷ []) }
     ensures err { OnErr result (items.new.items ≡ items.old.items) }
 {
+    items.push(item)?;
+    Ok(())
+}
+
+/// Adds an item behind the others, and gives the value beside it, if both were made.
+///
+/// Returns `OutOfMemory` where there is no room for the item either, and then nothing changed.
+pub fn push_beside<T: Drop, V: Drop>(
+    items: &mut Vec<T>,
+    made: Result<(T, V), OutOfMemory>,
+) -> Result<V, OutOfMemory>
+    ensures ok { IfOk result (λ value. (item : T) × (made ≡ Ok (item, value)) × (items.new.items ≡ items.old.items ++ item ∷ [])) }
+    ensures err { OnErr result (items.new.items ≡ items.old.items) }
+{
+    let (item, value) = made?;
+    items.push(item)?;
+    Ok(value)
+}
+
+/// Adds an item behind the others, unless it is among them.
+///
+/// Returns `OutOfMemory` where there is no room for it, or it couldn't be found out whether it is among them.
+pub fn push_unless<T: Drop>(
+    there: Result<bool, OutOfMemory>,
+    items: &mut Vec<T>,
+    item: T,
+) -> Result<(), OutOfMemory>
+    ensures found { OnOk result (IsOk there) }
+    ensures items { OnOk result (IfOk there (λ t. items.new.items ≡ (if t then items.old.items else items.old.items ++ item ∷ []))) }
+{
+    if there? {
+        return Ok(());
+    }
     items.push(item)?;
     Ok(())
 }
