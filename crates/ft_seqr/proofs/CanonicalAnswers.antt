@@ -1,5 +1,5 @@
 -- The values that answers are written as are canonical.
-use Rattle.std.proofs.Common.{◌≡◌, ℕ, suc, ◌≤◌, max, List, [], Option, Some, None, option_and_then, unwrap_or, refl, sym, ap, ap₂, ◌∙◌, subst, arith, append-nil}
+use Rattle.std.proofs.Common.{◌≡◌, ℕ, suc, ◌≤◌, max, List, [], Option, Some, None, option_and_then, refl, sym, ap, ap₂, ◌∙◌, subst, arith, append-nil}
 use Rattle.std.specs.List.{AllByRecursion}
 use Rattle.json.specs.Lex.{tokens}
 use Rattle.json.specs.Token.{Token}
@@ -57,12 +57,6 @@ read-within text e (d, canonical, spells) reads =
 -- the value of a canonical text is canonical
 pub canonical-read : (text : List ℕ) (e : Data) → IsCanonicalText text → read text ≡ Some e → IsCanonical (value_of text)
 canonical-read text e h reads = (StandsFor-IsTextWithin 127 text (omega arith) (read-within text e h reads)).canonical
-
-pub canonical-unread : (text : List ℕ) → read text ≡ None → IsCanonical (value_of text)
-canonical-unread text h = subst IsCanonical (sym (value-unread text h)) tt
-  where
-    value-unread : (t : List ℕ) → read t ≡ None → value_of t ≡ null
-    value-unread t e = ap (λ o. unwrap_or o null) e
 
 -- ---- properties
 

@@ -1,5 +1,5 @@
 -- A written event is read back.
-use Rattle.std.proofs.Common.{◌≡◌, ◌≤◌, ◌^◌, ℕ, zero, suc, true, false, List, [], ◌∷◌, Option, Some, None, Ok, codes, nat_le, nat_lt, refl, sym, ap, subst, arith, leb-true, ltb-true, lt-ltb, le-ltb, option_map}
+use Rattle.std.proofs.Common.{◌≡◌, ◌≤◌, ◌^◌, ℕ, zero, suc, true, List, [], ◌∷◌, Option, Some, None, Ok, codes, nat_le, refl, sym, ap, subst, arith, leb-true, ltb-true, lt-ltb, le-ltb, option_map}
 use Rattle.std.specs.Prelude.{IsTrue}
 use Rattle.std.specs.List.{AllByRecursion}
 use Rattle.std.specs.Str.{chars}
@@ -109,9 +109,6 @@ count_back (Num zero) h = num_back 0 h
 count_back (Num (suc zero)) h = refl
 count_back (Num (suc (suc n))) h = num_back (suc (suc n)) h
 
-not_less : (p q : ℕ) → p ≤ q → nat_lt q p ≡ false
-not_less p q h = le-ltb q p h
-
 places_back : (fs : Given) (a b : ℕ) → found (field_name StartPlace) fs ≡ Some (written_count a) → found (field_name End) fs ≡ Some (written_count b) → IsTrue (is_range a b) → places (object (fields fs)) ≡ Ok (a, b)
 unfolding places
 places_back fs a b h g e =
@@ -119,7 +116,7 @@ places_back fs a b h g e =
     let order = leb-true a b parts.0 in
     let last = ltb-true b (2 ^ 53) parts.1 in
     let small = lt-ltb a (2 ^ 53) (omega arith) in
-    rw (count_is fs StartPlace a h small, count_is fs End b g parts.1, not_less a b order)
+    rw (count_is fs StartPlace a h small, count_is fs End b g parts.1, le-ltb b a order)
 
 -- ---- each form
 

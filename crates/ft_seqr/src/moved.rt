@@ -5,14 +5,14 @@ ghost use Rattle.std.specs.Prelude.{◌≡◌, ◌++◌, ◌∷◌, [], Err, IfE
 use ft_base::OutOfMemory;
 
 /// What was made, and the value beside it, or why it wasn't made.
-pub fn made_beside<A: Drop, B: Drop, E>(made: Result<A, E>, value: B) -> Result<(A, B), E>
+pub fn beside<A: Drop, B: Drop, E: Drop>(made: Result<A, E>, value: B) -> Result<(A, B), E>
     ensures made { IfOk result (λ pair. made ≡ Ok pair.0) }
     ensures value { IfOk result (λ pair. pair.1 ≡ value) }
-    ensures err { IfErr result (λ fault. made ≡ Err fault) }
+    ensures err { IfErr result (λ why. made ≡ Err why) }
 {
     match made {
         Ok(made) => Ok((made, value)),
-        Err(fault) => Err(fault),
+        Err(why) => Err(why),
     }
 }
 

@@ -5,7 +5,7 @@ ghost use Rattle.std.specs.Prelude.{◌≡◌, ℕ, ◌+◌, ◌<◌, ◌^◌, p
 ghost use Rattle.ft_seqr.specs.Sequencer.{draft_kind, is_joined, join, least_ref, leave, nack_of, new_sequencer, next, notice, submit, submitted};
 ghost use Rattle.ft_seqr.specs.SequencerCalls.{AreSmall, IsLeaveFault, IsSubmitFault, Sends, newcomer, sender_of, sent_message, sequencer_after};
 
-use crate::moved::{made_beside, push_beside};
+use crate::moved::{beside, push_beside};
 use crate::nacks::{LeaveFault, Nack, SubmitFault};
 use ft_base::moved::both;
 use ft_base::{Datum, OutOfMemory, Text};
@@ -250,7 +250,7 @@ impl Sequencer {
         ensures fault { IfErr result (IsSubmitFault self.old conn draft) }
         ensures err { OnErr result (self.new ≡ self.old) }
     {
-        let (sender, draft) = made_beside(self.sender(conn, &draft), draft)?;
+        let (sender, draft) = beside(self.sender(conn, &draft), draft)?;
         Ok(self.number_draft(sender, draft))
     }
 
