@@ -1,6 +1,5 @@
 -- Finite maps: the value of a key after an operation, and that keys rise.
-use Rattle.std.proofs.Common.{◌≡◌, ℕ, suc, ◌+◌, ◌<◌, length, drop, get_or, List, [], ◌∷◌, ◌++◌, Some, None, refl, sym, ◌∙◌, ap, subst, arith}
-use Rattle.std.proofs.Math.Seq.{drop-cons}
+use Rattle.std.proofs.Common.{◌≡◌, ℕ, List, [], ◌∷◌, ◌++◌, Some, None, refl, sym, ◌∙◌, ap, subst, arith}
 use Rattle.std.specs.Prelude.{Result, Ok, Err, OnOk, OnErr}
 use Rattle.std.specs.declared.cmp.Ordering.{Ordering}
 use Rattle.std.specs.declared.cmp.Ordering.TheVariants.{Less, Equal, Greater}
@@ -9,7 +8,7 @@ use Rattle.ft_props.proofs.RisingKeys.{IsBeforeKeys-trans, KeysRise-put, KeysRis
 use Rattle.ft_shared_map.specs.declared.ops.MapOp.{MapOp}
 use Rattle.ft_shared_map.specs.declared.ops.MapOp.TheVariants.{Set, Delete, Clear}
 use Rattle.ft_shared_map.specs.declared.ops.MapPair.{MapPair}
-use Rattle.ft_shared_map.specs.Maps.{FiniteMap, map_of, pairs_of, put, put_all}
+use Rattle.ft_shared_map.specs.Maps.{FiniteMap, map_of, pairs_of, put}
 use Rattle.ft_shared_map.specs.Marks.{at_key}
 
 pub by_order : {G : Type 0} (o : Ordering) → (o ≡ Less → G) → (o ≡ Equal → G) → (o ≡ Greater → G) → G
@@ -93,10 +92,6 @@ rising-put m (Set key value) r = KeysRise-put key value m r
 rising-put m (Delete key) r = KeysRise-remove key [] m r
 rising-put m Clear r = tt
 
-pub rising-put_all : (m : FiniteMap) (ops : List MapOp) → KeysRise m → KeysRise (put_all m ops)
-rising-put_all m [] r = r
-rising-put_all m (op ∷ ops) r = rising-put_all (put m op) ops (rising-put m op r)
-
 -- ---- rising keys put one behind another
 
 before-middle : (a key : Characters) (v : List ℕ) (xs ys : FiniteMap) → IsBeforeKeys a (xs ++ (key, v) ∷ ys) → text_cmp a key ≡ Less
@@ -112,9 +107,6 @@ put-last key v (x ∷ xs) ys r = put-greater key_cmp (key, v) x xs (text_cmp-bac
 pub rising-written : {A E : Type 0} (m new : FiniteMap) (op : MapOp) (result : Result A E) → OnOk result (new ≡ put m op) → OnErr result (new ≡ m) → KeysRise m → KeysRise new
 rising-written m new op (Ok x) ok err r = subst KeysRise (sym ok) (rising-put m op r)
 rising-written m new op (Err e) ok err r = subst KeysRise (sym err) r
-
-pub rest-at : {A : Type 0} (xs : List A) (i : ℕ) (x : A) → i < length xs → x ≡ get_or xs i x → drop i xs ≡ x ∷ drop (i + 1) xs
-rest-at xs i x l h = drop-cons xs i x l ∙ (ap (λ y. y ∷ drop (suc i) xs) (sym h) ∙ (let k : suc i ≡ i + 1 = omega arith in ap (λ n. x ∷ drop n xs) k))
 
 append-one : {A : Type 0} (xs ys : List A) (x : A) → (xs ++ x ∷ []) ++ ys ≡ xs ++ x ∷ ys
 append-one [] ys x = refl

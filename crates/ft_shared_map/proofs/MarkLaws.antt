@@ -4,6 +4,7 @@ use Rattle.std.specs.Prelude.{slice_get}
 use Rattle.std.specs.declared.cmp.Ordering.{Ordering}
 use Rattle.std.specs.declared.cmp.Ordering.TheVariants.{Less, Equal, Greater}
 use Rattle.std.proofs.lemmas.Bool.Decides.{nat_tests}
+use Rattle.std.proofs.lemmas.List.{length_push}
 use Rattle.ft_props.specs.Keys.{Characters, KeysRise, key_cmp, remove_rising, text_cmp, value_of}
 use Rattle.ft_props.proofs.RisingKeys.{KeysRise-put, KeysRise-remove, same_from_text_cmp}
 use Rattle.ft_shared_map.specs.declared.ops.MapOp.{MapOp}
@@ -56,12 +57,9 @@ marks-pushed n k ops new op copy old marks number items same are h =
     subst (AreMarksOf n new) (sym (are ∙ ap (λ i. noted i op old) number))
     (subst (λ xs. AreMarksOf n xs (noted (n + length ops) op old)) (sym (items ∙ ap (λ x. ops ++ x ∷ []) same)) (marks-noted n ops op old h))
 
-one-more : {A : Type 0} (xs : List A) (x : A) → length (xs ++ x ∷ []) ≡ length xs + 1
-one-more [] x = refl
-one-more (y ∷ xs) x = let h = one-more xs x in omega (arith, h)
-
 pub more-pushed : {A : Type 0} (n k top : ℕ) (xs new : List A) (x : A) → k ≡ n + length xs → new ≡ xs ++ x ∷ [] → k + 1 < top → n + length new < top
-more-pushed n k top xs new x number items low = let e : length new ≡ length xs + 1 = ap length items ∙ one-more xs x in omega (arith, e, number, low)
+more-pushed n k top xs new x number items low =
+    let e : length new ≡ length xs + 1 = ap length items ∙ length_push xs x in omega (arith, e, number, low)
 
 -- ---- the oldest operation less
 
