@@ -1,7 +1,8 @@
 -- One message, and then the others.
 use Rattle.std.proofs.Common.{◌+◌, drop, subst}
+use Rattle.std.proofs.lemmas.List.{drop_all}
 use Rattle.ft_delivery.proofs.InOrder.{StillProcesses, all-processed, still-can, still-processes}
-use Rattle.ft_delivery.proofs.Rests.{none-left, rest-at}
+use Rattle.ft_delivery.proofs.Rests.{rest-at}
 use Rattle.ft_delivery.proofs.deliveries.process_all.Goals as goal
 
 pub process_one-requires : goal.process_one-requires
@@ -22,4 +23,4 @@ loop-entry-preserved g c = still-processes (g.R.Replica.state c.args.replica.now
 pub returns-clause-ok : goal.returns-clause-ok
 returns-clause-ok g c = all-processed (g.R.Replica.state c.args.replica.now) (g.R.Replica.state c.loop-entry.replica) c.args.entries.now
     (subst (StillProcesses (g.R.Replica.state c.args.replica.now) (g.R.Replica.state c.loop-entry.replica) c.args.entries.now)
-    (none-left c.args.entries.now c.loop-entry.entry-index c.loop-entry-test.false) c.loop-entry.invariant)
+    (drop_all c.loop-entry.entry-index c.args.entries.now c.loop-entry-test.false) c.loop-entry.invariant)
