@@ -45,7 +45,8 @@ use Rattle.ft_session.specs.Outputs.{AddsText, WritesAs}
 use Rattle.ft_session.specs.Asked.{authors_client, overlap_client, queue_client, show_client, summarize_client}
 use Rattle.ft_seqr.specs.RefusalKinds.{MeansOf, refusal_kind}
 use Rattle.ft_session.specs.Worlds.{AnswersReading, Meets, MeetsSome, MemberState, ServiceState}
-use Rattle.ft_session.proofs.Entering.{idle-alike, pending-count, summary-refused, unless-taken}
+use Rattle.ft_session.proofs.Counting.{stands-pending}
+use Rattle.ft_session.proofs.Entering.{idle-alike, summary-refused, unless-taken}
 use Rattle.ft_session.proofs.OwnEvents.{handed-on, meets-reached, written-known}
 use Rattle.ft_session.proofs.RefusalKinds.{some-none}
 
@@ -144,7 +145,7 @@ module _ (m : MemberState) (s : ServiceState) where
             name_is = n ∙ meets.member.name;
             seq = ap (λ (k : Numbers). k.seq) h ∙ l.number;
             min = ap (λ (k : Numbers). k.min) h ∙ (sym (ap (λ (d : IndexedClient). d.doc.minimum) t.shows) ∙ ap (λ (d : Document). d.minimum) t.keeps.doc.rest);
-            pending = ap (λ (k : Numbers). k.pending) h ∙ pending-count r c.client t;
+            pending = ap (λ (k : Numbers). k.pending) h ∙ stands-pending r c.client t;
             skipped = ap (λ (k : Numbers). k.skipped) h ∙ (sym (ap (λ (d : IndexedClient). d.doc.skipped) t.shows) ∙ ap (λ (d : Document). d.skipped) t.keeps.doc.rest);
             other = ap (λ (k : Numbers). k.other) h ∙ (sym (ap (λ (d : IndexedClient). d.doc.other) t.shows) ∙ ap (λ (d : Document). d.other) t.keeps.doc.rest);
             link = ap (λ (k : Numbers). k.link) h ∙ l.link;

@@ -1,11 +1,11 @@
 -- The counts of the client with the greatest number.
-use Rattle.std.proofs.Common.{◌≡◌, Bool, true, false, cond, nat_lt, List, [], ◌∷◌, fold, refl, sym, ◌∙◌, ap, subst}
+use Rattle.std.proofs.Common.{◌≡◌, Bool, true, false, cond, nat_lt, List, [], ◌∷◌, fold, length, map, suc, refl, sym, ◌∙◌, ap, subst}
 use Rattle.ft_op.specs.Document.{Document, empty}
 use Rattle.ft_msg.specs.declared.messages.Entry.{Entry}
 use Rattle.ft_msg.specs.Answers.{numbers_of}
-use Rattle.ft_msg.specs.Client.{NaiveClient, client_over}
+use Rattle.ft_msg.specs.Client.{NaiveClient, PendingEdit, client_over}
 use Rattle.ft_msg.specs.Compacted.{StandsFor}
-use Rattle.ft_msg.specs.Indexed.{IndexedClient}
+use Rattle.ft_msg.specs.Indexed.{IndexedClient, indexed_edit}
 use Rattle.ft_seqr.specs.World.{NaiveWorld, NamedClient, further, furthest}
 use Rattle.ft_session.specs.declared.world.Furthest.{Furthest}
 use Rattle.ft_session.specs.Outputs.{counts_of}
@@ -34,6 +34,16 @@ stands-number r x s = ap (λ (c : IndexedClient). c.doc.number) (sym s.shows) �
 
 pub stands-minimum : (r : IndexedClient) (x : NaiveClient) → StandsFor r x → r.doc.minimum ≡ x.doc.minimum
 stands-minimum r x s = ap (λ (c : IndexedClient). c.doc.minimum) (sym s.shows) ∙ ap (λ (d : Document). d.minimum) s.keeps.doc.rest
+
+-- a replica has as much pending as its client
+pub stands-pending : (r : IndexedClient) (x : NaiveClient) → StandsFor r x → length r.pending ≡ length x.pending
+stands-pending r x s =
+    ap (λ (c : IndexedClient). length c.pending) (sym s.shows)
+    ∙ (mapped s.kept.pending ∙ ap (λ (k : NaiveClient). length k.pending) s.keeps.rest)
+  where
+    mapped : (edits : List PendingEdit) → length (map (indexed_edit s.kept.doc) edits) ≡ length edits
+    mapped [] = refl
+    mapped (edit ∷ edits) = ap suc (mapped edits)
 
 -- one client more
 pub are-of_further : (log : List Entry) (f : Furthest) (x : NaiveClient) (m : MemberState) (c : NamedClient) → AreOf f x → MemberStands log m c

@@ -1,6 +1,6 @@
 -- Clients and guests come into a session.
-use Rattle.std.proofs.Common.{◌≡◌, ◌≤◌, ℕ, zero, suc, ◌+◌, List, [], ◌∷◌, ◌++◌, length, map, get_or, Option, Some, None, Ok, Err, find, refl, sym, ◌∙◌, ap, subst, arith}
-use Rattle.std.proofs.lemmas.List.{length-take-le}
+use Rattle.std.proofs.Common.{◌≡◌, ◌≤◌, ℕ, zero, suc, ◌+◌, List, [], ◌∷◌, ◌++◌, length, get_or, Option, Some, None, Ok, Err, find, refl, sym, ◌∙◌, ap, subst, arith}
+use Rattle.std.proofs.lemmas.List.{length-take-le, nil_from_length}
 use Rattle.std.specs.Prelude.{⊤, slice_get}
 use Rattle.std.specs.List.{position}
 use Rattle.std.proofs.lemmas.Iterator.Adapters.{position_from-zero}
@@ -14,7 +14,7 @@ use Rattle.ft_msg.specs.declared.faults.SummaryFault.TheVariants as summing
 use Rattle.ft_msg.specs.Answers.{AnswersSummary, ReplicaState, RunsFor, StartsOver}
 use Rattle.ft_msg.specs.Client.{NaiveClient, PendingEdit, client_over}
 use Rattle.ft_msg.specs.Compacted.{StandsFor}
-use Rattle.ft_msg.specs.Indexed.{IndexedClient, indexed_edit}
+use Rattle.ft_msg.specs.Indexed.{IndexedClient}
 use Rattle.ft_msg.specs.Reached.{IsReached}
 use Rattle.ft_msg.specs.Summary.{GivesDocument, doc_of}
 use Rattle.ft_seqr.specs.declared.refusals.Refusal.{Refusal}
@@ -30,6 +30,7 @@ use Rattle.ft_seqr.specs.RefusalKinds.{MeansOf, Refused, refusal_kind}
 use Rattle.ft_session.specs.Worlds.{AnswersHappening, MeetsSome, MembersStand, MemberStands, MemberState, ServiceState, SessionState, SessionStands, has_name, service_of}
 use Rattle.ft_seqr.proofs.RefusalKinds.{means-weaker}
 use Rattle.ft_session.proofs.RefusalKinds.{some-none}
+use Rattle.ft_session.proofs.Counting.{stands-pending}
 use Rattle.ft_session.proofs.Placing.{found, not_found, stand-more}
 use Rattle.ft_session.proofs.TrimmedCopies.{keeps-trimmed}
 
@@ -113,22 +114,8 @@ module _ (s : SessionState) (name : Characters) (free : (w : NaiveWorld) → Ses
 
 -- ---- what is pending
 
--- a replica has as much pending as its client
-pub pending-count : (r : IndexedClient) (x : NaiveClient) → StandsFor r x → length r.pending ≡ length x.pending
-pending-count r x s =
-    ap (λ (c : IndexedClient). length c.pending) (sym s.shows)
-    ∙ (mapped s.kept.pending ∙ ap (λ (k : NaiveClient). length k.pending) s.keeps.rest)
-  where
-    mapped : (edits : List PendingEdit) → length (map (indexed_edit s.kept.doc) edits) ≡ length edits
-    mapped [] = refl
-    mapped (edit ∷ edits) = ap suc (mapped edits)
-
-none-of : {A : Type 0} (xs : List A) → length xs ≡ 0 → xs ≡ []
-none-of [] h = refl
-none-of (x ∷ xs) h = absurd (omega (arith, h))
-
 pub idle-alike : (r : IndexedClient) (x : NaiveClient) → StandsFor r x → r.pending ≡ [] → x.pending ≡ []
-idle-alike r x s h = let n = pending-count r x s in let k = ap length h in none-of x.pending (omega (arith, n, k))
+idle-alike r x s h = let n = stands-pending r x s in let k = ap length h in nil_from_length x.pending (omega (arith, n, k))
 
 -- a client that has edits pending
 pub unless-refused : (x : NaiveClient) (taken : Stepped) → ¬ (x.pending ≡ []) → unless_pending x taken ≡ Err (Pending (length x.pending))
@@ -148,8 +135,9 @@ pub summary-refused : (names : List Characters) (r : ReplicaState) (x : NaiveCli
 summary-refused names r x taken summing.OutOfMemory s a = tt
 summary-refused names r x taken (summing.Stopped seq) s a = some-none r.stop seq s.running a
 summary-refused names r x taken (summing.Pending count) s a =
-    let n = pending-count r.client x s.client in
-    unless-refused x taken (λ e. a.2 (none-of r.client.pending (let k = ap length e in omega (arith, n, k)))) ∙ ap (λ k. Err (Pending k)) (sym (a.1 ∙ n))
+    let n = stands-pending r.client x s.client in
+    unless-refused x taken (λ e. a.2 (nil_from_length r.client.pending (let k = ap length e in omega (arith, n, k))))
+    ∙ ap (λ k. Err (Pending k)) (sym (a.1 ∙ n))
 
 -- the names that a member's replica knows are in the table
 pub member-known : (w : NaiveWorld) (m : MemberState) (c : NamedClient) → IsMade w → MemberStands w.log m c → m.replica.origin ≤ length w.names

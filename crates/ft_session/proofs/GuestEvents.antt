@@ -24,8 +24,9 @@ use Rattle.ft_session.specs.declared.outputs.Out.TheVariants as out
 use Rattle.ft_session.specs.Acts.{submitted_guest, submitted_or_refused}
 use Rattle.ft_session.specs.Services.{AnswersService, left_or_refused}
 use Rattle.ft_seqr.specs.RefusalKinds.{refusal_kind}
-use Rattle.ft_session.specs.Worlds.{AnswersHappening, MembersStand, ServiceState, SessionState, SessionStands, StandsForSome, service_of}
+use Rattle.ft_session.specs.Worlds.{AnswersHappening, MembersStand, ServiceState, SessionStandsForSome, SessionState, SessionStands, service_of}
 use Rattle.ft_session.proofs.Entering.{guest-enters}
+use Rattle.ft_session.proofs.LinkEvents.{ok-same}
 use Rattle.ft_session.proofs.Placing.{stand-grown}
 use Rattle.ft_seqr.proofs.RefusalKinds.{means-weaker}
 use Rattle.ft_session.proofs.RefusalKinds.{cause-means}
@@ -197,7 +198,8 @@ module _ (read : Result Draft Cause) (before : ServiceState) (conn : ℕ) where
 -- ---- a guest enters
 
 module _ (s : SessionState) (name label : Characters) where
-  pub enter-new : StandsForSome s → ((w : NaiveWorld) → SessionStands s w → name_fault w name ≡ None) → length s.service.names < 2 ^ 32 - 1 → label ≡ connection_name name 1
+  pub enter-new : SessionStandsForSome s → ((w : NaiveWorld) → SessionStands s w → name_fault w name ≡ None)
+      → length s.service.names < 2 ^ 32 - 1 → label ≡ connection_name name 1
       → IsNewName s.service.names label
   enter-new some free few l =
       let w = some.world in
@@ -215,9 +217,6 @@ module _ (s : SessionState) (name label : Characters) where
     world = λ w made stands. means-weaker (refusal_kind why) (λ p. joined-refuses (joined label w) why p.1) (service w stands.service);
   }
 
-  joined-same : (v u : NaiveWorld) (r : Result NaiveWorld Refusal) → r ≡ Ok v → r ≡ Ok u → v ≡ u
-  joined-same v u r h k = (cc)
-
   pub enter-taken : (conn : ℕ) (after : ServiceState) (new : SessionState) → ((w : NaiveWorld) → SessionStands s w → name_fault w name ≡ None)
       → conn ≡ length s.service.names + 1 → label ≡ connection_name name 1
       → ((w : NaiveWorld) → s.service ≡ service_of w → AnswersService s.service after (Ok (joined label w)) (Ok tt))
@@ -226,12 +225,12 @@ module _ (s : SessionState) (name label : Characters) where
   enter-taken conn after new free h l service e =
       subst (λ n. AnswersHappening (λ w. happen w (event.Guest name)) s n (Ok out.Nothing)) (sym e)
       (guest-enters s name conn label after free h l
-      (λ w k. let (v, q, r) = service w k in r ∙ ap service_of (sym (joined-same (joined label w) v (Ok (joined label w)) refl q)))
+      (λ w k. let (v, q, r) = service w k in r ∙ ap service_of (sym (ok-same (joined label w) v (Ok (joined label w)) refl q)))
       (λ w made stands. stand-grown w.log _ s.members w.clients (made-within w made) stands.members))
 
 -- ---- the log
 
-pub log-formed : (s : SessionState) → StandsForSome s → Each (λ (entry : Entry). IsWellFormedMessage entry.msg) s.service.log
+pub log-formed : (s : SessionState) → SessionStandsForSome s → Each (λ (entry : Entry). IsWellFormedMessage entry.msg) s.service.log
 log-formed s some = subst (Each (λ (entry : Entry). IsWellFormedMessage entry.msg)) (sym (ap (λ (a : ServiceState). a.log) some.stands.service))
     (made-formed some.world some.made)
 

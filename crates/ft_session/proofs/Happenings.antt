@@ -18,7 +18,7 @@ use Rattle.ft_session.specs.declared.acts.ClientAct.{ClientAct}
 use Rattle.ft_session.specs.declared.outputs.Out.{Out}
 use Rattle.ft_session.specs.Acts.{ClientActEffect, NamedActEffect}
 use Rattle.ft_seqr.specs.RefusalKinds.{refusal_kind}
-use Rattle.ft_session.specs.Worlds.{AnswersAsked, AnswersClient, AnswersHappening, AnswersReading, AnswersSession, AnswersStepped, LeavesClient, Meets, MeetsSome, MembersStand, MemberStands, MemberState, ServiceState, SessionState, SessionStands, StandsForSome, has_name}
+use Rattle.ft_session.specs.Worlds.{AnswersAsked, AnswersClient, AnswersHappening, AnswersReading, AnswersSession, AnswersStepped, LeavesClient, Meets, MeetsSome, MembersStand, MemberStands, MemberState, ServiceState, SessionStandsForSome, SessionState, SessionStands, has_name}
 use Rattle.ft_seqr.proofs.RefusalKinds.{means-weaker}
 use Rattle.ft_session.proofs.Placing.{Found, found, not_found, stand-grown}
 
@@ -112,7 +112,7 @@ module _ (step : NaiveWorld → NamedClient → Stepped) (name : Characters) (ms
           service = s.service;
         }
 
-    pub meets-some : StandsForSome (whole ms before) → MeetsSome m before
+    pub meets-some : SessionStandsForSome (whole ms before) → MeetsSome m before
     meets-some s = record { world = s.world; client = (here s.world s.made s.stands).member; meets = meets-here s.world s.made s.stands }
 
     module _ (new : MemberState) (after : ServiceState) where
@@ -154,7 +154,7 @@ module _ (step : NaiveWorld → NamedClient → Stepped) (name : Characters) (ms
       happened-to result a = record { world = λ w made s. stepped w made s result (a.client w (here w made s).member (meets-here w made s)) }
 
       -- what it makes of its replica
-      pub happened-effect : (compacts : Bool) (act : ClientAct) → StandsForSome (whole ms before) → (result : Result Out Refusal)
+      pub happened-effect : (compacts : Bool) (act : ClientAct) → SessionStandsForSome (whole ms before) → (result : Result Out Refusal)
           → AnswersClient step m new before after result → IfOk result (λ out. ClientActEffect compacts act new out)
           → IfOk result (λ out. NamedActEffect compacts act name (whole (set ms i new) after) out)
       happened-effect compacts act s (Err why) a h = tt
@@ -172,13 +172,5 @@ module _ (name : Characters) (i : ℕ) (ms : List MemberState) (m : MemberState)
   pub at-place : slice_get ms i ≡ Some m
   at-place = slice_get_read ms (length ms) i m refl (position-Some (has_name name) ms i m h).0 k
 
--- what a session answers, by its view
-pub by-session : {event : NaiveWorld → Stepped} {s old new : SessionState} {result : Result Out Refusal} → s ≡ old → AnswersHappening event s new result → AnswersHappening event old new result
-by-session {event} {s} {old} {new} {result} e a = subst (λ o. AnswersHappening event o new result) e a
-
--- what a session answers that doesn't change
-pub unchanged-session : {event : NaiveWorld → Stepped} {s old : SessionState} {result : Result Out Refusal} → s ≡ old → AnswersHappening event s s result → AnswersHappening event old old result
-unchanged-session {event} {s} {old} {result} e a = subst (λ o. AnswersHappening event o o result) e a
-
-pub stands-session : {s old : SessionState} → s ≡ old → StandsForSome old → StandsForSome s
-stands-session {s} {old} e h = subst StandsForSome (sym e) h
+pub stands-session : {s old : SessionState} → s ≡ old → SessionStandsForSome old → SessionStandsForSome s
+stands-session {s} {old} e h = subst SessionStandsForSome (sym e) h

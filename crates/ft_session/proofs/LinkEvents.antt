@@ -40,7 +40,7 @@ new-name m s connects name some few k n =
     subst (λ ns. IsNewName ns name) (sym names)
     (subst (λ l. IsNewName w.names l) (sym (n ∙ ap (λ l. connection_name l connects) t.name ∙ ap (connection_name c.name) (k ∙ ap (λ i. i + 1) t.connects))) made)
 
-ok-same : (v u : NaiveWorld) (r : Result NaiveWorld Refusal) → r ≡ Ok v → r ≡ Ok u → v ≡ u
+pub ok-same : (v u : NaiveWorld) (r : Result NaiveWorld Refusal) → r ≡ Ok v → r ≡ Ok u → v ≡ u
 ok-same v u r h k = (cc)
 
 module _ (m : MemberState) (before : ServiceState) (new : ReplicaState) where

@@ -1,5 +1,6 @@
 -- Which names a session gives.
 use Rattle.std.proofs.Common.{◌≡◌, ◌≤◌, ◌<◌, ℕ, ◌+◌, Bool, true, false, cond, ◌||◌, nat_le, List, [], ◌∷◌, length, suc, Option, Some, None, is_some, refl, sym, ◌∙◌, ap, arith, le-leb}
+use Rattle.std.proofs.lemmas.Bool.{or_right}
 use Rattle.std.proofs.lemmas.Bool.Decides.{nat_tests}
 use Rattle.std.specs.List.{list_any, position, position_from}
 use Rattle.std.proofs.lemmas.Iterator.Adapters.{position_from-zero}
@@ -41,10 +42,6 @@ count-stand log (m ∷ ms) (c ∷ cs) s = ap suc (count-stand log ms cs s.1)
 abbrev named_fault : Bool → Bool → ℕ → Option Refusal
 named_fault a b n = cond (a || b) (Some NameInUse) (cond (nat_le name_limit n) (Some ClientLimit) None)
 
-either : (a b : Bool) → b ≡ true → a || b ≡ true
-either true b h = refl
-either false b h = h
-
 module _ (s : SessionState) (name : Characters) (ms : List MemberState) (same : ms ≡ s.members) (w : NaiveWorld) (stands : SessionStands s w) where
   session-fault : name_fault w name ≡ named_fault (list_any (has_name name) ms) (list_any (is_guest name) s.guests) (length ms + length s.guests)
   session-fault =
@@ -61,7 +58,7 @@ module _ (s : SessionState) (name : Characters) (ms : List MemberState) (same : 
   pub named-guest : true ≡ list_any (is_guest name) s.guests → (name_fault w name ≡ Some NameInUse) × (Refused ≡ Refused)
   named-guest h = (
     session-fault ∙ ap (λ b. cond b (Some NameInUse) (cond (nat_le name_limit (length ms + length s.guests)) (Some ClientLimit) None))
-        (either (list_any (has_name name) ms) (list_any (is_guest name) s.guests) (sym h)),
+        (or_right (list_any (has_name name) ms) (list_any (is_guest name) s.guests) (sym h)),
     refl,
   )
 

@@ -3,6 +3,7 @@ use Rattle.std.proofs.Common.{◌≡◌, ℕ, zero, suc, ◌+◌, ◌≤◌, Boo
 use Rattle.std.proofs.Math.ListN.{set}
 use Rattle.std.specs.List.{find, list_any, position_from, slice_get}
 use Rattle.std.specs.Str.{bytes_eq}
+use Rattle.std.proofs.lemmas.Bool.{not-true}
 use Rattle.std.proofs.lemmas.Slice.Eq.{bytes_eq-Decides}
 use Rattle.ft_base.proofs.Booleans.{both}
 use Rattle.ft_base.proofs.Options.{some-same}
@@ -34,10 +35,6 @@ module _ (log : List Entry) where
 
   is_itself : (xs ys : Characters) → xs ≡ ys → bytes_eq xs ys ≡ true
   is_itself xs ys = (bytes_eq-Decides xs ys).1
-
-  hidden : (b : Bool) → not b ≡ true → b ≡ false
-  hidden false h = refl
-  hidden true h = (cc)
 
   -- nobody has the name, and so nobody's place is taken
   unplaced : (d : NamedClient) (cs : List NamedClient) → list_any (bytes_eq d.name) (names_of cs) ≡ false → map (in_place d) cs ≡ cs
@@ -85,7 +82,7 @@ module _ (log : List Entry) where
   found name k i (m ∷ ms) [] s d h = elim s [ ]
   found name k i (m ∷ ms) (c ∷ cs) s d h =
       let b = both (not (list_any (bytes_eq c.name) (names_of cs))) (are_distinct_names (names_of cs)) d in
-      step (has_name name m) refl (hidden (list_any (bytes_eq c.name) (names_of cs)) b.0) h (λ p. found name (k + 1) i ms cs s.1 b.1 p)
+      step (has_name name m) refl (not-true (list_any (bytes_eq c.name) (names_of cs)) b.0) h (λ p. found name (k + 1) i ms cs s.1 b.1 p)
     where
       later : (j : ℕ) × (i ≡ k + 1 + j) × Found name ms j cs → has_name name m ≡ false → (j : ℕ) × (i ≡ k + j) × Found name (m ∷ ms) j (c ∷ cs)
       later (j, q, f) e = (suc j, omega (arith, q), found_later name m c ms j cs e s.0 f)

@@ -25,9 +25,6 @@ leave-told conn s q entry h w e = (
   ap (λ a. with_entry a q entry) e,
 )
 
-pub leave-refused : (conn : ℕ) (s : ServiceState) → leave s.sequencer conn ≡ None → (w : NaiveWorld) → s ≡ service_of w → left_or_refused conn w ≡ Err NotConnected
-leave-refused conn s h w e = ap (after_leaving w) (ap (λ (a : ServiceState). leave a.sequencer conn) (sym e) ∙ h)
-
 abbrev after_submission : NaiveWorld → Result (NaiveSequencer × Entry) Nack → Result NaiveWorld Refusal
 after_submission w r = elim r as (λ _. Result NaiveWorld Refusal) [ Err nack ↦ Err (Nacked nack) | Ok p ↦ Ok (logged p w) ]
 

@@ -16,20 +16,21 @@ use Rattle.ft_session.specs.Acts.{ActEffect, IsAct}
 use Rattle.ft_session.specs.Effects.{SessionEffect}
 use Rattle.ft_session.specs.Outputs.{counts_of}
 use Rattle.ft_session.specs.declared.world.Taken.{Taken}
-use Rattle.ft_session.specs.Steps.{AnswersStep, StandsAtLoad, StandsFor}
+use Rattle.ft_session.specs.Steps.{AnswersLoaded, StandsAtLoad, StandsAtLoadForSome}
 use Rattle.ft_seqr.specs.RefusalKinds.{MeansOf, RefusalKind, HadStopped, Refused, WantsMemory, is_want, refusal_kind}
-use Rattle.ft_session.specs.Worlds.{AnswersEvent, AnswersHappening, RunsForSome, MembersStand, SessionState, StandsForSome, StopsWithCounts, WorldStands, WorldState}
+use Rattle.ft_session.specs.Worlds.{AnswersEvent, AnswersHappening, RunsForSome, MembersStand, SessionStandsForSome, SessionState, StopsWithCounts, WorldStands, WorldState}
 use Rattle.ft_session.proofs.ActSteps.{act-effect}
 use Rattle.ft_session.proofs.OwnEvents.{handed-on}
 use Rattle.ft_seqr.proofs.RefusalKinds.{means-weaker}
 
-pub stands-some : (s : SessionState) (load : ℕ) → StandsAtLoad s load → StandsForSome s
+pub stands-some : (s : SessionState) (load : ℕ) → StandsAtLoadForSome s load → SessionStandsForSome s
 stands-some s load h = record { world = h.world; made = h.stands.made; stands = h.stands.stands }
 
 module _ (e : Event) (formed : IsWellFormedEvent e) (old new : SessionState) (load : ℕ) where
   -- it is taken
   pub step-taken : (out : Out) (after : ℕ) (counts : Counts) → AnswersHappening (λ w. happen w e) old new (Ok out) → after ≡ load + (1 + text_load e) → after ≤ 2 ^ 52
-      → ((w : NaiveWorld) → MembersStand w.log new.members w.clients → counts ≡ counts_of w) → AnswersStep e old new load (Ok (record { out = out; load = after; counts = counts }))
+      → ((w : NaiveWorld) → MembersStand w.log new.members w.clients → counts ≡ counts_of w)
+      → AnswersLoaded e old new load (Ok (record { out = out; load = after; counts = counts }))
   step-taken out after counts a sum low counted = record {
     world = λ w s.
         let (p, k, t, l, told) = a.world w s.made s.stands in
@@ -51,14 +52,14 @@ module _ (e : Event) (formed : IsWellFormedEvent e) (old new : SessionState) (lo
   }
 
   -- it is refused
-  pub step-refused : (why : Refusal) → AnswersHappening (λ w. happen w e) old new (Err why) → AnswersStep e old new load (Err why)
+  pub step-refused : (why : Refusal) → AnswersHappening (λ w. happen w e) old new (Err why) → AnswersLoaded e old new load (Err why)
   step-refused why a = record {
     world = λ w s. means-weaker (refusal_kind why) (λ p. (p.0, ap (loaded (1 + text_load e)) p.1)) (a.world w s.made s.stands);
   }
 
   pub step-handed : (why : Refusal) (result : Result Taken Refusal) → IsErr result × IsErrAnd result (λ w. w ≡ why) → AnswersHappening (λ w. happen w e) old new (Err why)
-      → AnswersStep e old new load result
-  step-handed why result h a = handed-on (λ r. AnswersStep e old new load r) why result h (step-refused why a)
+      → AnswersLoaded e old new load result
+  step-handed why result h a = handed-on (λ r. AnswersLoaded e old new load r) why result h (step-refused why a)
 
 -- what it made of the replicas
 pub taken-effect : (compacts : Bool) (e : Event) (old new : SessionState) (act : Act) → IsAct act e → (result : Result Taken Refusal)
@@ -79,28 +80,23 @@ pub stopped-answers : (e : Event) (w : WorldState) → w.stopped ≡ true → An
 stopped-answers e w h = record { runs = λ n s. false-true w.stopped s.running h; stopped = λ k. (refl, refl) }
 
 module _ (s : SessionState) (load : ℕ) (counts : Counts) (stopped : Bool) (running : stopped ≡ false) where
-  pub at-load : RunsForSome (world_with s load counts stopped) → StandsAtLoad s load
+  pub at-load : RunsForSome (world_with s load counts stopped) → StandsAtLoadForSome s load
   at-load h =
       let (n, t) = h running in
       record { world = n; stands = record { made = t.made; stands = t.session; loaded = t.load } }
 
-  stands-world : (w : NaiveWorld) → WorldStands (world_with s load counts stopped) w → StandsFor w s load
+  stands-world : (w : NaiveWorld) → WorldStands (world_with s load counts stopped) w → StandsAtLoad w s load
   stands-world w t = record { made = t.made; stands = t.session; loaded = t.load }
 
   module _ (e : Event) (new : SessionState) where
-    pub world-taken : (taken : Taken) → AnswersStep e s new load (Ok taken) → AnswersEvent e (world_with s load counts stopped) (world_with new taken.load taken.counts stopped) (Ok taken.out)
+    pub world-taken : (taken : Taken) → AnswersLoaded e s new load (Ok taken)
+        → AnswersEvent e (world_with s load counts stopped) (world_with new taken.load taken.counts stopped) (Ok taken.out)
     world-taken taken a = record {
       runs = λ w t.
           let (p, k, q, n, told) = a.world w (stands-world w t) in
           (p, k, record { running = running; session = q.stands; made = q.made; load = q.loaded; counts = n }, told);
       stopped = λ h. false-true stopped running h;
     }
-
-    pub world-kept : (taken : Taken) → AnswersStep e s new load (Ok taken) → RunsForSome (world_with s load counts stopped) → RunsForSome (world_with new taken.load taken.counts stopped)
-    world-kept taken a h k =
-        let (n, t) = h k in
-        let (p, q, r, same, told) = a.world n (stands-world n t) in
-        (p.0, record { running = k; session = r.stands; made = r.made; load = r.loaded; counts = same })
 
     by-kind : (why : Refusal) (k : RefusalKind) (w : NaiveWorld) → refusal_kind why ≡ k → MeansOf k ⊤ ((new ≡ s) × (step w e ≡ Err why))
         → MeansOf k (StopsWithCounts (world_with s load counts stopped) (world_with new load counts (is_want why)))
@@ -119,30 +115,12 @@ module _ (s : SessionState) (load : ℕ) (counts : Counts) (stopped : Bool) (run
         other Stopped q = (cc)
         other _ q = refl
 
-    pub world-refused : (why : Refusal) (now : Bool) → now ≡ is_want why → AnswersStep e s new load (Err why)
+    pub world-refused : (why : Refusal) (now : Bool) → now ≡ is_want why → AnswersLoaded e s new load (Err why)
         → AnswersEvent e (world_with s load counts stopped) (world_with new load counts now) (Err why)
     world-refused why now h a = subst (λ b. AnswersEvent e (world_with s load counts stopped) (world_with new load counts b) (Err why)) (sym h) (record {
       runs = λ w t. by-kind why (refusal_kind why) w refl (a.world w (stands-world w t));
       stopped = λ k. false-true stopped running k;
     })
-
-    pub world-refused_kept : (why : Refusal) (now : Bool) → now ≡ is_want why → AnswersStep e s new load (Err why) → RunsForSome (world_with s load counts stopped)
-        → RunsForSome (world_with new load counts now)
-    world-refused_kept why now same a h = subst (λ b. RunsForSome (world_with new load counts b)) (sym same) (again (refusal_kind why) refl (λ w t. a.world w t))
-      where
-        again : (k : RefusalKind) → refusal_kind why ≡ k → ((w : NaiveWorld) → StandsFor w s load → MeansOf k ⊤ ((new ≡ s) × (step w e ≡ Err why)))
-            → is_want why ≡ false → (n : NaiveWorld) × WorldStands (world_with new load counts (is_want why)) n
-        again WantsMemory q f g = wants why q g
-          where
-            wants : {A : Type 0} (why : Refusal) → refusal_kind why ≡ WantsMemory → is_want why ≡ false → A
-            wants OutOfMemory q g = (cc)
-            wants Stopped q g = (cc)
-            wants _ q g = (cc)
-        again HadStopped q f g = let (n, t) = h running in absurd (f n (stands-world n t))
-        again Refused q f g =
-            let (n, t) = h running in
-            let p = f n (stands-world n t) in
-            (n, subst (λ a. WorldStands (world_with a load counts (is_want why)) n) (sym p.0) (record { running = g; session = t.session; made = t.made; load = t.load; counts = t.counts }))
 
 -- what a world answers, by its view
 pub by-world : {e : Event} {w old new : WorldState} {result : Result Out Refusal} → w ≡ old → AnswersEvent e w new result → AnswersEvent e old new result

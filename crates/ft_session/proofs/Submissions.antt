@@ -1,6 +1,6 @@
 -- A client's unsent messages are submitted.
 use Rattle.std.proofs.Common.{◌≡◌, ◌≤◌, ◌<◌, ℕ, zero, suc, ◌+◌, ◌-◌, cond, nat_le, true, false, Bool, List, [], ◌∷◌, ◌++◌, drop, length, take, Option, Some, None, Result, Ok, Err, map, refl, sym, ◌∙◌, ap, subst, arith, append-nil, slice_get}
-use Rattle.std.proofs.lemmas.List.{append_assoc}
+use Rattle.std.proofs.lemmas.List.{append_assoc, drop-drop}
 use Rattle.std.specs.Prelude.{OnErr, OnOk, ⊤}
 use Rattle.std.proofs.lemmas.Bool.Decides.{nat_tests}
 use Rattle.ft_laws_summaries.proofs.Lists.{each-found}
@@ -59,16 +59,6 @@ submitted-first w v conn d ds h = by (submit w.sequencer conn d) h
 
 -- ---- one after the other
 
-drop-none : {A : Type 0} (n : ℕ) → drop {A = A} n [] ≡ []
-drop-none zero = refl
-drop-none (suc n) = refl
-
-pub drop-next : {A : Type 0} (i : ℕ) (xs : List A) → drop (i + 1) xs ≡ drop 1 (drop i xs)
-drop-next zero [] = refl
-drop-next zero (x ∷ xs) = refl
-drop-next (suc i) [] = drop-none (suc i + 1)
-drop-next (suc i) (x ∷ xs) = let e : suc i + 1 ≡ suc (i + 1) = omega arith in ap (λ n. drop n (x ∷ xs)) e ∙ drop-next i xs
-
 -- the next draft, and then the others
 rest-first : (k : ℕ) (conn : ℕ) (ds : List Draft) (w v : NaiveWorld) → submit_all w conn (take (suc k) ds) ≡ Ok v
     → (u : NaiveWorld) × (submit_all w conn (take 1 ds) ≡ Ok u) × (submit_all u conn (take k (drop 1 ds)) ≡ Ok v)
@@ -85,7 +75,7 @@ one-more count i conn queue w v l h =
     let k = count - (i + 1) in
     let e : count - i ≡ suc k = omega (arith, l) in
     let (u, a, b) = rest-first k conn (drop i queue) w v (subst (λ n. submit_all w conn (take n (drop i queue)) ≡ Ok v) e h) in
-    (u, a, subst (λ ds. submit_all u conn (take k ds) ≡ Ok v) (sym (drop-next i queue)) b)
+    (u, a, subst (λ ds. submit_all u conn (take k ds) ≡ Ok v) (drop-drop 1 i queue) b)
 
 -- ---- the next draft
 

@@ -1,6 +1,7 @@
 -- A replica that starts from a summary keeps what the summary keeps of its document, and nothing else: nothing is left that it could
 -- take away.
 use Rattle.std.proofs.Common.{◌≡◌, ◌≤◌, ◌<◌, ℕ, zero, suc, ◌+◌, Bool, true, false, cond, not, ◌&&◌, ◌||◌, List, [], ◌∷◌, ◌++◌, length, map, nat_eq, nat_le, Option, Some, None, option_map, find, refl, sym, ◌∙◌, ap, subst, arith}
+use Rattle.std.proofs.Math.Bool.{and-false}
 use Rattle.std.proofs.lemmas.Bool.Decides.{nat_tests}
 use Rattle.std.specs.List.{list_all, list_any}
 use Rattle.std.specs.Prelude.{replicate}
@@ -141,17 +142,13 @@ none-in-front (t ∷ ts) us g = by (is_acked t) (none-in-front ts us) g
 present-parts : (e : ListElement) → is_unremoved e ≡ true → list_any is_acked e.dels ≡ false
 present-parts e h = none-in-front e.dels (removal_stamp e.removal_stage) (unremoved-parts (is_acked e.ins) (list_any is_acked (e.dels ++ removal_stamp e.removal_stage)) h)
 
-unseen : (b : Bool) → b && false ≡ false
-unseen true = refl
-unseen false = refl
-
 module _ (n : ℕ) (x : ListElement) (xs : List ListElement) (h : AreNumbered n (x ∷ xs)) (e : ListElement) where
   alive-first : is_unremoved x ≡ true → x ≡ e → IsAlive n (x ∷ xs) e
   alive-first f it = record {
     number = n;
     later = omega arith;
     named = ap id (sym it) ∙ h.0;
-    alive = rw (present-parts x f, unseen (same_id (SequencedId n) (id x)), none-before n (n + 1) xs (omega arith) h.1) refl;
+    alive = rw (present-parts x f, and-false (same_id (SequencedId n) (id x)), none-before n (n + 1) xs (omega arith) h.1) refl;
   }
 
   alive-behind : IsAlive (n + 1) xs e → IsAlive n (x ∷ xs) e

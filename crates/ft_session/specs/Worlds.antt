@@ -122,7 +122,7 @@ pub record AnswersReading (event : NaiveWorld → NamedClient → Stepped) (m : 
   pub client : (w : NaiveWorld) (c : NamedClient) → Meets w c m s → AnswersAsked w (event w c) result
 
 -- the session stands for some naive world, which well-formed events made
-pub record StandsForSome (s : SessionState) : Type 0 where
+pub record SessionStandsForSome (s : SessionState) : Type 0 where
   pub world : NaiveWorld
   pub made : IsMade world
   pub stands : SessionStands s world

@@ -94,7 +94,7 @@ pub(crate) fn act_of(alloc: Global, event: &Event) -> Result<Act<'_>, OutOfMemor
 fn offer<'a>(alloc: Global, client: &'a Text, text: &Text) -> Result<Act<'a>, OutOfMemory>
     ensures { IfOk result (λ act. IsAct act (Event.Offer client.now text.now)) }
 {
-    let read = boxed(alloc, read_offer(alloc, text))?;
+    let read = boxed(alloc, offered_message(alloc, text))?;
     Ok(Act::OfClient(client, ClientAct::Offer(read)))
 }
 
@@ -102,12 +102,12 @@ fn offer<'a>(alloc: Global, client: &'a Text, text: &Text) -> Result<Act<'a>, Ou
 fn submission<'a>(alloc: Global, guest: &'a Text, text: &Text) -> Result<Act<'a>, OutOfMemory>
     ensures { IfOk result (λ act. IsAct act (Event.Submit guest.now text.now)) }
 {
-    let read = boxed(alloc, read_submission(alloc, text))?;
+    let read = boxed(alloc, submitted_draft(alloc, text))?;
     Ok(Act::OfSession(SessionAct::Submit(guest, read)))
 }
 
 // The message of an offered text, or the cause why it is none.
-fn read_offer(alloc: Global, text: &Text) -> Result<Result<Message, Cause>, OutOfMemory>
+fn offered_message(alloc: Global, text: &Text) -> Result<Result<Message, Cause>, OutOfMemory>
     ensures { IfOk result (λ read. message (encode_utf8_all text.now) ≡ read) }
 {
     match read_message(alloc, text.as_str().as_bytes()) {
@@ -118,7 +118,7 @@ fn read_offer(alloc: Global, text: &Text) -> Result<Result<Message, Cause>, OutO
 }
 
 // The draft of a submitted text, or the cause why it is none.
-fn read_submission(alloc: Global, text: &Text) -> Result<Result<Draft, Cause>, OutOfMemory>
+fn submitted_draft(alloc: Global, text: &Text) -> Result<Result<Draft, Cause>, OutOfMemory>
     ensures { IfOk result (λ read. draft (encode_utf8_all text.now) ≡ read) }
 {
     match read_draft(alloc, text.as_str().as_bytes()) {

@@ -9,7 +9,7 @@ ghost use Rattle.ft_laws_sessions.specs.MadeWorlds.{IsMade};
 ghost use Rattle.ft_session.specs.Effects.{KeepsTrimmed, SessionEffect, StartsTrimmed};
 ghost use Rattle.ft_session.specs.Entrances.{AnswersName, IsCopyOf, StartsFrom, new_member};
 ghost use Rattle.ft_seqr.specs.RefusalKinds.{MeansOf, refusal_kind};
-ghost use Rattle.ft_session.specs.Worlds.{AnswersHappening, SessionStands, StandsForSome};
+ghost use Rattle.ft_session.specs.Worlds.{AnswersHappening, SessionStands, SessionStandsForSome};
 
 use crate::asked::summary_of;
 use crate::guests::has_guest;
@@ -26,7 +26,7 @@ use std::alloc::Global;
 impl<R: Replica + Drop> Session<R> {
     /// A new client, empty, or over the document of the client of the second name.
     pub(crate) fn begin(&mut self, name: &Text, from: &Option<Text>) -> Result<BoxedOut, Refusal>
-        requires { StandsForSome self.old }
+        requires { SessionStandsForSome self.old }
         ensures answers { AnswersHappening (λ w. happen w (event.Start name.now from.now)) self.old self.new result }
         ensures effect { IfOk result (λ out. SessionEffect R.COMPACTS (event.Start name.now from.now) self.old self.new out) }
     {
@@ -38,7 +38,7 @@ impl<R: Replica + Drop> Session<R> {
 
     // A new client, which is empty.
     fn start(&mut self, name: &Text) -> Result<BoxedOut, Refusal>
-        requires { StandsForSome self.old }
+        requires { SessionStandsForSome self.old }
         ensures { AnswersHappening (λ w. happen w (event.Start name.now None)) self.old self.new result }
     {
         self.free_name(name)?;
@@ -49,7 +49,7 @@ impl<R: Replica + Drop> Session<R> {
 
     // A new client over the document of the client of that name.
     fn start_from(&mut self, name: &Text, from: &Text) -> Result<BoxedOut, Refusal>
-        requires { StandsForSome self.old }
+        requires { SessionStandsForSome self.old }
         ensures answers { AnswersHappening (λ w. happen w (event.Start name.now (Some from.now))) self.old self.new result }
         ensures trimmed { OnOk result (StartsTrimmed name.now from.now self.old self.new) }
     {
@@ -77,7 +77,7 @@ impl<R: Replica + Drop> Session<R> {
 
     // A replica over the document of the client of that name, of which it keeps what a summary keeps.
     fn copy_of(&self, from: &Text) -> Result<R, Refusal>
-        requires { StandsForSome self.now }
+        requires { SessionStandsForSome self.now }
         ensures ok { IfOk result (λ r. (w : NaiveWorld) → IsMade w → SessionStands self.now w → (name : Characters) → name_fault w name ≡ None → IsCopyOf w name from.now (R.state r)) }
         ensures err { IfErr result (λ why. (w : NaiveWorld) → IsMade w → SessionStands self.now w → (name : Characters) → MeansOf (refusal_kind why) ⊤ (start_client w name (Some from.now) ≡ Err why)) }
         ensures trimmed { IfOk result (λ r. (w : NaiveWorld) → IsMade w → SessionStands self.now w → (c : NamedClient) → find (is_client from.now) w.clients ≡ Some c → KeepsTrimmed (R.state r) c.client.doc) }

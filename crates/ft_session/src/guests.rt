@@ -10,7 +10,7 @@ ghost use Rattle.ft_seqr.specs.World.{NaiveWorld, connection_name, happen, is_gu
 ghost use Rattle.ft_seqr.specs.declared.events.Event.TheVariants as event;
 ghost use Rattle.ft_session.specs.Acts.{submitted_guest, submitted_or_refused};
 ghost use Rattle.ft_session.specs.Services.{AnswersService};
-ghost use Rattle.ft_session.specs.Worlds.{AnswersHappening, SessionStands, StandsForSome, service_of};
+ghost use Rattle.ft_session.specs.Worlds.{AnswersHappening, SessionStands, SessionStandsForSome, service_of};
 
 use crate::outputs::{BoxedOut, Values, push_text};
 use crate::service::Service;
@@ -40,7 +40,7 @@ impl Model for Guest {
 impl<R: Replica + Drop> Session<R> {
     /// A new name without a client, with a connection, which joins.
     pub(crate) fn enter(&mut self, name: &Text) -> Result<BoxedOut, Refusal>
-        requires { StandsForSome self.old }
+        requires { SessionStandsForSome self.old }
         ensures { AnswersHappening (λ w. happen w (event.Guest name.now)) self.old self.new result }
     {
         self.free_name(name)?;
@@ -51,7 +51,7 @@ impl<R: Replica + Drop> Session<R> {
 
     // A new name without a client, with this connection, which joins under this label.
     fn enter_as(&mut self, name: &Text, conn: u32, label: &Text) -> Result<BoxedOut, Refusal>
-        requires stands { StandsForSome self.old }
+        requires stands { SessionStandsForSome self.old }
         requires free { (w : NaiveWorld) → SessionStands self.old w → name_fault w name.now ≡ None }
         requires next { conn ≡ length self.old.service.names + 1 }
         requires few { length self.old.service.names < 2 ^ 32 - 1 }
@@ -69,10 +69,10 @@ impl<R: Replica + Drop> Session<R> {
         name: &Text,
         read: Box<Result<Draft, Cause>>,
     ) -> Result<BoxedOut, Refusal>
-        requires { StandsForSome self.old }
+        requires { SessionStandsForSome self.old }
         ensures { AnswersHappening (λ w. of_guest w name.now (λ g. submitted_guest w g read.value)) self.old self.new result }
     {
-        let Some(place) = place_of_guest(self.guests.as_slice(), name) else {
+        let Some(place) = guest_place(self.guests.as_slice(), name) else {
             return Err(Refusal::UnknownClient);
         };
         submit_read(&mut self.service, self.guests[place].conn, read)?;
@@ -81,10 +81,10 @@ impl<R: Replica + Drop> Session<R> {
 
     /// The guest's connection leaves.
     pub(crate) fn part(&mut self, name: &Text) -> Result<BoxedOut, Refusal>
-        requires { StandsForSome self.old }
+        requires { SessionStandsForSome self.old }
         ensures { AnswersHappening (λ w. happen w (event.Part name.now)) self.old self.new result }
     {
-        let Some(place) = place_of_guest(self.guests.as_slice(), name) else {
+        let Some(place) = guest_place(self.guests.as_slice(), name) else {
             return Err(Refusal::UnknownClient);
         };
         self.service.leave(self.guests[place].conn)?;
@@ -101,7 +101,7 @@ impl<R: Replica + Drop> Session<R> {
 
     /// The messages of the log.
     pub(crate) fn history(&self) -> Result<BoxedOut, Refusal>
-        requires { StandsForSome self.now }
+        requires { SessionStandsForSome self.now }
         ensures { AnswersHappening (λ w. happen w event.History) self.now self.now result }
     {
         BoxedOut::of_texts(self.service.alloc, log_texts(&self.service))
@@ -112,11 +112,11 @@ impl<R: Replica + Drop> Session<R> {
 pub(crate) fn has_guest(guests: &[Guest], name: &Text) -> bool
     ensures { result ≡ list_any (is_guest name.now) guests.now }
 {
-    place_of_guest(guests, name).is_some()
+    guest_place(guests, name).is_some()
 }
 
-/// The place of the guest of that name.
-pub(crate) fn place_of_guest(guests: &[Guest], name: &Text) -> Option<usize>
+// The place of the guest of that name.
+fn guest_place(guests: &[Guest], name: &Text) -> Option<usize>
     ensures { result ≡ position (is_guest name.now) guests.now }
 {
     guests.iter().position(|guest| name.same(&guest.name))

@@ -24,7 +24,7 @@ pub(crate) fn act_load(act: &Act<'_>) -> Result<u64, OutOfMemory>
     load.checked_add(1).ok_or(OutOfMemory)
 }
 
-// What happens to a client adds.
+// What an event adds that does this to a client.
 fn client_load(act: &ClientAct<'_>) -> Result<u64, OutOfMemory>
     ensures { IfOk result (λ n. n ≡ client_load act.now) }
 {
@@ -35,7 +35,7 @@ fn client_load(act: &ClientAct<'_>) -> Result<u64, OutOfMemory>
     }
 }
 
-// What happens to the session as a whole adds.
+// What an event adds that does this to the session as a whole.
 fn session_load(act: &SessionAct<'_>) -> Result<u64, OutOfMemory>
     ensures { IfOk result (λ n. n ≡ session_load act.now) }
 {
@@ -72,20 +72,20 @@ pub fn op_load(op: &ChannelOp) -> Result<u64, OutOfMemory>
     ensures { IfOk result (λ n. n ≡ op_load op.now) }
 {
     match op {
-        ChannelOp::Text(TextOp::One(op)) => added(0, inserted_by_base(op)),
+        ChannelOp::Text(TextOp::One(op)) => load_with(0, inserted_by_base(op)),
         ChannelOp::Text(TextOp::Group(ops)) => base_loads(ops.as_slice()),
         ChannelOp::Text(
             TextOp::IntervalAdd { .. }
             | TextOp::IntervalChange { .. }
             | TextOp::IntervalDelete { .. },
         ) => Ok(1),
-        ChannelOp::Grid(GridOp::One(op)) => added(0, inserted_by_cell(op)),
+        ChannelOp::Grid(GridOp::One(op)) => load_with(0, inserted_by_cell(op)),
         ChannelOp::Grid(GridOp::Group(ops)) => cell_loads(ops.as_slice()),
     }
 }
 
 // A load with that of a further sub-operation that inserts so many elements.
-fn added(load: u64, inserted: u64) -> Result<u64, OutOfMemory>
+fn load_with(load: u64, inserted: u64) -> Result<u64, OutOfMemory>
     ensures { IfOk result (λ n. n ≡ load + (1 + inserted)) }
 {
     let more = inserted.checked_add(1).ok_or(OutOfMemory)?;
@@ -98,7 +98,7 @@ fn base_loads(ops: &[BaseOp]) -> Result<u64, OutOfMemory>
 {
     let mut load = 0;
     for op in ops {
-        load = added(load, inserted_by_base(op))?;
+        load = load_with(load, inserted_by_base(op))?;
     }
     Ok(load)
 }
@@ -109,7 +109,7 @@ fn cell_loads(ops: &[CellOp]) -> Result<u64, OutOfMemory>
 {
     let mut load = 0;
     for op in ops {
-        load = added(load, inserted_by_cell(op))?;
+        load = load_with(load, inserted_by_cell(op))?;
     }
     Ok(load)
 }
@@ -122,7 +122,7 @@ fn inserted_by_base(op: &BaseOp) -> u64
         BaseOp::Insert {
             seg: Seg::Chars { text },
             ..
-        } => length_of(text),
+        } => char_count(text),
         BaseOp::Insert {
             seg: Seg::Marker { .. },
             ..
@@ -132,7 +132,7 @@ fn inserted_by_base(op: &BaseOp) -> u64
 }
 
 // How many characters the text has.
-fn length_of(text: &Text) -> u64
+fn char_count(text: &Text) -> u64
     ensures { result ≡ length text.now }
 {
     text.as_str().chars().count() as u64

@@ -4,7 +4,7 @@ ghost use Rattle.std.specs.Prelude.{◌≡◌, [], IfOk};
 ghost use Rattle.ft_seqr.specs.Sequencer.{new_sequencer};
 ghost use Rattle.ft_seqr.specs.World.{of_client};
 ghost use Rattle.ft_session.specs.Acts.{ActEffect, ClientActEffect, IsWellFormedAct, IsWellFormedClientAct, NamedActEffect, SessionActEffect, act_step, client_step, session_step};
-ghost use Rattle.ft_session.specs.Worlds.{AnswersClient, AnswersHappening, MeetsSome, StandsForSome};
+ghost use Rattle.ft_session.specs.Worlds.{AnswersClient, AnswersHappening, MeetsSome, SessionStandsForSome};
 
 use crate::acts::{Act, ClientAct, SessionAct};
 use crate::asked::{authors, blame, overlap, queue, show, summarize};
@@ -52,7 +52,7 @@ impl<R: Replica + Drop> Session<R> {
     /// What an event does happens.
     pub(crate) fn happen(&mut self, act: Act<'_>) -> Result<BoxedOut, Refusal>
         requires formed { IsWellFormedAct act }
-        requires stands { StandsForSome self.old }
+        requires stands { SessionStandsForSome self.old }
         ensures answers { AnswersHappening (λ w. act_step w act.entry) self.old self.new result }
         ensures effect { IfOk result (λ out. ActEffect R.COMPACTS act.entry self.old self.new out) }
     {
@@ -64,7 +64,7 @@ impl<R: Replica + Drop> Session<R> {
 
     // What an event does to the session as a whole happens.
     fn happen_here(&mut self, act: SessionAct<'_>) -> Result<BoxedOut, Refusal>
-        requires { StandsForSome self.old }
+        requires { SessionStandsForSome self.old }
         ensures answers { AnswersHappening (λ w. session_step w act.entry) self.old self.new result }
         ensures effect { IfOk result (λ out. SessionActEffect R.COMPACTS act.entry self.old self.new out) }
     {
@@ -80,7 +80,7 @@ impl<R: Replica + Drop> Session<R> {
     // What an event does happens to the client of that name.
     fn happen_to(&mut self, name: &Text, act: &ClientAct<'_>) -> Result<BoxedOut, Refusal>
         requires formed { IsWellFormedClientAct act.now }
-        requires stands { StandsForSome self.old }
+        requires stands { SessionStandsForSome self.old }
         ensures answers { AnswersHappening (λ w. of_client w name.now (client_step act.now w)) self.old self.new result }
         ensures effect { IfOk result (λ out. NamedActEffect R.COMPACTS act.now name.now self.new out) }
     {

@@ -7,7 +7,7 @@ ghost use Rattle.ft_seqr.specs.declared.events.Event.{Event};
 ghost use Rattle.ft_session.specs.Acts.{ActEffect, IsAct, IsWellFormedAct, act_load};
 ghost use Rattle.ft_session.specs.Outputs.{counts_of};
 ghost use Rattle.ft_session.specs.Effects.{SessionEffect};
-ghost use Rattle.ft_session.specs.Steps.{AnswersStep, StandsAtLoad, further_numbers};
+ghost use Rattle.ft_session.specs.Steps.{AnswersLoaded, StandsAtLoadForSome, further_numbers};
 ghost use Rattle.ft_session.specs.Worlds.{AnswersEvent, MembersStand, WorldStands};
 
 use crate::acts::{Act, act_of};
@@ -160,8 +160,8 @@ fn take<R: Replica + Drop>(
     event: &Event,
 ) -> Result<Taken, Refusal>
     requires formed { IsWellFormedEvent event.now }
-    requires stands { StandsAtLoad session.old load }
-    ensures answers { AnswersStep event.now session.old session.new load result }
+    requires stands { StandsAtLoadForSome session.old load }
+    ensures answers { AnswersLoaded event.now session.old session.new load result }
     ensures effect { IfOk result (λ taken. SessionEffect R.COMPACTS event.now session.old session.new taken.out) }
 {
     let act = act_of(session.service.alloc, event)?;
@@ -175,8 +175,8 @@ fn take_act<R: Replica + Drop>(
     act: Act<'_>,
 ) -> Result<Taken, Refusal>
     requires formed { IsWellFormedAct act }
-    requires stands { StandsAtLoad session.old load }
-    ensures answers { (e : Event) → IsWellFormedEvent e → IsAct act.entry e → AnswersStep e session.old session.new load result }
+    requires stands { StandsAtLoadForSome session.old load }
+    ensures answers { (e : Event) → IsWellFormedEvent e → IsAct act.entry e → AnswersLoaded e session.old session.new load result }
     ensures effect { IfOk result (λ taken. ActEffect R.COMPACTS act.entry session.old session.new taken.out) }
 {
     let raised = load_after(load, &act);

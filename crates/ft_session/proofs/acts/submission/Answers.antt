@@ -9,5 +9,5 @@ returns c = (
   c.args.text.now,
   refl,
   IfOk-at_ok (λ read. draft (encode_utf8_all c.args.text.now) ≡ read) c.in_ok-read.ensures
-      c.read_submission.ensures,
+      c.submitted_draft.ensures,
 )

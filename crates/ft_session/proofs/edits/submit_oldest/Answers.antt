@@ -1,8 +1,9 @@
 -- One message, and then the others.
-use Rattle.std.proofs.Common.{◌∙◌, drop, take, ap, sym, arith}
+use Rattle.std.proofs.Common.{◌∙◌, drop, take, ap, arith}
+use Rattle.std.proofs.lemmas.List.{drop-drop}
 use Rattle.ft_msg.specs.Answers.{ReplicaState, with_queue}
 use Rattle.ft_seqr.specs.World.{submit_all}
-use Rattle.ft_session.proofs.Submissions.{drop-next, one-more}
+use Rattle.ft_session.proofs.Submissions.{one-more}
 use Rattle.ft_session.proofs.edits.submit_oldest.Goals as goal
 
 pub submit_next-requires : goal.submit_next-requires
@@ -19,7 +20,7 @@ loop-preserved g c =
       within = let h = c.loop-test.true in omega (arith, h);
       replica = c.in_ok-submit_next.ensures.replica
           ∙ (ap (λ (r : ReplicaState). with_queue (drop 1 r.client.queue) r) c.loop.invariant.replica
-          ∙ ap (λ ds. with_queue ds (g.R.Replica.state c.args.replica.now)) (sym (drop-next c.loop.counter queue)));
+          ∙ ap (λ ds. with_queue ds (g.R.Replica.state c.args.replica.now)) (drop-drop 1 c.loop.counter queue));
       service = λ w v e k.
           let (u, s, h) = c.loop.invariant.service w v e k in
           let (x, a, b) = one-more c.args.count c.loop.counter c.args.conn queue u v c.loop-test.true h in

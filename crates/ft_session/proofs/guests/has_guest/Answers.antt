@@ -5,4 +5,4 @@ use Rattle.ft_session.proofs.Naming.{any-found}
 use Rattle.ft_session.proofs.guests.has_guest.Goals as goal
 
 pub returns : goal.returns
-returns c = c.is_some.ensures ∙ ap is_some c.place_of_guest.ensures ∙ any-found (is_guest c.args.name.now) c.args.guests.now
+returns c = c.is_some.ensures ∙ ap is_some c.guest_place.ensures ∙ any-found (is_guest c.args.name.now) c.args.guests.now

@@ -1,10 +1,11 @@
 -- One client more, and those of all at the end.
 use Rattle.std.proofs.Common.{◌+◌, ◌∙◌, ap, drop, subst, sym}
+use Rattle.std.proofs.lemmas.List.{drop_all}
 use Rattle.ft_msg.specs.Answers.{numbers_of}
 use Rattle.ft_session.specs.Steps.{further_numbers}
 use Rattle.ft_session.specs.Worlds.{MemberState}
 use Rattle.ft_session.proofs.Counting.{StillCounts, counts-first, counts-last, counts-next}
-use Rattle.ft_delivery.proofs.Rests.{none-left, rest-at}
+use Rattle.ft_delivery.proofs.Rests.{rest-at}
 use Rattle.ft_session.proofs.world.furthest_counts.Goals as goal
 
 pub loop-member-init : goal.loop-member-init
@@ -19,5 +20,6 @@ loop-member-preserved g c = subst (StillCounts c.args.members.now (drop (c.loop-
 
 pub returns : goal.returns
 returns g c w s = counts-last c.args.members.now c.loop-member.furthest
-    (subst (λ ms. StillCounts c.args.members.now ms c.loop-member.furthest) (none-left c.args.members.now c.loop-member.member-index c.loop-member-test.false) c.loop-member.invariant)
+    (subst (λ ms. StillCounts c.args.members.now ms c.loop-member.furthest)
+    (drop_all c.loop-member.member-index c.args.members.now c.loop-member-test.false) c.loop-member.invariant)
     w s

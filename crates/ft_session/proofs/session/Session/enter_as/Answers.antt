@@ -1,13 +1,13 @@
 -- A guest enters.
 use Rattle.std.proofs.Common.{◌+◌, ◌-◌, ◌<◌, ◌^◌, ◌≡◌, ◌∙◌, None, ap, length, sym, subst}
 use Rattle.ft_seqr.specs.World.{NaiveWorld, name_fault}
-use Rattle.ft_session.specs.Worlds.{SessionState, SessionStands, StandsForSome}
+use Rattle.ft_session.specs.Worlds.{SessionStandsForSome, SessionState, SessionStands}
 use Rattle.ft_session.proofs.GuestEvents.{enter-new, enter-refused, enter-taken}
 use Rattle.ft_session.proofs.SessionAnswers.{session-handed, session-view}
 use Rattle.ft_session.proofs.session.Session.enter_as.Goals as goal
 
 pub join-requires-clause-new : goal.join-requires-clause-new
-join-requires-clause-new g c = enter-new _ c.args.name.now c.args.label.now (subst StandsForSome (sym c.self.view_is) c.requires.stands)
+join-requires-clause-new g c = enter-new _ c.args.name.now c.args.label.now (subst SessionStandsForSome (sym c.self.view_is) c.requires.stands)
     (subst (λ (s : SessionState). (w : NaiveWorld) → SessionStands s w → name_fault w c.args.name.now ≡ None) (sym c.self.view_is) c.requires.free)
     (subst (λ (s : SessionState). length s.service.names < 2 ^ 32 - 1) (sym c.self.view_is) c.requires.few) c.requires.label
 

@@ -3,11 +3,12 @@ use Rattle.std.proofs.Common.{◌∙◌, ap, sym}
 use Rattle.std.specs.List.{position}
 use Rattle.ft_session.specs.Acts.{client_step}
 use Rattle.ft_session.specs.Worlds.{has_name}
-use Rattle.ft_session.proofs.Happenings.{at-place, by-session, happened-effect, happened-to, happened-to_none, meets-some, stands-session, unchanged-session}
+use Rattle.ft_session.proofs.Happenings.{at-place, happened-effect, happened-to, happened-to_none, meets-some, stands-session}
+use Rattle.ft_session.proofs.SessionAnswers.{session-same, session-view}
 use Rattle.ft_session.proofs.session.Session.happen_to.Goals as goal
 
 pub returns-in_default-clause-answers : goal.returns-in_default-clause-answers
-returns-in_default-clause-answers g c = unchanged-session c.self.view_is
+returns-in_default-clause-answers g c = session-same c.self.view_is
     (happened-to_none (client_step c.args.act.now) c.args.name.now c.self.inside.members.items c.self.inside.guests.items c.self.inside.service
     (sym (c.member_place.ensures ∙ ap (position (has_name c.args.name.now)) c.as_slice.ensures.value) ∙ c.in_default.is))
 
@@ -18,7 +19,7 @@ happen_to_member-requires-clause-meets g c = meets-some (client_step c.args.act.
     (stands-session c.self.view_is c.requires.stands)
 
 pub returns-clause-answers : goal.returns-clause-answers
-returns-clause-answers g c = by-session c.self.view_is
+returns-clause-answers g c = session-view c.self.view_is
     (happened-to (client_step c.args.act.now) c.args.name.now c.self.inside.members.items c.self.inside.guests.items c.self.inside.service c.in-Some.place c.index_mut.result.now
     (sym (c.member_place.ensures ∙ ap (position (has_name c.args.name.now)) c.as_slice.ensures.value) ∙ c.in-Some.is)
     (at-place c.args.name.now c.in-Some.place c.self.inside.members.items c.index_mut.result.now (sym (c.member_place.ensures ∙ ap (position (has_name c.args.name.now)) c.as_slice.ensures.value) ∙ c.in-Some.is) c.index_mut.ensures.value)
