@@ -33,6 +33,7 @@ use Rattle.ft_map.proofs.JoinedConnections.{IsAccepted, after_draft, joined-left
 use Rattle.ft_map.proofs.Served.{IsLinked, IsOnline, IsQueue, queue-up, sent-foreign, sent-none, sent_op}
 use Rattle.ft_map.proofs.ServedSteps.{IsBase, IsNumbered, KeepsOwners, Serves, base-minimum, moved, moved-base, serves-begun, serves-delivered, serves-dropped, serves-edited, serves-empty, serves-joins, serves-more, serves-sent}
 use Rattle.ft_map.proofs.Submitting.{one_of, submit-first, then_all, ticketed, ticketed_by, ticketing, with_queue}
+use Rattle.ft_map.proofs.Turns.{named_step}
 
 -- it isn't the sequencer's
 abbrev pub IsNoNack : Refusal → Type 0
@@ -469,9 +470,6 @@ module _ (w : MapSession) (k : IsKnown w) where
       by : (o : Option NamedMapClient) → find (is_client from) w.clients ≡ o → IsKept (begun name o)
       by None e = λ nack h. absurd cc
       by (Some c) e = copies c c.client.state.pending (k.serves from c e)
-
-  abbrev named_step : Option Refusal → MapStepped → MapStepped
-  named_step fault taken = elim fault as (λ _. MapStepped) [ Some why ↦ Err why | None ↦ taken ]
 
   named-kept : (name : Characters) (taken : MapStepped) → IsKept taken → IsKept (with_name w name taken)
   named-kept name taken h = by (list_any (is_client name) w.clients) (nat_le name_limit (length w.clients))

@@ -1,5 +1,6 @@
 -- Messages that are submitted one after another.
 use Rattle.std.proofs.Common.{◌≡◌, ℕ, zero, suc, ◌+◌, ◌-◌, ◌<◌, ◌≤◌, List, [], ◌∷◌, length, slice_get, Option, Some, None, Result, Ok, Err, codes, drop, take, refl, sym, ◌∙◌, ap, subst, arith}
+use Rattle.std.proofs.lemmas.List.{drop-drop}
 use Rattle.ft_seqr.specs.declared.events.HowMany.{HowMany}
 use Rattle.ft_msg.specs.declared.messages.Entry.{Entry}
 use Rattle.ft_seqr.specs.declared.nacks.Nack.{Nack}
@@ -24,15 +25,6 @@ draft_with n ref_seq name op = record { draft = record { client_seq = n; ref_seq
 -- the client with these unsent messages
 abbrev pub with_queue : List MapDraft → MapClient → MapClient
 with_queue ds x = record x { queue = ds }
-
-drop-suc : (k : ℕ) (ds : List MapDraft) → drop (suc k) ds ≡ drop 1 (drop k ds)
-drop-suc zero [] = refl
-drop-suc zero (d ∷ ds) = refl
-drop-suc (suc k) [] = refl
-drop-suc (suc k) (d ∷ ds) = drop-suc k ds
-
-pub drop-next : (k : ℕ) (ds : List MapDraft) → drop (k + 1) ds ≡ drop 1 (drop k ds)
-drop-next k ds = (let e : k + 1 ≡ suc k = omega arith in ap (λ n. drop n ds) e) ∙ drop-suc k ds
 
 -- what becomes of the first of them, and then of the others
 abbrev pub then_all : ℕ → List MapDraft → Result MapService Refusal → Result MapService Refusal
@@ -60,7 +52,7 @@ pub one-more : (count k conn : ℕ) (queue : List MapDraft) (s t : MapService) �
 one-more count k conn queue s t l h =
     ap (λ n. submit_all s conn (take n (drop k queue))) (let e : count - k ≡ suc (count - (k + 1)) = omega (arith, l) in e)
     ∙ first (count - (k + 1)) conn (drop k queue) s t h
-    ∙ ap (λ ds. submit_all t conn (take (count - (k + 1)) ds)) (sym (drop-next k queue))
+    ∙ ap (λ ds. submit_all t conn (take (count - (k + 1)) ds)) (drop-drop 1 k queue)
 
 pub nothing-more : (count k conn : ℕ) (queue : List MapDraft) (s : MapService) → count ≤ k → submit_all s conn (take (count - k) (drop k queue)) ≡ Ok s
 nothing-more count k conn queue s l = ap (λ n. submit_all s conn (take n (drop k queue))) (let e : count - k ≡ 0 = omega (arith, l) in e)

@@ -128,7 +128,8 @@ module _ (w : MapSession) (name : Characters) (turn : MapService → NamedMapCli
 
 -- ---- how a client comes in
 
-abbrev named_step : Option Refusal → MapStepped → MapStepped
+-- what becomes of a new name, by why it can't be given, if it can't
+abbrev pub named_step : Option Refusal → MapStepped → MapStepped
 named_step fault taken = elim fault as (λ _. MapStepped) [ Some refusal ↦ Err refusal | None ↦ taken ]
 
 module _ (w : MapSession) (name : Characters) (from : Option Characters) where

@@ -1,7 +1,8 @@
 use Rattle.std.proofs.Common.{◌≡◌, drop, take, sym, ◌∙◌, ap, arith}
+use Rattle.std.proofs.lemmas.List.{drop-drop}
 use Rattle.ft_map.specs.MapClient.{MapClient}
 use Rattle.ft_map.specs.MapSession.{submit_all}
-use Rattle.ft_map.proofs.Submitting.{drop-next, next-taken, nothing-more, one-more, with_queue}
+use Rattle.ft_map.proofs.Submitting.{next-taken, nothing-more, one-more, with_queue}
 use Rattle.ft_map.proofs.members.submit_oldest.Goals as goal
 
 pub submit_next-requires : goal.submit_next-requires
@@ -17,7 +18,7 @@ loop-preserved c =
     record {
       within = let h = c.loop-test.true in omega (arith, h);
       client = c.in_ok-submit_next.ensures.client ∙ ap (λ (x : MapClient). with_queue (drop 1 x.queue) x) c.loop.invariant.client
-          ∙ ap (λ ds. with_queue ds c.args.client.now) (sym (drop-next k queue));
+          ∙ ap (λ ds. with_queue ds c.args.client.now) (drop-drop 1 k queue);
       service = c.loop.invariant.service
           ∙ one-more c.args.count k c.args.conn queue c.loop.service c.submit_next.new.service c.loop-test.true
           (ap (λ (x : MapClient). submit_all c.loop.service c.args.conn (take 1 x.queue)) (sym c.loop.invariant.client) ∙ c.in_ok-submit_next.ensures.service);
