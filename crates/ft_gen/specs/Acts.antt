@@ -41,8 +41,9 @@ event_by i deed.Noop = says_nothing i
 event_by i deed.Compact = compacts i
 event_by i deed.Show = shows i
 
-abbrev pub event_of : Act → Event
-event_of act = event_by act.client act.deed
+-- the event of an act
+abbrev pub act_event : Act → Event
+act_event act = event_by act.client act.deed
 
 -- the op and the progress are those of the edit; it is well formed, and raises no number by much
 pub record IsDrawn (edit : DrawnEdit) (old : Progress) (op : DrawnOp) (new : Progress) : Type 0 where

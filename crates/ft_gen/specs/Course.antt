@@ -11,7 +11,7 @@ use Rattle.ft_gen.specs.declared.progress.Progress.{Progress}
 use Rattle.ft_gen.specs.declared.progress.Roles.{Roles}
 use Rattle.ft_gen.specs.Rounds.{after_edits, after_turns, clients, each, edits, exchange, from, loss, rounds, turns, with_growth}
 use Rattle.ft_gen.specs.Generated.{shows}
-use Rattle.ft_gen.specs.Acts.{event_of}
+use Rattle.ft_gen.specs.Acts.{act_event}
 use Rattle.ft_gen.specs.Opening.{IsOpening, opening_to_come}
 use Rattle.ft_gen.specs.Exchange.{IsExchange, exchange_to_come}
 
@@ -100,7 +100,7 @@ pub record HasToCome (events : List Event) (c : Course) : Type 0 where
   pub sound : IsCourse c
 
 -- the event of this act is the first of these, and the others are still to come
-pub record IsStep (events : List Event) (act : Act) (c : Course) : Type 0 where
-  pub told : events ≡ event_of act ∷ to_come c
-  pub well_formed : IsWellFormedEvent (event_of act)
+pub record IsNextAct (events : List Event) (act : Act) (c : Course) : Type 0 where
+  pub told : events ≡ act_event act ∷ to_come c
+  pub well_formed : IsWellFormedEvent (act_event act)
   pub sound : IsCourse c

@@ -2,7 +2,7 @@
 
 ghost use Rattle.std.specs.Prelude.{◌≡◌, IfOk};
 ghost use Rattle.ft_seqr.specs.WellFormedEvent.{IsWellFormedEvent};
-ghost use Rattle.ft_gen.specs.Acts.{event_of};
+ghost use Rattle.ft_gen.specs.Acts.{act_event};
 ghost use Rattle.ft_gen.specs.Rounds.{client_name};
 
 use crate::edits::DrawnOp;
@@ -53,8 +53,8 @@ impl Act {
 
     /// The event.
     pub fn event(self, alloc: Global) -> Result<Event, OutOfMemory>
-        requires { IsWellFormedEvent (event_of self) }
-        ensures { IfOk result (λ event. event ≡ event_of self) }
+        requires { IsWellFormedEvent (act_event self) }
+        ensures { IfOk result (λ event. event ≡ act_event self) }
     {
         let client = client_name(alloc, self.client)?;
         Ok(match self.deed {

@@ -4,7 +4,7 @@ ghost use Rattle.std.specs.Prelude.{◌≡◌, ◌+◌, ◌≤◌, ◌++◌, [],
 ghost use Rattle.ft_gen.specs.declared.course.Place.TheVariants as place;
 ghost use Rattle.ft_gen.specs.Rounds.{clients, each, from, loss};
 ghost use Rattle.ft_gen.specs.Generated.{generated, shows};
-ghost use Rattle.ft_gen.specs.Course.{HasToCome, IsAtRound, IsBeforeTurn, IsCourse, IsEditing, IsStep, edits_on, rounds_on, to_come, turns_on, with_one_less};
+ghost use Rattle.ft_gen.specs.Course.{HasToCome, IsAtRound, IsBeforeTurn, IsCourse, IsEditing, IsNextAct, edits_on, rounds_on, to_come, turns_on, with_one_less};
 
 use crate::acts::{Act, Deed};
 use crate::draws::draw;
@@ -77,7 +77,7 @@ impl Course {
     /// What is done next, and the course behind it.
     pub fn step(self) -> Option<(Act, Course)>
         requires { IsCourse self }
-        ensures some { IfSome result (λ s. IsStep (to_come self) s.0 s.1) }
+        ensures some { IfSome result (λ s. IsNextAct (to_come self) s.0 s.1) }
         ensures none { result ≡ None → to_come self ≡ [] }
     {
         match self.place {
@@ -99,7 +99,7 @@ impl Course {
     // Where a part of the opening is next.
     fn open(self, opening: Opening) -> (Act, Course)
         requires { IsCourse (record self { place = place.Opening opening }) }
-        ensures { IsStep (to_come (record self { place = place.Opening opening })) result.0 result.1 }
+        ensures { IsNextAct (to_come (record self { place = place.Opening opening })) result.0 result.1 }
     {
         match opening.step(self.clients) {
             (act, Some(next)) => (act, self.at(Place::Opening(next))),
@@ -110,7 +110,7 @@ impl Course {
     // Where a part of the exchange is next.
     fn exchange(self, exchange: Exchange) -> (Act, Course)
         requires { IsCourse (record self { place = place.Exchange exchange }) }
-        ensures { IsStep (to_come (record self { place = place.Exchange exchange })) result.0 result.1 }
+        ensures { IsNextAct (to_come (record self { place = place.Exchange exchange })) result.0 result.1 }
     {
         match exchange.step(self.clients, self.round) {
             (act, Some(next)) => (act, self.at(Place::Exchange(next))),
@@ -217,7 +217,7 @@ impl Course {
     // The loss of a connection.
     fn lose(self, dropped: u64, remover: u64) -> (Act, Course)
         requires { IsCourse (record self { place = place.Loss dropped remover }) }
-        ensures { IsStep (to_come (record self { place = place.Loss dropped remover })) result.0 result.1 }
+        ensures { IsNextAct (to_come (record self { place = place.Loss dropped remover })) result.0 result.1 }
     {
         let roles = Roles {
             dropped: Some(dropped),
@@ -230,7 +230,7 @@ impl Course {
     // An edit of the turn.
     fn edit(self, turn: Turn) -> (Act, Course)
         requires { IsCourse (record self { place = place.Editing turn }) }
-        ensures { IsStep (to_come (record self { place = place.Editing turn })) result.0 result.1 }
+        ensures { IsNextAct (to_come (record self { place = place.Editing turn })) result.0 result.1 }
     {
         let mut progress = self.progress;
         let op = progress.edit(turn.client == turn.roles.remover);

@@ -2,7 +2,7 @@
 
 ghost use Rattle.std.specs.Prelude.{◌≡◌, ℕ, ◌+◌, ◌≤◌, ◌∷◌, IfSome, Some};
 ghost use Rattle.ft_seqr.specs.WellFormedEvent.{IsWellFormedEvent};
-ghost use Rattle.ft_gen.specs.Acts.{event_of};
+ghost use Rattle.ft_gen.specs.Acts.{act_event};
 ghost use Rattle.ft_gen.specs.Rounds.{exchange};
 ghost use Rattle.ft_gen.specs.Exchange.{IsExchange, compacts_from, exchange_left, exchange_to_come, lessons_from, noop_lessons_from, noops_from, submissions_from};
 
@@ -47,8 +47,8 @@ impl Exchange {
         requires first { 1 ≤ clients }
         requires sound { IsExchange clients self }
         requires few { clients ≤ 16 }
-        ensures told { exchange_to_come clients round self ≡ event_of result.0 ∷ exchange_left clients round result.1 }
-        ensures well_formed { IsWellFormedEvent (event_of result.0) }
+        ensures told { exchange_to_come clients round self ≡ act_event result.0 ∷ exchange_left clients round result.1 }
+        ensures well_formed { IsWellFormedEvent (act_event result.0) }
         ensures sound { IfSome result.1 (IsExchange clients) }
     {
         match self {

@@ -2,7 +2,7 @@
 
 ghost use Rattle.std.specs.Prelude.{◌≡◌, ◌+◌, ◌≤◌, ◌∷◌, IfSome};
 ghost use Rattle.ft_seqr.specs.WellFormedEvent.{IsWellFormedEvent};
-ghost use Rattle.ft_gen.specs.Acts.{event_of};
+ghost use Rattle.ft_gen.specs.Acts.{act_event};
 ghost use Rattle.ft_gen.specs.Opening.{IsOpening, greetings_from, grid_lessons_from, opening_left, opening_to_come, starts_from};
 
 use crate::acts::{Act, Deed};
@@ -33,8 +33,8 @@ impl Opening {
         requires first { 1 ≤ clients }
         requires sound { IsOpening clients self }
         requires few { clients ≤ 16 }
-        ensures told { opening_to_come clients self ≡ event_of result.0 ∷ opening_left clients result.1 }
-        ensures well_formed { IsWellFormedEvent (event_of result.0) }
+        ensures told { opening_to_come clients self ≡ act_event result.0 ∷ opening_left clients result.1 }
+        ensures well_formed { IsWellFormedEvent (act_event result.0) }
         ensures sound { IfSome result.1 (IsOpening clients) }
     {
         match self {

@@ -1,4 +1,4 @@
-use Rattle.std.proofs.Common.{◌≡◌, sym, subst, rules, arith, decimal}
+use Rattle.std.proofs.Common.{sym, subst, arith}
 use Rattle.ft_json.specs.Canonical.{IsCanonicalText}
 use Rattle.ft_gen.proofs.DrawnTexts.{canonical_decimal}
 use Rattle.ft_gen.proofs.texts.number_text.Goals as goal

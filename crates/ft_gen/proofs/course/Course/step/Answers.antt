@@ -1,6 +1,6 @@
 use Rattle.std.proofs.Common.{◌≤◌, ap, sym, ◌∙◌, subst}
 use Rattle.ft_seqr.specs.WellFormedEvent.{IsWellFormedEvent}
-use Rattle.ft_gen.specs.Acts.{event_of}
+use Rattle.ft_gen.specs.Acts.{act_event}
 use Rattle.ft_gen.specs.Rounds.{each}
 use Rattle.ft_gen.specs.Generated.{shows}
 use Rattle.ft_gen.specs.Course.{IsPlace, place_to_come}
@@ -13,7 +13,7 @@ returns-in-Showing-clause-some c =
     let i = c.in-Showing.client in
     let here : i ≤ course.clients = subst (IsPlace course.clients course.round course.progress) c.in-Showing.is c.requires.place in
     let first = ap (place_to_come course.clients course.round course.progress) c.in-Showing.is ∙ ap (each shows) (from-more course.clients i here) in
-    let act = ap event_of c.new.ensures in
+    let act = ap act_event c.new.ensures in
     record {
       told = cc;
       well_formed = subst IsWellFormedEvent (sym act) tt;
