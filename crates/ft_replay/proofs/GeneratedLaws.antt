@@ -1,5 +1,5 @@
 -- How far the lines of a generated session are written, and how each end of that is what is asked.
-use Rattle.std.proofs.Common.{◌≡◌, ℕ, ◌≤◌, List, [], ◌∷◌, ◌++◌, Option, Result, Ok, Err, sym, ◌∙◌, ap, subst, arith, append_assoc, append-nil, map}
+use Rattle.std.proofs.Common.{◌≡◌, ℕ, ◌≤◌, List, ◌∷◌, ◌++◌, Option, Result, Ok, Err, sym, ◌∙◌, ap, subst, arith, append_assoc, map}
 use Rattle.std.specs.Io.KnownBytes.{Appends}
 use Rattle.ft_io.specs.Lines.{with_lf}
 use Rattle.ft_io.proofs.TakenAndLeft.{Appends-append}
@@ -18,24 +18,6 @@ pub record IsWriting (all events : List Event) (held holds : Option (List ℕ)) 
   pub whole : bytes_of (map event_line all) ≡ written ++ bytes_of (map event_line events)
 
 module _ {all events : List Event} {held holds : Option (List ℕ)} (writing : IsWriting all events held holds) {start before : ℕ} (later : start ≤ before) where
-  -- all are written
-  pub writing_end : {T : Type 0} (done : T) → events ≡ [] → WritesBytes held holds start before (bytes_of (map event_line all)) (Ok done)
-  writing_end {T} done is = record {
-    written = writing.written;
-    takes = writing.takes;
-    later = later;
-    says = sym (writing.whole ∙ ap (λ es. writing.written ++ bytes_of (map event_line es)) is ∙ append-nil writing.written);
-  }
-
-  -- there was no room for the next event
-  pub writing_wants : {T : Type 0} (result : Result T Fault) → result ≡ Err OutOfMemory → WritesBytes held holds start before (bytes_of (map event_line all)) result
-  writing_wants {T} result is = subst (WritesBytes {T = T} held holds start before (bytes_of (map event_line all))) (sym is) (record {
-    written = writing.written;
-    takes = writing.takes;
-    later = later;
-    says = record { later = bytes_of (map event_line events); place = writing.whole };
-  })
-
   module _ (e : Event) (es : List Event) (is_next : events ≡ e ∷ es) (taken : Option (List ℕ)) (now : ℕ) where
     whole_next : bytes_of (map event_line all) ≡ writing.written ++ (with_lf (event_line e) ++ bytes_of (map event_line es))
     whole_next = writing.whole ∙ ap (λ xs. writing.written ++ bytes_of (map event_line xs)) is_next

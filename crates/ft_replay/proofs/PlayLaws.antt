@@ -19,7 +19,7 @@ use Rattle.ft_replay.specs.declared.play.Play.{Play as PlayState}
 use Rattle.ft_replay.specs.declared.showing.Agreement.{Agreement}
 use Rattle.ft_replay.specs.declared.showing.Showing.{Showing}
 use Rattle.ft_replay.specs.LineForm.{bytes_of}
-use Rattle.ft_replay.specs.Play.{Played, after_event, after_events, client_line, played_on, shown_client, shown_text}
+use Rattle.ft_replay.specs.Play.{Played, after_event, after_events, client_line, newly_shown, played_on, shown_text}
 use Rattle.ft_replay.specs.Playing.{Compares, HasShown, Plays, agrees_with, content_text}
 
 -- ---- the clients that were shown
@@ -81,7 +81,7 @@ shown_on old mid first (Ok begun) (Ok done) shown c view h is same line kept_fir
 module _ {R : Type 0} (play next : PlayState R) (at : Played) (e : Event) (plays : Plays play at) where
   -- an event was taken
   pub plays_taken : (p : NaiveWorld × Output) → step at.made e ≡ Ok p → WorldStands next.world p.0 → next.refused ≡ play.refused
-      → HasShown next.showing (at.shown ++ shown_client p.1) → Plays next (after_event at e)
+      → HasShown next.showing (at.shown ++ newly_shown p.1) → Plays next (after_event at e)
   plays_taken p is world refused shown =
       subst (λ s. Plays next (played_on at s)) (sym is) (record { world = world; refusals = refused ∙ plays.refusals; shown = shown })
 

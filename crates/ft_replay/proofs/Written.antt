@@ -1,7 +1,6 @@
 -- What a sink has taken of some bytes.
-use Rattle.std.proofs.Common.{◌≡◌, ℕ, ◌≤◌, List, [], ◌++◌, Option, Result, Ok, Err, IfOk, IfErr, OnOk, take, drop, refl, sym, ◌∙◌, ap, subst, append_assoc}
+use Rattle.std.proofs.Common.{◌≡◌, ℕ, ◌≤◌, List, [], ◌++◌, Option, Result, Ok, Err, IfErr, OnOk, take, drop, refl, sym, ◌∙◌, ap, subst, append_assoc}
 use Rattle.std.proofs.lemmas.List.{take-append-drop}
-use Rattle.std.proofs.lemmas.Result.{IfOk-at_ok}
 use Rattle.std.specs.Io.KnownBytes.{Appends}
 use Rattle.ft_io.specs.Streams.{Rose}
 use Rattle.ft_io.proofs.TakenAndLeft.{Appends-nil}
@@ -57,12 +56,6 @@ writes_after D T held holds before now bytes done (Ok value) (d, is) err h =
     writes_done D T held holds before now bytes bytes d value refl (subst (WritesBytes {T = D} held holds before now bytes) is h)
 writes_after D T held holds before now bytes done (Err fault) ok is h =
     writes_fault D T held holds before now bytes bytes fault (Err fault) refl refl (subst (WritesBytes {T = D} held holds before now bytes) is h)
-
--- and what holds then holds of the value
-pub holds_after : {D T : Type 0} (done : Result D Fault) (result : Result T Fault) (value : T) (P : T → Type 0)
-    → OnOk result ((d : D) × (done ≡ Ok d)) → IfOk result (λ given. given ≡ value) → OnOk done (P value) → IfOk result P
-holds_after done (Err fault) value P ok is h = tt
-holds_after done (Ok given) value P (d, was) is h = subst P (sym is) (IfOk-at_ok (λ _. P value) was h)
 
 -- behind what was written before
 pub begins_append : (done : List ℕ) {front whole : List ℕ} → Begins front whole → Begins (done ++ front) (done ++ whole)

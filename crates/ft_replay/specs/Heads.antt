@@ -6,8 +6,8 @@ use Rattle.ft_seqr.specs.SessionReport.{link_word}
 use Rattle.ft_seqr.specs.ViewLines.{json_string}
 
 -- the name of a client, behind its word
-abbrev pub written_name : Characters → List ℕ
-written_name name = codes "client " ++ json_string name
+abbrev pub written_client : Characters → List ℕ
+written_client name = codes "client " ++ json_string name
 
 -- the numbers of a client, each behind its word
 abbrev pub written_counts : Numbers → List ℕ

@@ -55,5 +55,5 @@ abbrev pub counts_in : Document → Counts
 counts_in doc = record { skipped = doc.skipped; other = doc.other }
 
 -- those of a document, if there is one
-abbrev pub counts_of : Option Document → Option Counts
-counts_of doc = option_map counts_in doc
+abbrev pub given_counts : Option Document → Option Counts
+given_counts doc = option_map counts_in doc

@@ -20,14 +20,14 @@ pub record Played : Type 0 where
   pub shown : List NamedClient
 
 -- the client that is shown, if one is
-abbrev pub shown_client : Output → List NamedClient
-shown_client (View c) = c ∷ []
-shown_client _ = []
+abbrev pub newly_shown : Output → List NamedClient
+newly_shown (View c) = c ∷ []
+newly_shown _ = []
 
 -- a play after an event that became this
 abbrev pub played_on : Played → Stepped → Played
 played_on at (Err refusal) = record at { refused = at.refused + 1 }
-played_on at (Ok p) = record at { made = p.0; shown = at.shown ++ shown_client p.1 }
+played_on at (Ok p) = record at { made = p.0; shown = at.shown ++ newly_shown p.1 }
 
 -- a play after an event
 abbrev pub after_event : Played → Event → Played

@@ -2,7 +2,7 @@
 
 ghost use Rattle.std.specs.Prelude.{◌≡◌, ◌++◌, OnOk, string_bytes};
 ghost use Rattle.ft_io.specs.Lines.{with_lf};
-ghost use Rattle.ft_replay.specs.Heads.{written_counts, written_head, written_name};
+ghost use Rattle.ft_replay.specs.Heads.{written_client, written_counts, written_head};
 ghost use Rattle.ft_seqr.specs.SessionReport.{link_word};
 
 use crate::view_lines::push_quoted;
@@ -29,7 +29,7 @@ pub fn push_head(
 
 /// Adds the name of a client, behind its word.
 pub fn push_name(alloc: Global, text: &mut String, name: &Text) -> Result<(), OutOfMemory>
-    ensures { OnOk result (string_bytes text.new ≡ string_bytes text.old ++ written_name name.now) }
+    ensures { OnOk result (string_bytes text.new ≡ string_bytes text.old ++ written_client name.now) }
 {
     text.push_str("client ")?;
     push_quoted(alloc, text, name)

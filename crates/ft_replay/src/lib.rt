@@ -40,7 +40,7 @@ pub use endings::{Ending, Fault};
 pub use event_lines::client_text;
 pub use forms::{replay_load, replay_log, replay_map, replay_session};
 pub use generated::write_generated;
-pub use observer::{number_sender, table_of};
+pub use observer::{sender_number, table_of};
 pub use play::write_play;
 pub use session_replay::{SessionReplay, session_pieces};
 pub use settings::Settings;

@@ -26,7 +26,7 @@ pub trait Listener: Sized + Drop {
     ghost use Rattle.ft_io.specs.Reader.{input_limit};
     ghost use Rattle.ft_seqr.specs.Walk.{line_limit};
     ghost use Rattle.ft_replay.specs.LineForm.{LineForm, bytes_of};
-    ghost use Rattle.ft_replay.specs.Listening.{IsStep, counts_of};
+    ghost use Rattle.ft_replay.specs.Listening.{IsStep, given_counts};
 
     /// What lines make.
     ghost Made: { Type 0 };
@@ -68,5 +68,5 @@ pub trait Listener: Sized + Drop {
 
     /// How many sub-operations were skipped, and how many messages were for others: None exactly where the command doesn't count these.
     fn counts(&self) -> Option<Counts>
-        ensures { (made : Made) → holds self.now made → result ≡ counts_of (form.counted made) };
+        ensures { (made : Made) → holds self.now made → result ≡ given_counts (form.counted made) };
 }

@@ -1,17 +1,27 @@
 //! Values that are moved without a look at what they are. So the proofs of those who move large ones take none of them apart.
 
-ghost use Rattle.std.specs.Prelude.{◌≡◌, Err, IfErr, IfOk, Ok};
+ghost use Rattle.std.specs.Prelude.{◌≡◌, Err, IfErr, IfOk, Ok, OnOk};
 
-use ft_base::OutOfMemory;
+/// The value, if what was to be done before is done, or why it isn't.
+pub fn after<D: Drop, T: Drop, E: Drop>(done: Result<D, E>, value: T) -> Result<T, E>
+    ensures done { OnOk result ((d : D) × (done ≡ Ok d)) }
+    ensures value { IfOk result (λ given. given ≡ value) }
+    ensures err { IfErr result (λ why. done ≡ Err why) }
+{
+    match done {
+        Ok(_) => Ok(value),
+        Err(why) => Err(why),
+    }
+}
 
-/// What was made, and the value beside it, if it was made; else why it wasn't.
-pub fn made_beside<A: Drop, B: Drop>(
-    made: Result<A, OutOfMemory>,
-    value: B,
-) -> Result<(A, B), OutOfMemory>
+/// What was made, and the value beside it, or why it wasn't made.
+pub fn beside<A: Drop, B: Drop, E: Drop>(made: Result<A, E>, value: B) -> Result<(A, B), E>
     ensures made { IfOk result (λ pair. made ≡ Ok pair.0) }
     ensures value { IfOk result (λ pair. pair.1 ≡ value) }
-    ensures err { IfErr result (λ want. made ≡ Err want) }
+    ensures err { IfErr result (λ why. made ≡ Err why) }
 {
-    Ok((made?, value))
+    match made {
+        Ok(made) => Ok((made, value)),
+        Err(why) => Err(why),
+    }
 }

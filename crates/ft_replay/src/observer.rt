@@ -18,7 +18,7 @@ ghost use Rattle.ft_replay.specs.Observation.{Observation, numbered_entry, names
 ghost use Rattle.ft_replay.specs.Observers.{Observes};
 
 use crate::listener::{LINE_LIMIT, Listener, Told};
-use crate::moved::made_beside;
+use crate::moved::beside;
 use crate::view_lines::view_text;
 use ft_base::moved::both;
 use ft_base::{OutOfMemory, Text};
@@ -141,24 +141,24 @@ pub fn table_of(alloc: Global, conns: &Texts) -> Result<Names, OutOfMemory>
     Ok(names)
 }
 
-/// The message with the number of the connection that sent it, a new one where its name has none yet.
-///
-/// Returns `OutOfMemory` where there is no room for a new name, and then nothing changed.
-pub fn number_sender(names: &mut Names, msg: Message) -> Result<Entry, OutOfMemory>
+// The message with the number of the connection that sent it, a new one where its name has none yet.
+//
+// Returns `OutOfMemory` where there is no room for a new name, and then nothing changed.
+fn number_sender(names: &mut Names, msg: Message) -> Result<Entry, OutOfMemory>
     requires { length names.old < 2 ^ 32 - 1 }
     ensures ok { IfOk result (λ entry. entry ≡ numbered_entry names.old msg) }
     ensures names { OnOk result (names.new ≡ names_with names.old msg.client_id) }
     ensures err { OnErr result (names.new ≡ names.old) }
 {
     let number = sender_number(names, &msg.client_id);
-    let (origin, msg) = made_beside(number, msg)?;
+    let (origin, msg) = beside(number, msg)?;
     Ok(Entry { msg, origin })
 }
 
-// The number of the connection with this name, a new one where it has none yet; 0 for no name.
-//
-// Returns `OutOfMemory` where there is no room for a new name, and then nothing changed.
-fn sender_number(names: &mut Names, sender: &Option<Text>) -> Result<u32, OutOfMemory>
+/// The number of the connection with this name, a new one where it has none yet; 0 for no name.
+///
+/// Returns `OutOfMemory` where there is no room for a new name, and then nothing changed.
+pub fn sender_number(names: &mut Names, sender: &Option<Text>) -> Result<u32, OutOfMemory>
     requires { length names.old < 2 ^ 32 - 1 }
     ensures ok { IfOk result (λ number. number ≡ sender_number names.old sender.now) }
     ensures names { OnOk result (names.new ≡ names_with names.old sender.now) }

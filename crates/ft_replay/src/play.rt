@@ -6,14 +6,14 @@ ghost use Rattle.ft_seqr.specs.WellFormedEvent.{IsWellFormedEvent};
 ghost use Rattle.ft_seqr.specs.World.{NamedClient, Output, furthest};
 ghost use Rattle.ft_session.specs.Outputs.{Tells};
 ghost use Rattle.ft_replay.specs.LineForm.{bytes_of, whole_ending};
-ghost use Rattle.ft_replay.specs.Play.{Played, after_event, agreement_line, lines_of_play, nothing_played, play_lines, play_ending, session_play, settings_line, shown_client};
+ghost use Rattle.ft_replay.specs.Play.{Played, after_event, agreement_line, lines_of_play, newly_shown, nothing_played, play_lines, play_ending, session_play, settings_line};
 ghost use Rattle.ft_replay.specs.Playing.{HasShown, Plays};
 ghost use Rattle.ft_replay.specs.Generated.{IsWithinLimits};
 ghost use Rattle.ft_replay.specs.Writing.{WritesBytes};
 
 use crate::endings::{Ending, Fault};
 use crate::generated::session_events;
-use crate::report::push_closing;
+use crate::report::{ending_by, push_closing};
 use crate::settings::Settings;
 use crate::showing::Showing;
 use crate::sums::added;
@@ -118,7 +118,7 @@ impl<R: Replica + Drop> Play<R> {
         ensures { (at : Played) → Plays self.old at → OnOk result (Plays self.new (after_event at event.now)) }
     {
         match self.world.step(event) {
-            Ok(out) => show(self.alloc, &mut self.showing, out),
+            Ok(out) => add_shown(self.alloc, &mut self.showing, out),
             Err(why) => self.count_refused(why),
         }
     }
@@ -164,18 +164,14 @@ impl<R: Replica + Drop> Play<R> {
     fn ending(&self) -> Ending
         ensures { (at : Played) → Plays self.now at → result ≡ whole_ending at.refused (furthest at.made) }
     {
-        if self.refused == 0 && self.world.counts().skipped == 0 {
-            Ending::Done
-        } else {
-            Ending::SomeRefused
-        }
+        ending_by(self.refused, self.world.counts().skipped)
     }
 }
 
 // Adds the client that is shown by this, if one is.
-fn show(alloc: Global, showing: &mut Showing, out: Out) -> Result<(), OutOfMemory>
+fn add_shown(alloc: Global, showing: &mut Showing, out: Out) -> Result<(), OutOfMemory>
     ensures { (shown : List NamedClient) (output : Output) → HasShown showing.old shown → Tells output out
-        → OnOk result (HasShown showing.new (shown ++ shown_client output)) }
+        → OnOk result (HasShown showing.new (shown ++ newly_shown output)) }
 {
     match out {
         Out::View { name, view } => showing.add(alloc, &name, view),

@@ -4,7 +4,7 @@ ghost use Rattle.std.specs.Prelude.{◌≡◌, ◌++◌, OnOk, Option, string_by
 ghost use Rattle.ft_op.specs.Document.{Document};
 ghost use Rattle.ft_seqr.specs.SessionReport.{closing_lines};
 ghost use Rattle.ft_replay.specs.LineForm.{bytes_of, last_lines, last_ending, refused_count, ending_by};
-ghost use Rattle.ft_replay.specs.Listening.{counts_in, counts_of};
+ghost use Rattle.ft_replay.specs.Listening.{counts_in, given_counts};
 ghost use Rattle.ft_io.specs.Lines.{with_lf};
 
 use crate::endings::Ending;
@@ -28,7 +28,7 @@ pub fn push_closing(text: &mut String, refused: u64, counts: Counts) -> Result<(
 
 /// Adds the last lines of a command that may tell no counts. Each has its LF.
 pub fn push_last(text: &mut String, refused: u64, counts: Option<Counts>) -> Result<(), OutOfMemory>
-    ensures { (doc : Option Document) → counts ≡ counts_of doc → OnOk result (string_bytes text.new ≡ string_bytes text.old ++ bytes_of (last_lines refused doc)) }
+    ensures { (doc : Option Document) → counts ≡ given_counts doc → OnOk result (string_bytes text.new ≡ string_bytes text.old ++ bytes_of (last_lines refused doc)) }
 {
     match counts {
         None => push_refused(text, refused),
@@ -46,7 +46,7 @@ fn push_refused(text: &mut String, refused: u64) -> Result<(), OutOfMemory>
 
 /// How a whole report ends: `Done` where no line was refused, and no sub-operation skipped if these are counted.
 pub fn last_ending(refused: u64, counts: Option<Counts>) -> Ending
-    ensures { (doc : Option Document) → counts ≡ counts_of doc → result ≡ last_ending refused doc }
+    ensures { (doc : Option Document) → counts ≡ given_counts doc → result ≡ last_ending refused doc }
 {
     match counts {
         None => ending_by(refused, 0),
@@ -54,8 +54,8 @@ pub fn last_ending(refused: u64, counts: Option<Counts>) -> Ending
     }
 }
 
-// How it ends where so many lines were refused, and so many sub-operations skipped.
-fn ending_by(refused: u64, skipped: u64) -> Ending
+/// How it ends where so many lines were refused, and so many sub-operations skipped.
+pub fn ending_by(refused: u64, skipped: u64) -> Ending
     ensures { result ≡ ending_by refused skipped }
 {
     if refused == 0 && skipped == 0 {

@@ -1,11 +1,12 @@
 //! A session whose lines come one after another.
 
-ghost use Rattle.std.specs.Prelude.{◌≡◌, ℕ, ◌<◌, ◌≤◌, ◌↔◌, IsTrue, List, [], ◌∷◌, ◌++◌, Ok, Err, IfErr, IfOk, OnOk};
+ghost use Rattle.std.specs.Prelude.{◌≡◌, ℕ, ◌<◌, ◌≤◌, ◌↔◌, IsTrue, List, [], ◌∷◌, ◌++◌, IfOk, OnOk};
 ghost use Rattle.ft_io.specs.Reader.{input_limit};
 ghost use Rattle.ft_replay.specs.SessionReplays.{HasHeard, LinesAreCounted, LinesAreRefusedOnce, LinesGrow, ReportsEnd, end_bytes, heard_ending, heard_refused, line_bytes};
 ghost use Rattle.ft_replay.specs.Writing.{WritesBytes};
 
 use crate::endings::{Ending, Fault};
+use crate::moved::after;
 use crate::replay::{close_lines, hear_line};
 use crate::session::SessionRun;
 use ft_base::OutOfMemory;
@@ -110,18 +111,6 @@ impl<R: Replica + Drop> SessionReplay<R> {
         let ending = close_lines(self.refused, &self.run, out);
         drop(self);
         ending
-    }
-}
-
-// The value, if what was to be done before is done.
-fn after<D: Drop, T: Drop>(done: Result<D, Fault>, value: T) -> Result<T, Fault>
-    ensures done { OnOk result ((d : D) × (done ≡ Ok d)) }
-    ensures value { IfOk result (λ given. given ≡ value) }
-    ensures err { IfErr result (λ fault. done ≡ Err fault) }
-{
-    match done {
-        Ok(_) => Ok(value),
-        Err(fault) => Err(fault),
     }
 }
 

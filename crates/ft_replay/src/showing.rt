@@ -164,11 +164,11 @@ fn push_content_numbers(text: &mut String, view: &View) -> Result<(), OutOfMemor
 fn length_of(view: &View) -> Result<u64, OutOfMemory>
     ensures { IfOk result (λ sum. sum ≡ length view.now.text + length view.now.markers) }
 {
-    added(character_count(&view.text), view.markers.len() as u64)
+    added(char_count(&view.text), view.markers.len() as u64)
 }
 
 // How many characters the text has.
-fn character_count(text: &Text) -> u64
+fn char_count(text: &Text) -> u64
     ensures { result ≡ length text.now }
 {
     text.as_str().chars().count() as u64

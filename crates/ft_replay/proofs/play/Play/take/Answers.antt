@@ -7,7 +7,8 @@ use Rattle.ft_replay.proofs.play.Play.take.Goals as goal
 pub returns-in-Ok : goal.returns-in-Ok
 returns-in-Ok g c = λ at h.
     let a = c.in-Ok.ensures.answers.runs at.made h.world in
-    on_ok_weaker c.show.result (λ shown. plays_taken c.args.self.now _ at c.args.event.now h a.0 a.1 a.2 refl shown) (c.show.ensures at.shown a.0.1 h.shown a.3)
+    on_ok_weaker c.add_shown.result (λ shown. plays_taken c.args.self.now _ at c.args.event.now h a.0 a.1 a.2 refl shown)
+    (c.add_shown.ensures at.shown a.0.1 h.shown a.3)
 
 pub returns-in-Err : goal.returns-in-Err
 returns-in-Err g c = λ at h.

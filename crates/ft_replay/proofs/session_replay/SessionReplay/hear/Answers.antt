@@ -1,12 +1,14 @@
 use Rattle.std.proofs.Common.{◌≡◌, ◌++◌, ◌∷◌, []}
+use Rattle.ft_base.proofs.Results.{after-done}
 use Rattle.ft_replay.specs.SessionReplays.{HasHeard, line_bytes}
-use Rattle.ft_replay.proofs.Written.{holds_after, writes_after}
+use Rattle.ft_replay.proofs.Written.{writes_after}
 use Rattle.ft_replay.proofs.session_replay.SessionReplay.hear.Goals as goal
 
 pub returns-clause-after : goal.returns-clause-after
 returns-clause-after g c heard has =
-    holds_after c.hear_next-heard.result c.after.result c.hear_next-heard.new.self (λ s. HasHeard s.run.world s.lines s.refused (heard ++ c.args.line.now ∷ []))
-    c.after.ensures.done c.after.ensures.value (c.hear_next-heard.ensures.after heard has)
+    after-done c.hear_next-heard.result c.after.result
+    (λ s. HasHeard s.run.world s.lines s.refused (heard ++ c.args.line.now ∷ [])) c.hear_next-heard.new.self
+    (c.hear_next-heard.ensures.after heard has) c.after.ensures.done c.after.ensures.value
 
 pub returns-clause-writes : goal.returns-clause-writes
 returns-clause-writes g c heard has =
@@ -15,5 +17,6 @@ returns-clause-writes g c heard has =
 
 pub returns-clause-steady : goal.returns-clause-steady
 returns-clause-steady g c =
-    holds_after c.hear_next-heard.result c.after.result c.hear_next-heard.new.self (λ _. g.K.Sink.faults c.hear_next-heard.new.out ≡ g.K.Sink.faults c.args.out.now)
-    c.after.ensures.done c.after.ensures.value c.hear_next-heard.ensures.steady
+    after-done c.hear_next-heard.result c.after.result
+    (λ _. g.K.Sink.faults c.hear_next-heard.new.out ≡ g.K.Sink.faults c.args.out.now) c.hear_next-heard.new.self
+    c.hear_next-heard.ensures.steady c.after.ensures.done c.after.ensures.value

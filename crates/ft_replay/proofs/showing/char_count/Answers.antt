@@ -1,7 +1,7 @@
 use Rattle.std.proofs.Common.{◌≡◌, ◌∙◌, ap, length, rules}
 use Rattle.std.specs.Prelude.{chars}
 use Rattle.std.proofs.lemmas.Str.{chars_from_encodes}
-use Rattle.ft_replay.proofs.showing.character_count.Goals as goal
+use Rattle.ft_replay.proofs.showing.char_count.Goals as goal
 
 pub returns : goal.returns
 returns c =
