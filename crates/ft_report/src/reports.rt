@@ -94,14 +94,14 @@ pub fn report_into<R: Replica + Drop>(
 {
     *count = 0;
     match session_report::<R>(alloc, input) {
-        Ok(report) => put(&report, room, count),
+        Ok(report) => put_report(&report, room, count),
         Err(ReportFault::OutOfMemory) => OUT_OF_MEMORY,
         Err(ReportFault::TooLong) => TOO_LONG,
     }
 }
 
 // Puts the report into the room, if that is large enough, and tells how many bytes it has.
-fn put(report: &Report, room: &mut [u8], count: &mut usize) -> u32
+fn put_report(report: &Report, room: &mut [u8], count: &mut usize) -> u32
     ensures { (input : List ℕ) → IsReport input report.now → Tells input room.new count.new result }
 {
     *count = report.bytes.len();
