@@ -6,7 +6,7 @@ use Rattle.ft_seqr.specs.Walk.{Step}
 use Rattle.ft_replay.specs.LineForm.{bytes_of}
 use Rattle.ft_door.specs.declared.calls.Told.TheVariants.{Full, Refused, Taken}
 use Rattle.ft_door.specs.declared.clients.HeldClient.{HeldClient}
-use Rattle.ft_door.specs.Clients.{CallsClient, GoesOn, SendsDraft, ShowsClient, call_bytes, call_number, refusal_bytes, unread_by}
+use Rattle.ft_door.specs.Clients.{CallsClient, ClientGoesOn, SendsDraft, ShowsClient, call_bytes, call_number, refusal_bytes, unread_by}
 use Rattle.ft_door.specs.Editors.{EditorState, NaiveEditor, TellsStep, draft_bytes, oldest_bytes, shown_lines, with_queue}
 
 module _ {R : Type 0} (run : HeldClient R) (s t : EditorState) where
@@ -29,7 +29,7 @@ module _ {R : Type 0} (run : HeldClient R) (s t : EditorState) where
   pub call-refused : (new : HeldClient R) (step : NaiveEditor → Step NaiveEditor) (exceeds : NaiveEditor → Bool) (why : Refusal) → new.client ≡ Some t
       → unread_by new ≡ unread_by run ++ refusal_bytes why → TellsStep (Refused why) s t step exceeds → CallsClient step exceeds (record run { client = Some s }) new 1
   call-refused new step exceeds why is written tells = record {
-    client = λ x low h. subst (λ client. GoesOn client (step x).made) (sym is) (tells x h).1;
+    client = λ x low h. subst (λ client. ClientGoesOn client (step x).made) (sym is) (tells x h).1;
     told = λ x low h. ap call_number (sym (tells x h).0);
     written = λ x low h. written ∙ ap (λ refusal. unread_by run ++ call_bytes refusal) (sym (tells x h).0);
     ended = λ is. absurd (cc);
@@ -57,8 +57,8 @@ module _ {R : Type 0} (run : HeldClient R) (s t : EditorState) where
 
 -- a draft was written, and counts as sent
 pub draft-sent : {R : Type 0} (old new : HeldClient R) (line : List ℕ) → unread_by new ≡ unread_by old ++ line
-    → ((x : NaiveEditor) → GoesOn old.client x → oldest_bytes x.client.queue ≡ Some line)
-    → ((x : NaiveEditor) → GoesOn old.client x → GoesOn new.client (with_queue (drop 1 x.client.queue) x)) → SendsDraft old new 0
+    → ((x : NaiveEditor) → ClientGoesOn old.client x → oldest_bytes x.client.queue ≡ Some line)
+    → ((x : NaiveEditor) → ClientGoesOn old.client x → ClientGoesOn new.client (with_queue (drop 1 x.client.queue) x)) → SendsDraft old new 0
 draft-sent old new line written oldest sent = record {
   sent = λ x zero h. by x h x.client.queue refl (oldest x h);
   none = λ x is. absurd (cc);
@@ -68,15 +68,15 @@ draft-sent old new line written oldest sent = record {
   known = refl;
 }
   where
-    by : (x : NaiveEditor) → GoesOn old.client x → (queue : List Draft) → x.client.queue ≡ queue → oldest_bytes queue ≡ Some line
-        → (d : Draft) × (ds : List Draft) × (x.client.queue ≡ d ∷ ds) × GoesOn new.client (with_queue ds x) × (unread_by new ≡ unread_by old ++ draft_bytes d)
+    by : (x : NaiveEditor) → ClientGoesOn old.client x → (queue : List Draft) → x.client.queue ≡ queue → oldest_bytes queue ≡ Some line
+        → (d : Draft) × (ds : List Draft) × (x.client.queue ≡ d ∷ ds) × ClientGoesOn new.client (with_queue ds x) × (unread_by new ≡ unread_by old ++ draft_bytes d)
     by x h [] e o = absurd (cc)
     by x h (d ∷ ds) e o =
         let same : draft_bytes d ≡ line = (cc) in (
           d,
           ds,
           e,
-          subst (λ queue. GoesOn new.client (with_queue (drop 1 queue) x)) e (sent x h),
+          subst (λ queue. ClientGoesOn new.client (with_queue (drop 1 queue) x)) e (sent x h),
           written ∙ ap (λ bytes. unread_by old ++ bytes) (sym same),
         )
 
@@ -96,7 +96,7 @@ call-ended old new step exceeds is same = record {
 }
 
 -- there is nothing to send
-pub nothing-sent : {R : Type 0} (run : HeldClient R) → ((x : NaiveEditor) → GoesOn run.client x → None ≡ oldest_bytes x.client.queue) → SendsDraft run run 8
+pub nothing-sent : {R : Type 0} (run : HeldClient R) → ((x : NaiveEditor) → ClientGoesOn run.client x → None ≡ oldest_bytes x.client.queue) → SendsDraft run run 8
 nothing-sent run oldest = record {
   sent = λ x zero. absurd (cc);
   none = λ x eight h. by x.client.queue (oldest x h);
@@ -123,7 +123,7 @@ draft-kept old new client unread = record {
 
 -- a view is written, or there was no memory for it
 pub view-shown : {R : Type 0} (old new : HeldClient R) → new.client ≡ old.client
-    → ((x : NaiveEditor) → GoesOn old.client x → unread_by new ≡ unread_by old ++ bytes_of (shown_lines x)) → ShowsClient old new 0
+    → ((x : NaiveEditor) → ClientGoesOn old.client x → unread_by new ≡ unread_by old ++ bytes_of (shown_lines x)) → ShowsClient old new 0
 view-shown old new is shown = record {
   shown = λ x zero h. shown x h;
   client = is;

@@ -1,6 +1,6 @@
 -- What an editor is told of its calls, and for which one it stands then.
-use Rattle.std.proofs.Common.{chars, if◌then◌else◌, ◌≡◌, ℕ, ◌+◌, ◌*◌, ◌<◌, ◌≤◌, Bool, true, false, cond, not, ◌&&◌, IsTrue, nat_le, List, [], ◌∷◌, Option, Some, None, Result, Ok, Err, drop, length, map, max, option_map, suc, slice_get, refl, sym, ◌∙◌, ap, subst, arith}
-use Rattle.std.proofs.lemmas.Bool.{lt-ltb, le-leb, or_left, or_right}
+use Rattle.std.proofs.Common.{chars, if◌then◌else◌, ◌≡◌, ℕ, ◌+◌, ◌*◌, ◌<◌, ◌≤◌, Bool, true, false, cond, not, ◌&&◌, IsTrue, nat_le, List, [], ◌∷◌, Option, Some, None, Result, Ok, Err, drop, length, max, option_map, slice_get, refl, sym, ◌∙◌, ap, subst, arith}
+use Rattle.std.proofs.lemmas.Bool.{false_from_ne_true, lt-ltb, le-leb, or_left}
 use Rattle.std.proofs.lemmas.Bool.Decides.{nat_tests}
 use Rattle.std.proofs.lemmas.Str.{IsUtf8-from_is_utf8, is_utf8-from_IsUtf8}
 use Rattle.std.specs.Str.{IsUtf8, is_utf8}
@@ -23,11 +23,9 @@ use Rattle.ft_msg.specs.declared.messages.Message.{Message}
 use Rattle.ft_msg.specs.declared.views.Numbers.{Numbers}
 use Rattle.ft_msg.specs.declared.views.View.{View}
 use Rattle.ft_msg.specs.Answers.{HeldCounts, ReplicaState, RunsFor, StartsOver, held_in, numbers_of, view_content, with_queue}
-use Rattle.ft_msg.specs.Client.{NaiveClient, PendingEdit, client_over, connect, local_edit}
+use Rattle.ft_msg.specs.Client.{NaiveClient, client_over, connect, local_edit}
 use Rattle.ft_msg.specs.ClientSteps.{Connects, Drops, Edits, Sends, Takes, unless_refused}
-use Rattle.ft_msg.specs.Compacted.{StandsFor}
 use Rattle.ft_msg.specs.Content.{content}
-use Rattle.ft_msg.specs.Indexed.{IndexedClient, indexed_edit}
 use Rattle.ft_msg.specs.Process.{process}
 use Rattle.ft_msg.specs.Reached.{IsReached, IsStart, from_nothing, from_summary}
 use Rattle.ft_msg.specs.Summary.{doc_of}
@@ -43,9 +41,10 @@ use Rattle.ft_laws_sessions.specs.ClientDrafts.{DraftsOfClientsAreFormed, IsMade
 use Rattle.ft_laws_sessions.proofs.ClientDrafts.{alone-after, alone-reached}
 use Rattle.ft_replay.specs.Observation.{names_with, numbered_entry}
 use Rattle.ft_session.specs.Outputs.{IsViewOf}
+use Rattle.ft_session.proofs.Counting.{stands-minimum, stands-other, stands-pending, stands-skipped}
 use Rattle.ft_door.specs.declared.calls.Told.{Told}
 use Rattle.ft_door.specs.declared.calls.Told.TheVariants.{Full, Refused, Taken}
-use Rattle.ft_door.specs.Editors.{EditorState, AnswersStep, IsEditor, IsSomeEditor, NaiveEditor, TellsStep, as_client, connect_as, connect_line, drop_answer, drop_step, dropped_unless, edit_answer, edit_exceeds, edited, editor_of, entry_answer, is_awaited, is_free, is_join, is_offline, is_sender, joining_as, load_exceeds, load_limit, load_of, load_reading, load_reading_exceeds, message_answer, message_answer_exceeds, message_exceeds, name_limit, never_exceeds, new_editor, next_exceeds, no_name, oldest_bytes, or_same, order_fault, shown_link, start_load, take_entry, is_awaited_by, message_refusal, take_message, take_next, told_of, waits_after, draft_bytes}
+use Rattle.ft_door.specs.Editors.{EditorState, AnswersStep, IsEditor, IsSomeEditor, NaiveEditor, TellsStep, as_client, connect_as, connect_line, drop_answer, drop_step, dropped_unless, edit_answer, edit_exceeds, edited, editor_of, entry_answer, is_free, is_join, is_offline, is_sender, joining_as, load_exceeds, load_limit, load_of, load_reading, load_reading_exceeds, message_answer, message_answer_exceeds, message_exceeds, never_exceeds, new_editor, next_exceeds, no_name, oldest_bytes, or_same, order_fault, shown_link, start_load, table_limit, take_entry, is_awaited_by, message_refusal, take_message, take_next, told_of, waits_after, draft_bytes}
 use Rattle.ft_door.specs.Editors as editors
 use Rattle.ft_door.proofs.GivenSteps.{runs-queued}
 
@@ -226,9 +225,6 @@ entry-taken s old r m entry joins after exceeds refusal formed low entry_is old_
     (subst (GivesEntry s.replica r joins refusal) entry_is given)) give
 
 -- its numbers are those of the editor for which it stands
-stands-minimum : (r : IndexedClient) (x : NaiveClient) → StandsFor r x → r.doc.minimum ≡ x.doc.minimum
-stands-minimum r x t = ap (λ (c : IndexedClient). c.doc.minimum) (sym t.shows) ∙ ap (λ (d : Document). d.minimum) t.keeps.doc.rest
-
 pub order-same : (s : EditorState) (x : NaiveEditor) (m : Message) (numbers : Numbers) → numbers ≡ numbers_of s.replica → IsEditor s x
     → order_fault numbers.seq numbers.min m ≡ order_fault x.client.doc.number x.client.doc.minimum m
 order-same s x m numbers is h =
@@ -265,13 +261,11 @@ pub load-full : (s : EditorState) (x : NaiveEditor) (more : ℕ) → load_limit 
 load-full s x more above h = let load = h.load in grind (arith, nat_tests)
 
 -- there are as many names as there may be
-pub names-full : (s : EditorState) (x : NaiveEditor) (body : Body) → name_limit ≤ length s.names → IsEditor s x → IsTrue (next_exceeds x body)
+pub names-full : (s : EditorState) (x : NaiveEditor) (body : Body) → table_limit ≤ length s.names → IsEditor s x → IsTrue (next_exceeds x body)
 names-full s x body many h =
-    let few : nat_le name_limit (length x.names) ≡ true = le-leb name_limit (length x.names) (subst (λ names. name_limit ≤ length names) h.names many) in
-    or_left (nat_le name_limit (length x.names)) (load_exceeds x (body_load body)) few
-
-pub message-full : (s : EditorState) (x : NaiveEditor) (body : Body) → load_limit < s.load + (1 + body_load body) → IsEditor s x → IsTrue (next_exceeds x body)
-message-full s x body above h = or_right (nat_le name_limit (length x.names)) (load_exceeds x (body_load body)) (load-full s x (body_load body) above h)
+    let few : nat_le table_limit (length x.names) ≡ true =
+    le-leb table_limit (length x.names) (subst (λ names. table_limit ≤ length names) h.names many) in
+    or_left (nat_le table_limit (length x.names)) (load_exceeds x (body_load body)) few
 
 pub edit-full : (s : EditorState) (op : ChannelOp) → load_limit < s.load + (1 + op_load op) → TellsStep Full s s (λ x. edited x op) (λ x. edit_exceeds x (Some op))
 edit-full s op above = (refl, λ x h. load-full s x (op_load op) above h)
@@ -296,13 +290,9 @@ pub connect-refused : (s : EditorState) (name : Characters) → not s.waits && i
 connect-refused s name taken x h = ap (λ b. cond b (passes (record x { name = name; waits = true })) (refuses x AlreadyConnected)) (sym (free-same s x h) ∙ taken)
 
 -- its name is read, or isn't UTF-8
-not-utf8 : (b : Bool) → (b ≡ true → ⊥) → b ≡ false
-not-utf8 true h = absurd (h refl)
-not-utf8 false h = refl
-
 pub name-refused : (line : List ℕ) (x : NaiveEditor) → (IsUtf8 line → ⊥) → connect_line line x ≡ refuses x (Malformed NotUtf8)
 name-refused line x not =
-    ap (λ b. if b then connect_as (chars line) x else refuses x (Malformed NotUtf8)) (not-utf8 (is_utf8 line) (λ e. not (IsUtf8-from_is_utf8 line e)))
+    ap (λ b. if b then connect_as (chars line) x else refuses x (Malformed NotUtf8)) (false_from_ne_true (is_utf8 line) (λ e. not (IsUtf8-from_is_utf8 line e)))
 
 pub name-read : (line name : List ℕ) (x : NaiveEditor) → IsUtf8 line → name ≡ line → connect_as (chars name) x ≡ connect_line line x
 name-read line name x is same =
@@ -470,15 +460,6 @@ sent-stands s r is x h =
 
 -- ---- what it shows
 
-pending-count : (r : IndexedClient) (x : NaiveClient) → StandsFor r x → length r.pending ≡ length x.pending
-pending-count r x t =
-    ap (λ (c : IndexedClient). length c.pending) (sym t.shows)
-    ∙ (mapped t.kept.pending ∙ ap (λ (k : NaiveClient). length k.pending) t.keeps.rest)
-  where
-    mapped : (edits : List PendingEdit) → length (map (indexed_edit t.kept.doc) edits) ≡ length edits
-    mapped [] = refl
-    mapped (edit ∷ edits) = ap suc (mapped edits)
-
 pub view-stands : (s : EditorState) (v w : View) → w ≡ record v { numbers = record v.numbers { link = shown_link s.waits v.numbers.link } } → v.numbers ≡ numbers_of s.replica
     → (x : NaiveEditor) → IsEditor s x → view_content v ≡ content x.client → IsViewOf (as_client x) s.name w
 view-stands s v w is numbers x h shows =
@@ -490,11 +471,12 @@ view-stands s v w is numbers x h shows =
       name_is = h.name;
       seq = ap (λ (k : Numbers). k.seq) (told ∙ ap (λ (n : Numbers). record n { link = shown_link s.waits n.link }) numbers) ∙ l.number;
       min = ap (λ (k : Numbers). k.min) (told ∙ ap (λ (n : Numbers). record n { link = shown_link s.waits n.link }) numbers) ∙ stands-minimum r x.client t;
-      pending = ap (λ (k : Numbers). k.pending) (told ∙ ap (λ (n : Numbers). record n { link = shown_link s.waits n.link }) numbers) ∙ pending-count r x.client t;
+      pending = ap (λ (k : Numbers). k.pending) (told ∙ ap (λ (n : Numbers). record n { link = shown_link s.waits n.link }) numbers)
+          ∙ stands-pending r x.client t;
       skipped = ap (λ (k : Numbers). k.skipped) (told ∙ ap (λ (n : Numbers). record n { link = shown_link s.waits n.link }) numbers)
-          ∙ (sym (ap (λ (d : IndexedClient). d.doc.skipped) t.shows) ∙ ap (λ (d : Document). d.skipped) t.keeps.doc.rest);
+          ∙ stands-skipped r x.client t;
       other = ap (λ (k : Numbers). k.other) (told ∙ ap (λ (n : Numbers). record n { link = shown_link s.waits n.link }) numbers)
-          ∙ (sym (ap (λ (d : IndexedClient). d.doc.other) t.shows) ∙ ap (λ (d : Document). d.other) t.keeps.doc.rest);
+          ∙ stands-other r x.client t;
       link = ap (λ (k : Numbers). k.link) (told ∙ ap (λ (n : Numbers). record n { link = shown_link s.waits n.link }) numbers)
           ∙ ap (λ b. shown_link b r.link) h.waits ∙ ap (shown_link x.waits) l.link;
       shows = ap view_content is ∙ shows;

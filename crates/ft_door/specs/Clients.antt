@@ -17,13 +17,13 @@ abbrev pub refusal_bytes : Refusal → List ℕ
 refusal_bytes why = bytes_of ((codes "refused " ++ (decimal (refusal_number why) ++ (codes " " ++ refusal_text why))) ∷ [])
 
 -- a client that goes on stands for this editor
-abbrev pub GoesOn : Option EditorState → NaiveEditor → Type 0
-GoesOn None x = ⊥
-GoesOn (Some s) x = IsEditor s x
+abbrev pub ClientGoesOn : Option EditorState → NaiveEditor → Type 0
+ClientGoesOn None x = ⊥
+ClientGoesOn (Some s) x = IsEditor s x
 
 -- a new one, of which there is nothing to read
 pub record IsNew {R : Type 0} (run : HeldClient R) : Type 0 where
-  pub client : GoesOn run.client new_editor
+  pub client : ClientGoesOn run.client new_editor
   pub unread : unread_by run ≡ []
 
 -- what a call writes that is refused so, if it is
@@ -39,12 +39,12 @@ call_number (Some why) = 1
 -- what a number tells of a call that is this step: it was taken, or refused, and then why is written; there was no memory, and the client is at
 -- its end; the call was too much, or the client was at its end before, and nothing changed
 pub record CallsClient {R : Type 0} (step : NaiveEditor → Step NaiveEditor) (exceeds : NaiveEditor → Bool) (old new : HeldClient R) (status : ℕ) : Type 0 where
-  pub client : (x : NaiveEditor) → status ≤ 1 → GoesOn old.client x → GoesOn new.client (step x).made
-  pub told : (x : NaiveEditor) → status ≤ 1 → GoesOn old.client x → status ≡ call_number (step x).refusal
-  pub written : (x : NaiveEditor) → status ≤ 1 → GoesOn old.client x → unread_by new ≡ unread_by old ++ call_bytes (step x).refusal
+  pub client : (x : NaiveEditor) → status ≤ 1 → ClientGoesOn old.client x → ClientGoesOn new.client (step x).made
+  pub told : (x : NaiveEditor) → status ≤ 1 → ClientGoesOn old.client x → status ≡ call_number (step x).refusal
+  pub written : (x : NaiveEditor) → status ≤ 1 → ClientGoesOn old.client x → unread_by new ≡ unread_by old ++ call_bytes (step x).refusal
   pub ended : status ≡ 5 → new.client ≡ None
   pub kept : status ≡ 5 → unread_by new ≡ unread_by old
-  pub full : (x : NaiveEditor) → status ≡ 6 → GoesOn old.client x → IsTrue (exceeds x)
+  pub full : (x : NaiveEditor) → status ≡ 6 → ClientGoesOn old.client x → IsTrue (exceeds x)
   pub same : 6 ≤ status → new ≡ old
   pub closed : status ≡ 7 → old.client ≡ None
   pub known : IsTrue (nat_eq status 0 || (nat_eq status 1 || (nat_eq status 5 || (nat_eq status 6 || nat_eq status 7))))
@@ -52,9 +52,9 @@ pub record CallsClient {R : Type 0} (step : NaiveEditor → Step NaiveEditor) (e
 -- what a number tells of a call for a draft: the oldest one that wasn't sent is written, and counts as sent; there was no memory, or the client is at
 -- its end, or there is none, and nothing changed
 pub record SendsDraft {R : Type 0} (old new : HeldClient R) (status : ℕ) : Type 0 where
-  pub sent : (x : NaiveEditor) → status ≡ 0 → GoesOn old.client x → (d : Draft) × (ds : List Draft) × (x.client.queue ≡ d ∷ ds)
-      × GoesOn new.client (with_queue ds x) × (unread_by new ≡ unread_by old ++ draft_bytes d)
-  pub none : (x : NaiveEditor) → status ≡ 8 → GoesOn old.client x → x.client.queue ≡ []
+  pub sent : (x : NaiveEditor) → status ≡ 0 → ClientGoesOn old.client x → (d : Draft) × (ds : List Draft) × (x.client.queue ≡ d ∷ ds)
+      × ClientGoesOn new.client (with_queue ds x) × (unread_by new ≡ unread_by old ++ draft_bytes d)
+  pub none : (x : NaiveEditor) → status ≡ 8 → ClientGoesOn old.client x → x.client.queue ≡ []
   pub client : 5 ≤ status → new.client ≡ old.client
   pub unread : 5 ≤ status → unread_by new ≡ unread_by old
   pub closed : status ≡ 7 → old.client ≡ None
@@ -62,7 +62,7 @@ pub record SendsDraft {R : Type 0} (old new : HeldClient R) (status : ℕ) : Typ
 
 -- what a number tells of a call for a view: its lines are written; there was no memory, or the client is at its end
 pub record ShowsClient {R : Type 0} (old new : HeldClient R) (status : ℕ) : Type 0 where
-  pub shown : (x : NaiveEditor) → status ≡ 0 → GoesOn old.client x → unread_by new ≡ unread_by old ++ bytes_of (shown_lines x)
+  pub shown : (x : NaiveEditor) → status ≡ 0 → ClientGoesOn old.client x → unread_by new ≡ unread_by old ++ bytes_of (shown_lines x)
   pub client : new.client ≡ old.client
   pub unread : 5 ≤ status → unread_by new ≡ unread_by old
   pub closed : status ≡ 7 → old.client ≡ None

@@ -61,8 +61,8 @@ abbrev pub load_limit : ℕ
 load_limit = 2 ^ 52
 
 -- the number of names from which on it takes no further message
-abbrev pub name_limit : ℕ
-name_limit = 2 ^ 32 - 1
+abbrev pub table_limit : ℕ
+table_limit = 2 ^ 32 - 1
 
 -- the name of a connection before the first one: an empty text
 abbrev pub no_name : Characters
@@ -182,7 +182,7 @@ process_line line x = message_reading x (message line)
 
 -- whether it is too much: the next one is, whoever sent it, where there are as many names as there may be
 abbrev pub next_exceeds : NaiveEditor → Body → Bool
-next_exceeds x body = nat_le name_limit (length x.names) || load_exceeds x (body_load body)
+next_exceeds x body = nat_le table_limit (length x.names) || load_exceeds x (body_load body)
 
 abbrev pub message_answer_exceeds : NaiveEditor → Message → Option ProcessFault → Bool
 message_answer_exceeds x m (Some fault) = false

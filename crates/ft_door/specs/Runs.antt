@@ -13,13 +13,13 @@ abbrev pub unread_of : {R : Type 0} {g : Ghosts R} → HeldSession R g → List 
 unread_of run = drop run.waiting.taken run.waiting.bytes.items
 
 -- a session that goes on has heard these lines
-abbrev pub GoesOn : {R : Type 0} {g : Ghosts R} → Option (SessionReplay R g) → List (List ℕ) → Type 0
-GoesOn None heard = ⊥
-GoesOn (Some s) heard = HasHeard s.run.world s.lines s.refused heard
+abbrev pub SessionGoesOn : {R : Type 0} {g : Ghosts R} → Option (SessionReplay R g) → List (List ℕ) → Type 0
+SessionGoesOn None heard = ⊥
+SessionGoesOn (Some s) heard = HasHeard s.run.world s.lines s.refused heard
 
 -- it has heard these lines, and of what they write this was read: the rest is still to be read
 pub record Stands {R : Type 0} {g : Ghosts R} (run : HeldSession R g) (heard : List (List ℕ)) (read : List ℕ) : Type 0 where
-  pub session : GoesOn run.session heard
+  pub session : SessionGoesOn run.session heard
   pub report : read ++ unread_of run ≡ lines_bytes heard
 
 -- the session is closed, and of the report of these lines this was read

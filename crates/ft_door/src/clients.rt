@@ -3,7 +3,7 @@
 ghost use Rattle.std.specs.Prelude.{◌≡◌, Bool, IfOk, None, Some, drop, length, option_map, string_bytes};
 ghost use Rattle.ft_seqr.specs.Walk.{Step};
 ghost use Rattle.ft_replay.specs.LineForm.{bytes_of};
-ghost use Rattle.ft_door.specs.Clients.{CallsClient, GoesOn, IsNew, ReadsClient, SendsDraft, ShowsClient, refusal_bytes, unread_by};
+ghost use Rattle.ft_door.specs.Clients.{CallsClient, ClientGoesOn, IsNew, ReadsClient, SendsDraft, ShowsClient, refusal_bytes, unread_by};
 ghost use Rattle.ft_door.specs.Editors.{EditorState, NaiveEditor, TellsStep, call_exceeds, call_step, oldest_bytes, shown_lines, with_queue};
 
 use crate::calls::{Call, Told};
@@ -123,7 +123,7 @@ impl<R: Replica + Drop> HeldClient<R> {
 
     // Puts the lines of what it shows behind what waits, if they were made.
     fn show(&mut self, lines: &Result<String, OutOfMemory>) -> u32
-        ensures { ((x : NaiveEditor) → GoesOn self.old.client x → IfOk lines.now (λ text. string_bytes text ≡ bytes_of (shown_lines x))) → ShowsClient self.old self.new result }
+        ensures { ((x : NaiveEditor) → ClientGoesOn self.old.client x → IfOk lines.now (λ text. string_bytes text ≡ bytes_of (shown_lines x))) → ShowsClient self.old self.new result }
     {
         match self.waiting.push_made(lines) {
             Ok(()) => DONE,
@@ -160,7 +160,7 @@ impl<R: Replica + Drop> HeldClient<R> {
 
     // Puts the line of its oldest draft behind what waits, if there is one and it was made; the draft counts as sent then.
     fn send(&mut self, made: &Result<Option<String>, OutOfMemory>) -> u32
-        ensures { ((x : NaiveEditor) → GoesOn self.old.client x → IfOk made.now (λ line. option_map (λ text. string_bytes text) line ≡ oldest_bytes x.client.queue))
+        ensures { ((x : NaiveEditor) → ClientGoesOn self.old.client x → IfOk made.now (λ line. option_map (λ text. string_bytes text) line ≡ oldest_bytes x.client.queue))
             → SendsDraft self.old self.new result }
     {
         let Ok(line) = made else {
@@ -174,7 +174,7 @@ impl<R: Replica + Drop> HeldClient<R> {
 
     // Puts the line of its oldest draft behind what waits, which counts as sent then.
     fn send_line(&mut self, line: &str) -> u32
-        ensures { ((x : NaiveEditor) → GoesOn self.old.client x → oldest_bytes x.client.queue ≡ Some line.now) → SendsDraft self.old self.new result }
+        ensures { ((x : NaiveEditor) → ClientGoesOn self.old.client x → oldest_bytes x.client.queue ≡ Some line.now) → SendsDraft self.old self.new result }
     {
         match self.waiting.push(line.as_bytes()) {
             Ok(()) => {
@@ -196,7 +196,7 @@ fn refusal_line(alloc: Global, why: Refusal) -> Result<String, OutOfMemory>
 
 // The oldest draft of the client counts as sent, if there is a client.
 fn count_sent<R: Replica + Drop>(client: &mut Option<Editor<R>>)
-    ensures { (x : NaiveEditor) → GoesOn client.old x → GoesOn client.new (with_queue (drop 1 x.client.queue) x) }
+    ensures { (x : NaiveEditor) → ClientGoesOn client.old x → ClientGoesOn client.new (with_queue (drop 1 x.client.queue) x) }
 {
     if let Some(client) = client {
         client.sent();

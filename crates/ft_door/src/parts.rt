@@ -1,6 +1,6 @@
 //! What an editor has, and what each call makes of it.
 
-ghost use Rattle.std.specs.Prelude.{◌≡◌, ◌+◌, ◌*◌, ◌<◌, ◌≤◌, ◌^◌, ◌&&◌, ℕ, List, true, not, Some, Ok, IfOk, IfNone, IfSome, IsTrue, OnOk, false, chars, drop, length, option_copied, option_map, slice_get, string_bytes};
+ghost use Rattle.std.specs.Prelude.{◌≡◌, ◌+◌, ◌*◌, ◌<◌, ◌≤◌, ◌^◌, ◌&&◌, ℕ, List, true, not, Some, Ok, IfOk, IfNone, IfSome, IsTrue, false, chars, drop, length, option_copied, option_map, slice_get, string_bytes};
 ghost use Rattle.ft_op.specs.WellFormed.{IsWellFormed};
 ghost use Rattle.ft_json.specs.Readers.{Reads};
 ghost use Rattle.ft_sumdoc.specs.Summary.{summary};
@@ -19,8 +19,8 @@ ghost use Rattle.ft_seqr.specs.Refusals.{refusal_of_process};
 ghost use Rattle.ft_seqr.specs.WellFormedEvent.{IsWellFormedEvent};
 ghost use Rattle.ft_seqr.specs.World.{body_load, op_load};
 ghost use Rattle.ft_replay.specs.LineForm.{bytes_of};
-ghost use Rattle.ft_replay.specs.Observation.{names_with, numbered_entry, sender_number};
-ghost use Rattle.ft_door.specs.Editors.{EditorState, AnswersStep, IsEditor, NaiveEditor, TellsStep, call_exceeds, call_step, connect_as, connect_line, draft_bytes, drop_step, dropped_unless, edit_event, edit_exceeds, edit_line, edit_line_exceeds, edited, edited_op, editor_of, is_awaited_by, is_join, is_offline, is_sender, joining_as, load_limit, load_line, load_line_exceeds, load_of, load_reading, load_reading_exceeds, message_exceeds, message_refusal, name_limit, never_exceeds, new_editor, next_exceeds, no_name, oldest_bytes, process_line, process_line_exceeds, shown_lines, shown_link, take_message, take_next, told_of, waits_after, with_queue};
+ghost use Rattle.ft_replay.specs.Observation.{names_with, numbered_entry};
+ghost use Rattle.ft_door.specs.Editors.{EditorState, AnswersStep, IsEditor, NaiveEditor, TellsStep, call_exceeds, call_step, connect_as, connect_line, draft_bytes, drop_step, dropped_unless, edit_event, edit_exceeds, edit_line, edit_line_exceeds, edited, edited_op, editor_of, is_awaited_by, is_join, is_offline, is_sender, joining_as, load_limit, load_line, load_line_exceeds, load_of, load_reading, load_reading_exceeds, message_exceeds, message_refusal, never_exceeds, new_editor, next_exceeds, no_name, oldest_bytes, process_line, process_line_exceeds, shown_lines, shown_link, table_limit, take_message, take_next, told_of, waits_after, with_queue};
 
 use crate::calls::{Call, Told};
 use crate::giving::{begin_join, give_edit, give_entry, lose_link, order_fault};
@@ -32,7 +32,7 @@ use ft_msg::{
     ViewFault, read_message, write_draft,
 };
 use ft_op::ChannelOp;
-use ft_replay::{client_text, table_of};
+use ft_replay::{client_text, sender_number, table_of};
 use ft_seqr::{Event, Refusal, read_event};
 use ft_session::{body_load, op_load};
 use ft_sumdoc::{SumDoc, SumFault, read_summary};
@@ -41,7 +41,7 @@ use std::marker::Model;
 use std::mem;
 
 // How many names there may be before the next message: a number has 32 bits.
-const NAME_LIMIT: u64 = 4_294_967_295;
+const TABLE_LIMIT: u64 = 4_294_967_295;
 
 // The greatest load of an editor.
 const LOAD_LIMIT: u64 = 1 << 52;
@@ -258,10 +258,10 @@ impl<R: Replica + Drop> Parts<R> {
     // The load after a message with this body, if it may be so great and there may be a name more.
     fn load_after(&self, body: &Body) -> Result<Option<u64>, OutOfMemory>
         ensures load { IfOk result (λ found. IfSome found (λ load. (load ≡ self.now.load + (1 + body_load body.now)) × (load ≤ load_limit))) }
-        ensures room { IfOk result (λ found. IfSome found (λ load. length self.now.names < name_limit)) }
+        ensures room { IfOk result (λ found. IfSome found (λ load. length self.now.names < table_limit)) }
         ensures full { IfOk result (λ found. IfNone found ((x : NaiveEditor) → IsEditor self.now x → IsTrue (next_exceeds x body.now))) }
     {
-        if self.names.len() as u64 >= NAME_LIMIT {
+        if self.names.len() as u64 >= TABLE_LIMIT {
             return Ok(None);
         }
         Ok(load_with(self.load, body_load(body)?))
@@ -270,7 +270,7 @@ impl<R: Replica + Drop> Parts<R> {
     // Takes the next message, with which the load is this.
     fn take_at(&mut self, entry: &mut Entry, load: u64) -> Result<Told, OutOfMemory>
         requires formed { IsWellFormedMessage entry.old.msg }
-        requires room { length self.old.names < name_limit }
+        requires room { length self.old.names < table_limit }
         requires sum { load ≡ self.old.load + (1 + body_load entry.old.msg.body) }
         requires low { load ≤ load_limit }
         ensures { IfOk result (λ told. TellsStep told self.old self.new (λ x. take_next x entry.old.msg) (λ x. next_exceeds x entry.old.msg.body)) }
@@ -416,20 +416,6 @@ fn fault_refusal(number: u64, fault: Option<ProcessFault>) -> Option<Refusal>
     match fault {
         None => None,
         Some(fault) => Some(Refusal::of_process(number, fault)),
-    }
-}
-
-// The number of the connection with this name, a new one where it has none yet; 0 for no name.
-//
-// Returns `OutOfMemory` where there is no room for a new name.
-fn sender_number(names: &mut Names, sender: &Option<Text>) -> Result<u32, OutOfMemory>
-    requires { length names.old < name_limit }
-    ensures ok { IfOk result (λ number. number ≡ sender_number names.old sender.now) }
-    ensures names { OnOk result (names.new ≡ names_with names.old sender.now) }
-{
-    match sender {
-        Some(name) => names.number(name),
-        None => Ok(0),
     }
 }
 

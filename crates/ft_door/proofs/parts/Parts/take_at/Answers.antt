@@ -3,7 +3,7 @@ use Rattle.std.proofs.lemmas.Result.{IfOk-weaker}
 use Rattle.ft_msg.specs.declared.messages.Entry.{Entry}
 use Rattle.ft_msg.specs.declared.messages.Message.{Message}
 use Rattle.ft_seqr.specs.World.{body_load}
-use Rattle.ft_door.specs.Editors.{EditorState, TellsStep, name_limit, next_exceeds, take_next}
+use Rattle.ft_door.specs.Editors.{EditorState, TellsStep, next_exceeds, table_limit, take_next}
 use Rattle.ft_door.proofs.Editing.{state_of}
 use Rattle.ft_door.proofs.parts.Parts.take_at.Goals as goal
 
@@ -11,7 +11,7 @@ abbrev entry_of : Message → ℕ → Entry
 entry_of m origin = record { msg = m; origin = origin }
 
 pub sender_number-requires : goal.sender_number-requires
-sender_number-requires g c = subst (λ (s : EditorState). length s.names < name_limit) (sym c.self.view_is) c.requires.room
+sender_number-requires g c = subst (λ (s : EditorState). length s.names < table_limit) (sym c.self.view_is) c.requires.room
 
 pub returns : goal.returns
 returns g c =

@@ -1,6 +1,6 @@
 use Rattle.std.proofs.Common.{◌≡◌, ◌<◌, ◌∙◌, ℕ, List, Some, ap, subst, sym}
 use Rattle.ft_io.specs.Reader.{input_limit}
-use Rattle.ft_door.specs.Runs.{GoesOn, HearsLine, Stands}
+use Rattle.ft_door.specs.Runs.{HearsLine, SessionGoesOn, Stands}
 use Rattle.ft_door.proofs.Hearing.{line-full}
 use Rattle.ft_door.proofs.sessions.HeldSession.hear.Goals as goal
 
@@ -11,7 +11,7 @@ returns-then-is_full g c =
     let above = c.is_full.ensures.0 c.if-is_full.true in
     line-full old (record old { session = c.replace.new.self }) c.args.line.now (ap (λ session. record old { session = session }) (c.replace.ensures.after ∙ same))
     (λ (heard : List (List ℕ)) (read : List ℕ) (has : Stands old heard read).
-    let follows = subst (λ session. GoesOn session heard) (sym same) has.session in
+    let follows = subst (λ session. SessionGoesOn session heard) (sym same) has.session in
     subst (λ n. input_limit < n) (follows.lines ∙ c.session_pieces.ensures.counted heard) above)
 
 pub returns : goal.returns

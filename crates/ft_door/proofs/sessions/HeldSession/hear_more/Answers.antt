@@ -1,5 +1,5 @@
 use Rattle.std.proofs.Common.{ℕ, List, [], ◌∷◌, ◌++◌, Some, drop, subst, sym}
-use Rattle.ft_door.specs.Runs.{GoesOn, Stands}
+use Rattle.ft_door.specs.Runs.{SessionGoesOn, Stands}
 use Rattle.ft_door.proofs.Hearing.{breaks, line-broken, line-heard, refused-more, report-more}
 use Rattle.ft_door.proofs.sessions.HeldSession.hear_more.Goals as goal
 
@@ -12,7 +12,7 @@ returns-in-Ok g c =
     let unread = drop c.hear.new.out.taken c.hear.new.out.bytes.items in
     line-heard old new line c.status_of-status.result c.status_of-status.ensures.one
     (λ (heard : List (List ℕ)) (read : List ℕ) (has : Stands old heard read). record {
-      session = subst (λ session. GoesOn session (heard ++ line ∷ [])) (sym c.replace.ensures.after) (c.in-Ok.ensures.after heard has.session);
+      session = subst (λ session. SessionGoesOn session (heard ++ line ∷ [])) (sym c.replace.ensures.after) (c.in-Ok.ensures.after heard has.session);
       report = report-more waits unread heard line read c.args.self.now.waiting.faults c.hear.new.out.faults c.in-Ok.session c.session_pieces.ensures.grow has.report
           (c.in-Ok.ensures.writes heard has.session);
     })
