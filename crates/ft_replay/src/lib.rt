@@ -22,7 +22,6 @@ mod listener;
 mod loading;
 mod map_lines;
 mod maps;
-mod moved;
 mod observer;
 mod play;
 mod refusals;

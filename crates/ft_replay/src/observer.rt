@@ -18,9 +18,8 @@ ghost use Rattle.ft_replay.specs.Observation.{Observation, numbered_entry, names
 ghost use Rattle.ft_replay.specs.Observers.{Observes};
 
 use crate::listener::{LINE_LIMIT, Listener, Told};
-use crate::moved::beside;
 use crate::view_lines::view_text;
-use ft_base::moved::both;
+use ft_base::moved::{beside, both};
 use ft_base::{OutOfMemory, Text};
 use ft_msg::{Cause, Entry, Message, Names, ProcessFault, Replica, View, ViewFault, read_message};
 use ft_seqr::Refusal;

@@ -6,10 +6,10 @@ ghost use Rattle.ft_replay.specs.SessionReplays.{HasHeard, LinesAreCounted, Line
 ghost use Rattle.ft_replay.specs.Writing.{WritesBytes};
 
 use crate::endings::{Ending, Fault};
-use crate::moved::after;
 use crate::replay::{close_lines, hear_line};
 use crate::session::SessionRun;
 use ft_base::OutOfMemory;
+use ft_base::moved::after;
 use ft_io::{INPUT_LIMIT, Sink};
 use ft_laws_sessions::worlds::reports_are_one;
 use ft_msg::Replica;

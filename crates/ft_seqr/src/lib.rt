@@ -9,7 +9,6 @@ pub mod events;
 mod faults;
 pub mod laws;
 mod limits;
-mod moved;
 pub mod nacks;
 pub mod reading;
 pub mod refusals;

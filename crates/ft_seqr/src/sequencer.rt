@@ -5,9 +5,8 @@ ghost use Rattle.std.specs.Prelude.{◌≡◌, ℕ, ◌+◌, ◌<◌, ◌^◌, p
 ghost use Rattle.ft_seqr.specs.Sequencer.{draft_kind, is_joined, join, least_ref, leave, nack_of, new_sequencer, next, notice, submit, submitted};
 ghost use Rattle.ft_seqr.specs.SequencerCalls.{AreSmall, IsLeaveFault, IsSubmitFault, Sends, newcomer, sender_of, sent_message, sequencer_after};
 
-use crate::moved::{beside, push_beside};
 use crate::nacks::{LeaveFault, Nack, SubmitFault};
-use ft_base::moved::both;
+use ft_base::moved::{beside, both, push_beside};
 use ft_base::{Datum, OutOfMemory, Text};
 use ft_msg::{Body, Draft, Entry, Message, MsgKind};
 use std::alloc::Global;
