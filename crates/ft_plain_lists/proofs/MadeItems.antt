@@ -1,5 +1,5 @@
 -- What is known of what was made, where a call says what it did with that.
-use Rattle.std.proofs.Common.{◌≡◌, List, [], ◌∷◌, ◌++◌, Result, Ok, Err, subst}
+use Rattle.std.proofs.Common.{◌≡◌, Result, Ok, Err, subst}
 use Rattle.std.specs.Prelude.{IfOk, IsOkAnd}
 
 -- what holds of what was made holds of what it is known to be
@@ -12,8 +12,3 @@ made-known (Err fault) shown x P same holds = absurd holds
 pub made-weaker : {T E : Type 0} (made : Result T E) (P Q : T → Type 0) → ((v : T) → P v → Q v) → IsOkAnd made P → IsOkAnd made Q
 made-weaker (Ok v) P Q f holds = f v holds
 made-weaker (Err fault) P Q f holds = absurd holds
-
--- what was made and then added is known as what was made
-pub made-added : {A E : Type 0} (made : Result A E) (x : A) (old new : List A) → IfOk made (λ y. y ≡ x)
-    → IsOkAnd made (λ y. new ≡ old ++ (y ∷ [])) → new ≡ old ++ (x ∷ [])
-made-added made x old new same added = made-known made (λ y. y) x (λ y. new ≡ old ++ (y ∷ [])) same added

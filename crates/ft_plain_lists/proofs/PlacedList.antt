@@ -1,5 +1,5 @@
 -- An insertion as a loop over a list does it: at a computed place.
-use Rattle.std.proofs.Common.{◌≡◌, ℕ, zero, suc, ◌+◌, Bool, cond, List, [], ◌∷◌, ◌++◌, take, drop, sym, ap, arith, append-nil, refl}
+use Rattle.std.proofs.Common.{◌≡◌, ℕ, zero, suc, ◌+◌, Bool, cond, List, [], ◌∷◌, ◌++◌, take, drop, length, sym, ap, arith, append-nil, refl}
 use Rattle.std.specs.List.{prefix_len}
 use Rattle.ft_base.specs.Scan.{no_run, place, put, put_past}
 
@@ -26,6 +26,11 @@ put-place seen past (suc p) new [] = sym (append-nil new)
 put-place seen past (suc p) new (x ∷ xs) =
     let n : ℕ = place seen (cond (seen x) p (suc p)) xs in
     rw (later n (prefix_len past (drop n xs))) (ap (λ ys. x ∷ ys) (put-place seen past (cond (seen x) p (suc p)) new xs))
+
+-- behind all
+pub put-at_end : {A : Type 0} (new xs : List A) → put_at (length xs) new xs ≡ xs ++ new
+put-at_end new [] = append-nil new
+put-at_end new (x ∷ xs) = ap (λ ys. x ∷ ys) (put-at_end new xs)
 
 -- directly behind the p-th seen element
 pub put-behind : {A : Type 0} (seen : A → Bool) (p : ℕ) (new xs : List A) → put seen no_run p new xs ≡ put_at (place seen p xs) new xs

@@ -8,4 +8,3 @@ pub mod PlacedRuns
 pub mod PlacedValues
 pub mod Places
 pub mod PropertyRuns
-pub mod Rising

@@ -9,7 +9,7 @@ mod copies;
 pub(crate) mod placed;
 mod trimming;
 
-use crate::moved::put_item;
+use crate::moved::set_or_insert;
 use crate::names::ElementName;
 use ft_base::{Datum, OutOfMemory};
 use ft_json::ValText;
@@ -101,7 +101,7 @@ impl PlainCells {
         ensures err { OnErr result (self.new ≡ self.old) }
     {
         let place = cell_place(self.items.as_slice(), cell.row, cell.col);
-        put_item(&mut self.items, place, cell)
+        set_or_insert(&mut self.items, place, cell)
     }
 }
 

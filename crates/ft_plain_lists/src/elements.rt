@@ -12,6 +12,7 @@ mod pending;
 mod trimming;
 
 use crate::names::ElementName;
+use ft_base::moved::both;
 use ft_base::visibility::{has_occurred, has_occurred_at_stage};
 use ft_base::{Datum, OutOfMemory, Perspective, Stamp, Stamps};
 use ft_props::{Changes, Props};
@@ -68,18 +69,19 @@ impl Model for PlainElement {
 
 impl PlainElement {
     /// An element without pending removals and changes.
-    pub fn new(
+    pub(crate) fn new(
         alloc: Global,
         nth: u64,
         content: Content,
         ins: Stamp,
-        dels: Stamps,
+        dels: &Stamps,
         by: Option<Stamp>,
-        props: Props,
-    ) -> PlainElement
-        ensures { result ≡ record { nth = nth; content = content_of content; ins = ins; dels = dels; removal_stage = None; by = by; props = props; pending = [] } }
+        props: &Props,
+    ) -> Result<PlainElement, OutOfMemory>
+        ensures { IfOk result (λ e. e ≡ record { nth = nth; content = content_of content; ins = ins; dels = dels.now; removal_stage = None; by = by; props = props.now; pending = [] }) }
     {
-        PlainElement {
+        let (dels, props) = both(dels.copy(), props.copy())?;
+        Ok(PlainElement {
             nth,
             content,
             ins,
@@ -88,7 +90,7 @@ impl PlainElement {
             by,
             props,
             pending: Vec::new(alloc),
-        }
+        })
     }
 
     /// What it is.
@@ -113,7 +115,7 @@ impl PlainElement {
     }
 
     /// Whether its insertion is sequenced.
-    pub fn is_sequenced(&self) -> bool
+    pub(crate) fn is_sequenced(&self) -> bool
         ensures { result ≡ is_sequenced self.now }
     {
         matches!(self.ins, Stamp::Acked { .. })
@@ -127,14 +129,14 @@ impl PlainElement {
     }
 
     /// Whether its insertion is pending.
-    pub fn is_pending(&self) -> bool
+    pub(crate) fn is_pending(&self) -> bool
         ensures { result ≡ is_pending self.now }
     {
         matches!(self.ins, Stamp::Local { .. })
     }
 
     /// Whether the perspective sees it.
-    pub fn is_seen_by(&self, at: Perspective) -> bool
+    pub(crate) fn is_seen_by(&self, at: Perspective) -> bool
         ensures { result ≡ seen_by at.r at.c self.now }
     {
         has_occurred(&self.ins, at) && !has_any_occurred(self.dels.as_slice(), at)
@@ -150,7 +152,7 @@ impl PlainElement {
     }
 
     /// Its acknowledged properties with its pending changes made in order of stage.
-    pub fn shown_props(&self) -> Result<Props, OutOfMemory>
+    pub(crate) fn shown_props(&self) -> Result<Props, OutOfMemory>
         ensures { IfOk result (λ props. props ≡ shown_props self.now.props self.now.pending) }
     {
         let mut props = self.props.copy()?;
@@ -165,36 +167,25 @@ impl PlainElement {
 fn has_any_sequenced(stamps: &[Stamp]) -> bool
     ensures { result ≡ list_any is_acked stamps.now }
 {
-    for stamp in stamps {
-        if matches!(stamp, Stamp::Acked { .. }) {
-            return true;
-        }
-    }
-    false
+    stamps
+        .iter()
+        .any(|stamp| matches!(stamp, Stamp::Acked { .. }))
 }
 
 // Whether one of the stamps has occurred for the perspective.
 fn has_any_occurred(stamps: &[Stamp], at: Perspective) -> bool
     ensures { result ≡ list_any (has_occurred at.r at.c) stamps.now }
 {
-    for stamp in stamps {
-        if has_occurred(stamp, at) {
-            return true;
-        }
-    }
-    false
+    stamps.iter().any(|stamp| has_occurred(stamp, at))
 }
 
 // Whether one of the stamps has occurred at the stage.
 fn has_any_occurred_at_stage(stamps: &[Stamp], stage: u64) -> bool
     ensures { result ≡ list_any (has_occurred_at_stage stage) stamps.now }
 {
-    for stamp in stamps {
-        if has_occurred_at_stage(stamp, stage) {
-            return true;
-        }
-    }
-    false
+    stamps
+        .iter()
+        .any(|stamp| has_occurred_at_stage(stamp, stage))
 }
 
 // Whether there is a pending removal of a stage up to this one.

@@ -70,7 +70,7 @@ fn shown_interval(
     requires ranks { HasAnswers (λ x. rank (has_id x) (seen stage) items.now) ranks.now }
     ensures { IfOk result (λ shown. shown ≡ interval_record stage items.now i.now) }
 {
-    let ((label, id), props) = i.copied_parts()?;
+    let (label, id, props) = i.copied_parts()?;
     Ok(IntervalRec {
         label,
         id,

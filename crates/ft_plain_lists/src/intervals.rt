@@ -8,14 +8,14 @@ ghost use Rattle.ft_props.specs.Keys.{put_rising, text_cmp};
 ghost use Rattle.ft_props.specs.Properties.{apply};
 ghost use Rattle.ft_op.specs.Intervals.{has_interval, interval_cmp, is_interval, slide_ends, slide_interval, with_changed_interval, with_ends};
 ghost use Rattle.ft_plain_lists.specs.NameTables.{HasAnswers};
-ghost use Rattle.ft_plain_lists.specs.Rising.{rising_place};
+ghost use Rattle.ft_plain_lists.specs.Places.{rising_place};
 
 mod building;
 mod pending;
 
 use crate::element_tests::Unremoved;
 use crate::elements::PlainElement;
-use crate::moved::put_item;
+use crate::moved::set_or_insert;
 use crate::name_tables::{NameTable, note_settled};
 use crate::names::{ElementName, ElementNames};
 use crate::slides::slide_by;
@@ -60,14 +60,14 @@ impl PlainInterval {
     }
 
     /// The element at its start, if it is attached.
-    pub fn start(&self) -> Option<ElementName>
+    pub(crate) fn start(&self) -> Option<ElementName>
         ensures { result ≡ self.now.start }
     {
         self.start
     }
 
     /// The element at its end, if it is attached.
-    pub fn end(&self) -> Option<ElementName>
+    pub(crate) fn end(&self) -> Option<ElementName>
         ensures { result ≡ self.now.end }
     {
         self.end
@@ -164,12 +164,7 @@ impl PlainIntervals {
     pub fn has(&self, label: &Text, id: &Text) -> bool
         ensures { result ≡ has_interval label.now id.now self.now }
     {
-        for i in &self.items {
-            if i.is_of(label, id) {
-                return true;
-            }
-        }
-        false
+        self.items.iter().any(|i| i.is_of(label, id))
     }
 
     // Puts the interval in its place, instead of the one of its label and id if there is one.
@@ -180,7 +175,7 @@ impl PlainIntervals {
         ensures err { OnErr result (self.new ≡ self.old) }
     {
         let place = interval_place(self.items.as_slice(), &interval);
-        put_item(&mut self.items, place, interval)
+        set_or_insert(&mut self.items, place, interval)
     }
 
     /// Gives the interval of that label and id, if it is there, the ends, if an operation gives some,

@@ -1,8 +1,8 @@
 //! One list of a plain replica: the text, the rows or the columns.
 
-ghost use Rattle.std.specs.Prelude.{◌≡◌, ◌+◌, ◌<◌, ◌^◌, [], None, IfOk, OnOk, OnErr, length, map, nat_le, option_map, replicate};
+ghost use Rattle.std.specs.Prelude.{◌≡◌, ◌+◌, ◌<◌, ◌≤◌, ◌^◌, ◌++◌, [], None, IfOk, OnOk, OnErr, drop, length, map, nat_le, option_map, replicate, take};
 ghost use Rattle.ft_base.specs.Scan.{at as seen_at, change_range, len};
-ghost use Rattle.ft_props.specs.Element.{GridUnit, id, seen_by, with_annotation};
+ghost use Rattle.ft_props.specs.Element.{GridUnit, id, new_elements, seen_by, with_annotation};
 ghost use Rattle.ft_props.specs.Steps.{after_insertion, after_removal, empty_list};
 ghost use Rattle.ft_msg.specs.Answers.{count_held};
 ghost use Rattle.ft_plain_lists.specs.Contents.{content_of};
@@ -18,7 +18,7 @@ use crate::names::ElementName;
 use crate::scans::{
     insertion_place, mark_range, name_at, new_elements, pending_run, put_at, seen_count, units,
 };
-use ft_base::{OutOfMemory, Perspective, Stamp};
+use ft_base::{OutOfMemory, Perspective, Stamp, Stamps};
 use ft_json::GREATEST_COUNT;
 use ft_props::{Changes, Props};
 pub use pending::stage_position;
@@ -121,12 +121,36 @@ impl PlainList {
         ensures ok { OnOk result (self.new ≡ after_insertion seq at.c at.r p by props.now (map content_of contents.now) self.old) }
         ensures err { OnErr result (self.new ≡ self.old) }
     {
-        let made = self.made_with(contents.len() as u64)?;
-        check_room(self.items.len(), contents.len())?;
         let ins = Stamp::Acked { seq, conn: at.c };
-        let new = new_elements(self.alloc(), self.made, ins, by, props, contents);
+        let dels = Stamps::new(self.alloc());
         let place = insertion_place(self.items.as_slice(), p, at);
         let i = place + pending_run(&self.items[place..]);
+        self.put_new(i, ins, &dels, by, props, contents)
+    }
+
+    // Puts new sequenced elements in at place `i`.
+    //
+    // Returns `OutOfMemory` where there is no room for them or the count of elements would pass 2^53 - 1, and
+    // then the list is as it was.
+    fn put_new(
+        &mut self,
+        i: usize,
+        ins: Stamp,
+        dels: &Stamps,
+        by: Option<Stamp>,
+        props: &Props,
+        contents: &[Content],
+    ) -> Result<(), OutOfMemory>
+        requires { i ≤ length self.old.items }
+        ensures ok { OnOk result (self.new ≡ record {
+          items = take i self.old.items ++ (new_elements self.old.made ins dels.now by props.now (map content_of contents.now) ++ drop i self.old.items);
+          made = self.old.made + length contents.now;
+        }) }
+        ensures err { OnErr result (self.new ≡ self.old) }
+    {
+        let made = self.made_with(contents.len() as u64)?;
+        check_room(self.items.len(), contents.len())?;
+        let new = new_elements(self.alloc(), self.made, ins, dels, by, props, contents);
         put_at(&mut self.items, i, new)?;
         self.made = made;
         Ok(())

@@ -1,7 +1,7 @@
 //! Values that are moved without a look at what they are. So the proofs of those who move large ones take none of them apart.
 
-ghost use Rattle.std.specs.Prelude.{◌≡◌, ◌+◌, ◌++◌, ◌∷◌, [], IsOkAnd, OnErr, OnOk, cond, length, reverse};
-ghost use Rattle.ft_plain_lists.specs.Places.{IsPlaceIn, put_item};
+ghost use Rattle.std.specs.Prelude.{◌≡◌, ◌+◌, ◌++◌, ◌∷◌, [], IfOk, IsOk, IsOkAnd, OnErr, OnOk, if◌then◌else◌, length, reverse};
+ghost use Rattle.ft_plain_lists.specs.Places.{IsPlaceIn, set_or_insert};
 
 use ft_base::{List, OutOfMemory};
 
@@ -23,13 +23,13 @@ pub fn push_made<T: Drop>(
 /// Puts an item at its place: over the one there, or else, for an error, in before it.
 ///
 /// Returns `OutOfMemory` where there is no room for it, and then nothing changed.
-pub fn put_item<T: Drop>(
+pub fn set_or_insert<T: Drop>(
     items: &mut Vec<T>,
     place: Result<usize, usize>,
     item: T,
 ) -> Result<(), OutOfMemory>
     requires { IsPlaceIn place (length items.old.items) }
-    ensures items { OnOk result (items.new.items ≡ put_item place item items.old.items) }
+    ensures items { OnOk result (items.new.items ≡ set_or_insert place item items.old.items) }
     ensures err { OnErr result (items.new.items ≡ items.old.items) }
 {
     match place {
@@ -39,13 +39,18 @@ pub fn put_item<T: Drop>(
     Ok(())
 }
 
-/// Adds an item behind the others, unless it is in them.
+/// Adds an item behind the others, unless it is among them.
 ///
-/// Returns `OutOfMemory` where there is no room for it.
-pub fn push_unless<T: Drop>(is_in: bool, items: &mut Vec<T>, item: T) -> Result<(), OutOfMemory>
-    ensures { OnOk result (items.new.items ≡ cond is_in items.old.items (items.old.items ++ item ∷ [])) }
+/// Returns `OutOfMemory` where there is no room for it, or it couldn't be found out whether it is among them.
+pub fn push_unless<T: Drop>(
+    there: Result<bool, OutOfMemory>,
+    items: &mut Vec<T>,
+    item: T,
+) -> Result<(), OutOfMemory>
+    ensures found { OnOk result (IsOk there) }
+    ensures items { OnOk result (IfOk there (λ t. items.new.items ≡ (if t then items.old.items else items.old.items ++ item ∷ []))) }
 {
-    if is_in {
+    if there? {
         return Ok(());
     }
     items.push(item)?;

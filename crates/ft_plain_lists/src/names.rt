@@ -37,7 +37,7 @@ impl Model for ElementName {
 
 impl ElementName {
     /// The name of the `nth` element with this insertion.
-    pub fn new(ins: &Stamp, nth: u64) -> ElementName
+    pub(crate) fn new(ins: &Stamp, nth: u64) -> ElementName
         ensures { result ≡ id_of_stamp ins.now nth }
     {
         match ins {
@@ -65,7 +65,7 @@ impl ElementName {
     }
 
     /// The number, if it is the name of a sequenced element.
-    pub fn sequenced_number(&self) -> Option<u64>
+    pub(crate) fn sequenced_number(&self) -> Option<u64>
         ensures { result ≡ sequenced_number self.now }
     {
         match self.stage {
@@ -75,7 +75,7 @@ impl ElementName {
     }
 
     /// Whether both names are equal.
-    pub fn same(&self, other: &ElementName) -> bool
+    pub(crate) fn same(&self, other: &ElementName) -> bool
         ensures { result ≡ same_id self.now other.now }
     {
         self.stage == other.stage && self.nth == other.nth

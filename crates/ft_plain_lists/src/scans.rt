@@ -1,7 +1,7 @@
 //! Scans of a list of elements: how many are seen, where an insertion goes, and which elements a mark
 //! is for.
 
-ghost use Rattle.std.specs.Prelude.{◌≡◌, ◌≤◌, ◌+◌, ◌<◌, ◌^◌, ◌++◌, [], ◌∷◌, None, IfOk, IsOkAnd, OnOk, OnErr, length, map, option_map, replicate, take, drop};
+ghost use Rattle.std.specs.Prelude.{◌≡◌, ◌≤◌, ◌+◌, ◌<◌, ◌^◌, ◌++◌, None, IfOk, IsOkAnd, OnOk, OnErr, length, map, option_map, replicate, take, drop};
 ghost use Rattle.std.specs.List.{prefix_len};
 ghost use Rattle.ft_base.specs.Scan.{at as seen_at, change_range, len, place, rank};
 ghost use Rattle.ft_props.specs.Element.{GridUnit, id, is_pending, new_elements};
@@ -10,9 +10,9 @@ ghost use Rattle.ft_plain_lists.specs.Contents.{content_of};
 use crate::element_tests::ElementTest;
 use crate::elements::marks::ElementMark;
 use crate::elements::{Content, PlainElement};
+use crate::moved::push_made;
 use crate::names::ElementName;
-use ft_base::moved::push;
-use ft_base::{Datum, OutOfMemory, Stamp, Stamps};
+use ft_base::{OutOfMemory, Stamp, Stamps};
 use ft_props::Props;
 use std::alloc::Global;
 
@@ -76,44 +76,29 @@ pub fn pending_run(items: &[PlainElement]) -> usize
     items.len()
 }
 
-/// New elements with these contents and properties, numbered from `first` on, which nobody has removed
-/// or changed.
+/// New elements with these contents, removals and properties, numbered from `first` on, which nobody has
+/// changed.
 pub fn new_elements(
     alloc: Global,
     first: u64,
     ins: Stamp,
+    dels: &Stamps,
     by: Option<Stamp>,
     props: &Props,
     contents: &[Content],
 ) -> Result<Vec<PlainElement>, OutOfMemory>
     requires { first + length contents.now < 2 ^ 64 }
-    ensures elements { IfOk result (λ v. v.items ≡ new_elements first ins [] by props.now (map content_of contents.now)) }
+    ensures elements { IfOk result (λ v. v.items ≡ new_elements first ins dels.now by props.now (map content_of contents.now)) }
     ensures count { IfOk result (λ v. length v.items ≡ length contents.now) }
 {
     let mut elements = Vec::new(alloc);
     let mut nth = first;
     for content in contents {
-        push_new(&mut elements, nth, *content, ins, by, props)?;
+        let e = PlainElement::new(alloc, nth, *content, ins, dels, by, props);
+        push_made(&mut elements, e)?;
         nth += 1;
     }
     Ok(elements)
-}
-
-// Adds a new element with this content and these properties behind the others.
-fn push_new(
-    elements: &mut Vec<PlainElement>,
-    nth: u64,
-    content: Content,
-    ins: Stamp,
-    by: Option<Stamp>,
-    props: &Props,
-) -> Result<(), OutOfMemory>
-    ensures { OnOk result (elements.new.items ≡ elements.old.items ++ record { nth = nth; content = content_of content; ins = ins; dels = []; removal_stage = None; by = by; props = props.now; pending = [] } ∷ []) }
-{
-    let props = props.copy()?;
-    let alloc = *elements.allocator();
-    let e = PlainElement::new(alloc, nth, content, ins, Stamps::new(alloc), by, props);
-    push(elements, e)
 }
 
 /// Puts the new elements in at place `i`, if they were made.

@@ -6,8 +6,7 @@ ghost use Rattle.ft_plain_lists.specs.Contents.{content_of};
 ghost use Rattle.ft_plain_lists.specs.PropertyRuns.{Extends, all_shown_props, runs_before};
 
 use crate::elements::{Content, PlainElement};
-use crate::moved::{push_unless, turned};
-use ft_base::moved::push;
+use crate::moved::{push_made, push_unless, turned};
 use ft_base::{Datum, OutOfMemory, Text};
 use ft_msg::{Run, Runs, Spot, Spots};
 use ft_props::Props;
@@ -82,7 +81,7 @@ fn shown_props(alloc: Global, items: &[PlainElement], stage: u64) -> Result<Vec<
     let mut props = Vec::new(alloc);
     for e in items {
         if e.is_seen_at(stage) {
-            push(&mut props, e.shown_props()?)?;
+            push_made(&mut props, e.shown_props())?;
         }
     }
     Ok(props)
@@ -105,7 +104,7 @@ fn extend_runs(runs: &mut Vec<Run>, place: u64, props: Props) -> Result<(), OutO
     ensures { OnOk result (reverse runs.new.items ≡ extended_property_runs place props (reverse runs.old.items)) }
 {
     let is_in = join_first(runs, place, &props);
-    push_unless(is_in, runs, one_run(place, props))
+    push_unless(Ok(is_in), runs, one_run(place, props))
 }
 
 // Begins the first of these runs at this place, if the element with these properties there goes on with it. Returns

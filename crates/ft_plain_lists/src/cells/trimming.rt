@@ -8,10 +8,11 @@ ghost use Rattle.ft_plain_lists.specs.NameTables.{HasAnswers};
 use crate::cells::{PlainCell, PlainCells, is_null};
 use crate::copies::Copied;
 use crate::elements::PlainElement;
+use crate::moved::push_made;
 use crate::name_tables::{NameTable, note_removals};
 use crate::names::ElementName;
 use ft_base::OutOfMemory;
-use ft_base::moved::{after, both, push};
+use ft_base::moved::{after, both};
 use std::alloc::Global;
 
 impl PlainCells {
@@ -50,7 +51,7 @@ fn push_kept(
 {
     for cell in cells {
         if cell.is_kept(rows, gone_rows, cols, gone_cols) {
-            push(items, cell.copied()?)?;
+            push_made(items, cell.copied())?;
         }
     }
     Ok(())
@@ -99,10 +100,5 @@ fn is_gone(items: &[PlainElement], gone: &NameTable<bool>, name: ElementName) ->
 fn is_removed(items: &[PlainElement], name: ElementName) -> bool
     ensures { result ≡ has_sequenced_removal items.now name }
 {
-    for e in items {
-        if e.has_name(&name) && e.is_removed() {
-            return true;
-        }
-    }
-    false
+    items.iter().any(|e| e.has_name(&name) && e.is_removed())
 }

@@ -16,7 +16,7 @@ use std::alloc::Global;
 
 impl PlainElement {
     /// Whether the pending stage inserted it.
-    pub fn is_inserted_by(&self, stage: u64) -> bool
+    pub(crate) fn is_inserted_by(&self, stage: u64) -> bool
         ensures { result ≡ is_inserted_by stage self.now }
     {
         match self.ins {
@@ -26,7 +26,7 @@ impl PlainElement {
     }
 
     /// Whether the pending stage marks it as removed.
-    pub fn is_removed_by(&self, stage: u64) -> bool
+    pub(crate) fn is_removed_by(&self, stage: u64) -> bool
         ensures { result ≡ is_removed_by stage self.now }
     {
         match self.removal_stage {
@@ -36,26 +36,21 @@ impl PlainElement {
     }
 
     /// Whether the pending stage has changes of it.
-    pub fn is_annotated_by(&self, stage: u64) -> bool
+    pub(crate) fn is_annotated_by(&self, stage: u64) -> bool
         ensures { result ≡ is_annotated_by stage self.now }
     {
-        for (own, _) in &self.pending {
-            if *own == stage {
-                return true;
-            }
-        }
-        false
+        self.pending.iter().any(|change| change.0 == stage)
     }
 
     /// Whether a removal of it is sequenced.
-    pub fn is_removed(&self) -> bool
+    pub(crate) fn is_removed(&self) -> bool
         ensures { result ≡ list_any is_acked self.now.dels }
     {
         has_any_sequenced(self.dels.as_slice())
     }
 
     /// Takes its pending removal and its pending changes away, if a removal of it is sequenced.
-    pub fn carry(&mut self)
+    pub(crate) fn carry(&mut self)
         ensures { self.new ≡ carried_element self.old }
     {
         if self.is_removed() {
@@ -69,7 +64,7 @@ impl PlainElement {
     ///
     /// Returns `OutOfMemory` where there is no room for that or its number would pass 2^64 - 1, and then
     /// some of it may be done.
-    pub fn acknowledge(
+    pub(crate) fn acknowledge(
         &mut self,
         stage: u64,
         made: u64,

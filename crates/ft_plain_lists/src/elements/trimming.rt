@@ -38,7 +38,7 @@ impl PlainElement {
     }
 
     /// Whether it is sequenced and its first removal is at or below the minimum.
-    pub fn is_collectable(&self, min: u64) -> bool
+    pub(crate) fn is_collectable(&self, min: u64) -> bool
         ensures { result ≡ is_collectable min self.now }
     {
         self.is_sequenced() && has_collectable_removal(self.dels.as_slice(), min)
@@ -46,7 +46,7 @@ impl PlainElement {
 
     /// The element as a summary has it: an insertion at or below the minimum is written as the universal
     /// one.
-    pub fn trimmed(&self, min: u64) -> Result<PlainElement, OutOfMemory>
+    pub(crate) fn trimmed(&self, min: u64) -> Result<PlainElement, OutOfMemory>
         ensures { IfOk result (λ e. e ≡ trim_element min self.now) }
     {
         self.copy_with(trimmed_insertion(self.ins, min))

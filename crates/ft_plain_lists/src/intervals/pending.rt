@@ -16,7 +16,7 @@ use crate::name_tables::{NameTable, note_settled};
 use crate::names::{ElementName, ElementNames};
 use crate::slides::settle_by;
 use crate::tables_of_ends::table_of_ends;
-use ft_base::moved::both;
+use ft_base::moved::all_three;
 use ft_base::{Datum, OutOfMemory, Text};
 use ft_op::TextOp;
 use ft_props::{PropSet, Props};
@@ -24,7 +24,7 @@ use std::alloc::Global;
 
 impl Copied for PlainInterval {
     fn copied(&self) -> Result<PlainInterval, OutOfMemory> {
-        let ((label, id), props) = self.copied_parts()?;
+        let (label, id, props) = self.copied_parts()?;
         Ok(PlainInterval {
             label,
             id,
@@ -37,13 +37,12 @@ impl Copied for PlainInterval {
 
 impl PlainInterval {
     /// Copies of its label, its id and its properties.
-    pub(crate) fn copied_parts(&self) -> Result<((Text, Text), Props), OutOfMemory>
-        ensures label { IfOk result (λ parts. parts.0.0 ≡ self.now.label) }
-        ensures id { IfOk result (λ parts. parts.0.1 ≡ self.now.id) }
-        ensures props { IfOk result (λ parts. parts.1 ≡ self.now.props) }
+    pub(crate) fn copied_parts(&self) -> Result<(Text, Text, Props), OutOfMemory>
+        ensures label { IfOk result (λ parts. parts.0 ≡ self.now.label) }
+        ensures id { IfOk result (λ parts. parts.1 ≡ self.now.id) }
+        ensures props { IfOk result (λ parts. parts.2 ≡ self.now.props) }
     {
-        let texts = both(self.label.copy(), self.id.copy());
-        both(texts, self.props.copy())
+        all_three(self.label.copy(), self.id.copy(), self.props.copy())
     }
 
     // Settles both ends at the pending stage, by a table of where the ends go.
@@ -141,9 +140,8 @@ fn new_interval(
 ) -> Result<PlainInterval, OutOfMemory>
     ensures { IfOk result (λ i. i ≡ record { label = label.now; id = id.now; start = names.now.first; end = names.now.second; props = apply [] set.now }) }
 {
-    let texts = both(label.copy(), id.copy());
-    let ((own_label, own_id), props) = both(texts, first_props(alloc, set))?;
-    Ok(PlainInterval::new(own_label, own_id, names, props))
+    let (label, id, props) = all_three(label.copy(), id.copy(), first_props(alloc, set))?;
+    Ok(PlainInterval::new(label, id, names, props))
 }
 
 // What the set makes of no properties.

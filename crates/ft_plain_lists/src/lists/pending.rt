@@ -12,9 +12,10 @@ use crate::element_tests::{Before, ElementTest, InsertedBy};
 use crate::elements::marks::{PendingChanges, PendingRemoval};
 use crate::elements::{Content, PlainElement};
 use crate::lists::{PlainList, check_room};
+use crate::moved::push_made;
 use crate::scans::{insertion_place, mark_range, new_elements, put_at, rank, units};
-use ft_base::moved::{after, fill, push};
-use ft_base::{OutOfMemory, Stamp};
+use ft_base::moved::{after, fill};
+use ft_base::{OutOfMemory, Stamp, Stamps};
 use ft_props::{Changes, Props};
 use std::alloc::Global;
 
@@ -47,7 +48,9 @@ impl PlainList {
     {
         check_room(self.items.len(), contents.len())?;
         let ins = Stamp::Local { stage };
-        let new = new_elements(self.alloc(), 0, ins, None, props, contents);
+        let alloc = self.alloc();
+        let dels = Stamps::new(alloc);
+        let new = new_elements(alloc, 0, ins, &dels, None, props, contents);
         put_behind(&mut self.items, p, Before(stage), new)
     }
 
@@ -183,7 +186,7 @@ fn carried_elements(alloc: Global, items: &[PlainElement]) -> Result<Vec<PlainEl
     let mut carried = Vec::new(alloc);
     for e in items {
         if e.is_sequenced() {
-            push(&mut carried, carried_element(e)?)?;
+            push_made(&mut carried, carried_element(e))?;
         }
     }
     Ok(carried)
@@ -250,7 +253,7 @@ fn elements_of_stage(
     let mut found = Vec::new(alloc);
     for e in items {
         if e.is_inserted_by(stage) {
-            push(&mut found, e.copied()?)?;
+            push_made(&mut found, e.copied())?;
         }
     }
     Ok(found)

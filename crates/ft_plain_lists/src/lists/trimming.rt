@@ -4,8 +4,8 @@ ghost use Rattle.std.specs.Prelude.{◌≡◌, IfOk};
 ghost use Rattle.ft_props.specs.Compaction.{trim_list};
 
 use crate::lists::PlainList;
+use crate::moved::push_made;
 use ft_base::OutOfMemory;
-use ft_base::moved::push;
 
 impl PlainList {
     /// The list as a summary has it: without the collectable elements, and with insertions at or below the
@@ -16,7 +16,7 @@ impl PlainList {
         let mut items = Vec::new(self.alloc());
         for e in &self.items {
             if !e.is_collectable(min) {
-                push(&mut items, e.trimmed(min)?)?;
+                push_made(&mut items, e.trimmed(min))?;
             }
         }
         Ok(PlainList {

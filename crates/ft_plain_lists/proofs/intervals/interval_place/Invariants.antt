@@ -1,6 +1,6 @@
 use Rattle.std.proofs.Common.{◌≡◌, drop}
 use Rattle.ft_op.specs.Intervals.{interval_cmp}
-use Rattle.ft_plain_lists.specs.Rising.{rising_place}
+use Rattle.ft_plain_lists.specs.Places.{rising_place}
 use Rattle.ft_plain_lists.proofs.PlacedItem.{place_from}
 use Rattle.ft_plain_lists.proofs.intervals.interval_place.Given as goal
 

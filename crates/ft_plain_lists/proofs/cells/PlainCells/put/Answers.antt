@@ -1,12 +1,12 @@
 use Rattle.std.proofs.Common.{◌∙◌, ap, length, subst, sym}
 use Rattle.std.proofs.lemmas.Result.{on_ok_weaker}
 use Rattle.ft_op.specs.Cells.{Cell, is_cell, put_cell}
-use Rattle.ft_plain_lists.specs.Places.{IsPlaceIn, found_place, put_item}
+use Rattle.ft_plain_lists.specs.Places.{IsPlaceIn, found_place, set_or_insert}
 use Rattle.ft_plain_lists.proofs.PlacedItem.{cell-put, found-in}
 use Rattle.ft_plain_lists.proofs.cells.PlainCells.put.Goals as goal
 
-pub put_item-requires : goal.put_item-requires
-put_item-requires c =
+pub set_or_insert-requires : goal.set_or_insert-requires
+set_or_insert-requires c =
     let xs = c.self.inside.items.items in
     let cell = c.args.cell in
     let place = c.cell_place-place.ensures ∙ ap (found_place (is_cell c.cell.inside.row c.cell.inside.col)) c.as_slice.ensures.value
@@ -19,6 +19,6 @@ returns-clause-ok c =
     let cell = c.args.cell in
     let place = c.cell_place-place.ensures ∙ ap (found_place (is_cell c.cell.inside.row c.cell.inside.col)) c.as_slice.ensures.value
     ∙ ap (λ (x : Cell). found_place (is_cell x.row x.col) xs) c.cell.view_is in
-    on_ok_weaker c.put_item.result
-    (λ made. made ∙ ap (λ r. put_item r cell xs) place ∙ sym (cell-put cell xs) ∙ ap (put_cell cell) c.self.view_is)
-    c.put_item.ensures.items
+    on_ok_weaker c.set_or_insert.result
+    (λ made. made ∙ ap (λ r. set_or_insert r cell xs) place ∙ sym (cell-put cell xs) ∙ ap (put_cell cell) c.self.view_is)
+    c.set_or_insert.ensures.items

@@ -2,13 +2,12 @@ use Rattle.std.proofs.Common.{◌∙◌, ap, length, subst, sym}
 use Rattle.std.proofs.lemmas.Result.{on_ok_weaker}
 use Rattle.ft_props.specs.Keys.{put_rising}
 use Rattle.ft_op.specs.Intervals.{interval_cmp}
-use Rattle.ft_plain_lists.specs.Places.{IsPlaceIn, put_item}
-use Rattle.ft_plain_lists.specs.Rising.{rising_place}
+use Rattle.ft_plain_lists.specs.Places.{IsPlaceIn, rising_place, set_or_insert}
 use Rattle.ft_plain_lists.proofs.PlacedItem.{rising-in, rising-put}
 use Rattle.ft_plain_lists.proofs.intervals.PlainIntervals.put.Goals as goal
 
-pub put_item-requires : goal.put_item-requires
-put_item-requires c =
+pub set_or_insert-requires : goal.set_or_insert-requires
+set_or_insert-requires c =
     let xs = c.self.inside.items.items in
     let place = c.interval_place-place.ensures ∙ ap (rising_place interval_cmp c.args.interval) c.as_slice.ensures.value in
     subst (λ r. IsPlaceIn r (length xs)) (sym place) (rising-in interval_cmp c.args.interval xs)
@@ -17,7 +16,7 @@ pub returns-clause-ok : goal.returns-clause-ok
 returns-clause-ok c =
     let xs = c.self.inside.items.items in
     let place = c.interval_place-place.ensures ∙ ap (rising_place interval_cmp c.args.interval) c.as_slice.ensures.value in
-    on_ok_weaker c.put_item.result
-    (λ made. made ∙ ap (λ r. put_item r c.args.interval xs) place ∙ sym (rising-put interval_cmp c.args.interval xs)
+    on_ok_weaker c.set_or_insert.result
+    (λ made. made ∙ ap (λ r. set_or_insert r c.args.interval xs) place ∙ sym (rising-put interval_cmp c.args.interval xs)
     ∙ ap (put_rising interval_cmp c.args.interval) c.self.view_is)
-    c.put_item.ensures.items
+    c.set_or_insert.ensures.items

@@ -21,5 +21,5 @@ returns-clause-ok c =
     (on_ok_weaker c.put_behind.result
     (λ made. ap (sequence c.self.inside.made)
     (made-known c.new_elements-new.result (λ v. v.items) new (λ xs. c.put_behind.new.items.items ≡ put before no_run c.args.p xs old)
-    c.new_elements-new.ensures.elements made))
+    (rw c.new-dels.ensures at c.new_elements-new.ensures.elements) made))
     c.put_behind.ensures.ok)
