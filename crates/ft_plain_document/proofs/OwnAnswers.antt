@@ -1,7 +1,7 @@
 -- What is answered to an edit of the client's own, as it is handed on.
-use Rattle.std.proofs.Common.{◌≡◌, List, Result, Ok, Err, sym, ◌∙◌, ap, subst}
-use Rattle.std.specs.Prelude.{IfErr, OnErr, OnOk}
-use Rattle.std.specs.Result.{result_map_both}
+use Rattle.std.proofs.Common.{◌≡◌, List, Result, Ok, Err, sym, ◌∙◌, ap}
+use Rattle.std.proofs.lemmas.Result.{IfErr-at_err, IfOk-at_ok}
+use Rattle.std.specs.Prelude.{IfErr, IfOk, OnErr, OnOk}
 use Rattle.ft_op.specs.Document.{Document}
 use Rattle.ft_op.specs.Stages.{Stage}
 use Rattle.ft_plain_document.specs.declared.documents.own_edits.NotTaken.{NotTaken}
@@ -11,15 +11,16 @@ use Rattle.ft_plain_document.specs.OwnEdits.{AnswersSteps, LeavesRefused, StepsR
 -- the stages are handed on where all sub-operations were taken
 pub stages-answered : {U : Type 0} (steps : StepsResult) (new : Document) (stages : List Stage) (done : Result U NotTaken)
     (r : Result (List Stage) NotTaken) → OnOk done (steps ≡ Ok (new, stages)) → IfErr done (λ why. AnswersSteps steps new (Err why))
-    → r ≡ result_map_both (λ _. stages) (λ why. why) done → AnswersSteps steps new r
-stages-answered steps new stages (Ok u) r taken refused same = subst (λ a. AnswersSteps steps new a) (sym same) taken
-stages-answered steps new stages (Err why) r taken refused same = subst (λ a. AnswersSteps steps new a) (sym same) refused
+    → OnOk r ((u : U) × (done ≡ Ok u)) → IfOk r (λ given. given ≡ stages) → IfErr r (λ why. done ≡ Err why) → AnswersSteps steps new r
+stages-answered steps new stages done (Ok given) taken refused is_done same failed =
+    IfOk-at_ok (λ _. steps ≡ Ok (new, stages)) is_done.1 taken ∙ ap (λ s. Ok (new, s)) (sym same)
+stages-answered steps new stages done (Err why) taken refused is_done same failed = IfErr-at_err (λ w. AnswersSteps steps new (Err w)) failed refused
 
 -- a refusal among them is handed on
-pub refusal-left : {U : Type 0} (old new : Document) (stages : List Stage) (done : Result U NotTaken) (r : Result (List Stage) NotTaken)
-    → IfErr done (λ why. LeavesRefused old new (Err why)) → r ≡ result_map_both (λ _. stages) (λ why. why) done → LeavesRefused old new r
-refusal-left old new stages (Ok u) r left same = subst (λ a. LeavesRefused old new a) (sym same) tt
-refusal-left old new stages (Err why) r left same = subst (λ a. LeavesRefused old new a) (sym same) left
+pub refusal-left : {U : Type 0} (old new : Document) (done : Result U NotTaken) (r : Result (List Stage) NotTaken)
+    → IfErr done (λ why. LeavesRefused old new (Err why)) → IfErr r (λ why. done ≡ Err why) → LeavesRefused old new r
+refusal-left old new done (Ok stages) left failed = tt
+refusal-left old new done (Err why) left failed = IfErr-at_err (λ w. LeavesRefused old new (Err w)) failed left
 
 -- what a copy answers is answered by what takes its place
 pub copy-answered : (steps : StepsResult) (copy new : Document) (made : Result (List Stage) NotTaken) → AnswersSteps steps copy made

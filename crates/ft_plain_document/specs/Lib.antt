@@ -1,3 +1,4 @@
+pub mod LentLists
 pub mod OwnEdits
 pub mod Renamed
 pub mod SubOperations

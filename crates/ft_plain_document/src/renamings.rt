@@ -25,7 +25,7 @@ impl Model for Renaming {
 
 impl Renaming {
     /// No stage is acknowledged.
-    pub fn new(alloc: Global) -> Renaming
+    pub(crate) fn new(alloc: Global) -> Renaming
         ensures { result ≡ [] }
     {
         Renaming {
@@ -36,7 +36,7 @@ impl Renaming {
     /// Adds a stage in whose list `made` elements were sequenced before.
     ///
     /// Returns `OutOfMemory` where there is no room for it, and then nothing changed.
-    pub fn push(&mut self, stage: u64, made: u64) -> Result<(), OutOfMemory>
+    pub(crate) fn push(&mut self, stage: u64, made: u64) -> Result<(), OutOfMemory>
         ensures ok { OnOk result (self.new ≡ self.old ++ (stage, made) ∷ []) }
         ensures err { OnErr result (self.new ≡ self.old) }
     {

@@ -118,7 +118,7 @@ impl Model for PlainStage {
 
 impl PlainStage {
     /// The stage with these parts.
-    pub fn new(stage: u64, sub_operation: SubOp, names: ElementNames) -> PlainStage
+    pub(crate) fn new(stage: u64, sub_operation: SubOp, names: ElementNames) -> PlainStage
         ensures { result ≡ record { stage = stage; sub_operation = sub_operation_of sub_operation; names = names } }
     {
         PlainStage {
@@ -156,7 +156,7 @@ impl PlainStage {
     /// Gives the elements that its sub-operation names their new names.
     ///
     /// Returns `OutOfMemory` where a number would pass 2^64 - 1, and then nothing changed.
-    pub fn rename(&mut self, renaming: &Renaming) -> Result<(), OutOfMemory>
+    pub(crate) fn rename(&mut self, renaming: &Renaming) -> Result<(), OutOfMemory>
         ensures { OnOk result (self.new ≡ renamed_stage (renaming_of renaming.now) self.old) }
     {
         self.names = renaming.names(&self.names)?;

@@ -1,11 +1,11 @@
 //! What operations of the grid make of a document.
 
-ghost use Rattle.std.specs.Prelude.{◌≡◌, ℕ, [], None, OnOk, map, replicate};
-ghost use Rattle.ft_props.specs.Element.{GridUnit};
-ghost use Rattle.ft_props.specs.Steps.{after_insertion};
+ghost use Rattle.std.specs.Prelude.{◌≡◌, ℕ, OnOk, map};
+ghost use Rattle.std.specs.Borrow.{sem};
 ghost use Rattle.ft_op.specs.declared.operations.ChannelOp.TheVariants.{Grid};
 ghost use Rattle.ft_op.specs.Operation.{OnGrid, sub_operations};
-ghost use Rattle.ft_op.specs.Document.{effects, grid_effect, rows_or_cols, with_rows_or_cols};
+ghost use Rattle.ft_op.specs.Document.{effects, grid_effect, rows_or_cols};
+ghost use Rattle.ft_plain_document.specs.LentLists.{lends_list};
 
 use crate::documents::PlainDocument;
 use ft_base::{OutOfMemory, Perspective};
@@ -69,6 +69,17 @@ impl PlainDocument {
         }
     }
 
+    /// The list that a splice is for, to be changed.
+    pub(crate) fn list_mut(&mut self, target: Target) -> &mut PlainList
+        ensures* writes_back { sem 𝓛 (lends_list target self.entry result) }
+        ensures value { result.now ≡ rows_or_cols target self.old }
+    {
+        match target {
+            Target::Rows => &mut self.rows,
+            Target::Cols => &mut self.cols,
+        }
+    }
+
     // Inserts new rows or columns after `p`.
     fn insert_units(
         &mut self,
@@ -83,24 +94,7 @@ impl PlainDocument {
         if !self.list(target).is_within(p, at) {
             return self.skip();
         }
-        self.put_units(target, p, count, seq, at)
-    }
-
-    // Puts so many new rows or columns in after `p`.
-    fn put_units(
-        &mut self,
-        target: Target,
-        p: u64,
-        count: u64,
-        seq: u64,
-        at: Perspective,
-    ) -> Result<(), OutOfMemory>
-        ensures { OnOk result (self.new ≡ with_rows_or_cols target self.old (after_insertion seq at.c at.r p None [] (replicate count GridUnit) (rows_or_cols target self.old))) }
-    {
-        match target {
-            Target::Rows => self.rows.insert_units(p, count, seq, at),
-            Target::Cols => self.cols.insert_units(p, count, seq, at),
-        }
+        self.list_mut(target).insert_units(p, count, seq, at)
     }
 
     // Removes the rows or columns from `p` up to before `q`.
@@ -117,10 +111,7 @@ impl PlainDocument {
         if !self.list(target).is_within(q, at) {
             return self.skip();
         }
-        match target {
-            Target::Rows => self.rows.remove(p, q, seq, at),
-            Target::Cols => self.cols.remove(p, q, seq, at),
-        }
+        self.list_mut(target).remove(p, q, seq, at)
     }
 
     // Writes the value to the cell of the row and the column that the perspective sees there.

@@ -1,12 +1,11 @@
 //! What the client's own sub-operations make of a document.
 
-ghost use Rattle.std.specs.Prelude.{◌≡◌, ◌-◌, [], OnOk, OnErr, replicate};
+ghost use Rattle.std.specs.Prelude.{◌≡◌, ◌-◌, [], OnOk, OnErr};
 ghost use Rattle.ft_base.specs.Scan.{len};
-ghost use Rattle.ft_props.specs.Element.{GridUnit, seen, with_pending_removal};
+ghost use Rattle.ft_props.specs.Element.{seen};
 ghost use Rattle.ft_props.specs.Properties.{ValueBytes, apply};
-ghost use Rattle.ft_props.specs.Steps.{after_local_insertion, after_local_mark};
+ghost use Rattle.ft_props.specs.Steps.{after_local_insertion};
 ghost use Rattle.ft_op.specs.Operation.{segment_contents};
-ghost use Rattle.ft_op.specs.Document.{rows_or_cols, with_rows_or_cols};
 ghost use Rattle.ft_msg.specs.Client.{local_grid, local_text};
 ghost use Rattle.ft_plain_document.specs.OwnEdits.{AnswersSubOperation};
 
@@ -67,7 +66,7 @@ pub fn out_of_range(list: &PlainList, stage: u64) -> NotTaken
 
 impl PlainDocument {
     /// Takes an insertion, a removal or an annotation of the text as a pending stage.
-    pub fn edit_text(&mut self, stage: u64, op: &BaseOp) -> Result<ElementNames, NotTaken>
+    pub(crate) fn edit_text(&mut self, stage: u64, op: &BaseOp) -> Result<ElementNames, NotTaken>
         ensures { AnswersSubOperation (local_text self.old stage op.now) self.old self.new result }
     {
         match op {
@@ -145,7 +144,7 @@ impl PlainDocument {
     }
 
     /// Takes a splice or a cell write as a pending stage.
-    pub fn edit_grid(&mut self, stage: u64, op: &CellOp) -> Result<ElementNames, NotTaken>
+    pub(crate) fn edit_grid(&mut self, stage: u64, op: &CellOp) -> Result<ElementNames, NotTaken>
         ensures { AnswersSubOperation (local_grid self.old stage op.now) self.old self.new result }
     {
         match op {
@@ -172,24 +171,9 @@ impl PlainDocument {
         if !self.list(target).is_within(p, Before(stage)) {
             return Err(out_of_range(self.list(target), stage));
         }
-        self.put_own_units(stage, target, p, count)?;
+        self.list_mut(target)
+            .insert_units_at_stage(stage, p, count)?;
         Ok(ElementNames::none())
-    }
-
-    // Puts so many new units in after `p`.
-    fn put_own_units(
-        &mut self,
-        stage: u64,
-        target: Target,
-        p: u64,
-        count: u64,
-    ) -> Result<(), OutOfMemory>
-        ensures { OnOk result (self.new ≡ with_rows_or_cols target self.old (after_local_insertion stage p [] (replicate count GridUnit) (rows_or_cols target self.old))) }
-    {
-        match target {
-            Target::Rows => self.rows.insert_units_at_stage(stage, p, count),
-            Target::Cols => self.cols.insert_units_at_stage(stage, p, count),
-        }
     }
 
     // Removes the rows or columns from `p` up to before `q`.
@@ -205,24 +189,8 @@ impl PlainDocument {
         if !self.list(target).is_within(q, Before(stage)) {
             return Err(out_of_range(self.list(target), stage));
         }
-        self.mark_own_units(stage, target, p, q)?;
+        self.list_mut(target).remove_at_stage(stage, p, q)?;
         Ok(ElementNames::none())
-    }
-
-    // Marks the rows or columns from `p` up to before `q` as removed.
-    fn mark_own_units(
-        &mut self,
-        stage: u64,
-        target: Target,
-        p: u64,
-        q: u64,
-    ) -> Result<(), OutOfMemory>
-        ensures { OnOk result (self.new ≡ with_rows_or_cols target self.old (after_local_mark stage p q (with_pending_removal stage) (rows_or_cols target self.old))) }
-    {
-        match target {
-            Target::Rows => self.rows.remove_at_stage(stage, p, q),
-            Target::Cols => self.cols.remove_at_stage(stage, p, q),
-        }
     }
 
     // The row and the column that a write to the cell at row `i` and column `j` names; the row is tested

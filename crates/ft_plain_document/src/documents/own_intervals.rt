@@ -22,7 +22,7 @@ use ft_plain_lists::{
 impl PlainDocument {
     /// The elements that an interval operation of the client's own names, after these pending stages and those
     /// of its own edit before it; its id is tested before its ends.
-    pub fn name_own_ends(
+    pub(crate) fn name_own_ends(
         &self,
         pending: &[PlainStage],
         before: &[PlainStage],

@@ -8,10 +8,10 @@ ghost use Rattle.ft_plain_document.specs.SubOperations.{sub_operation_of};
 
 use crate::documents::PlainDocument;
 use crate::documents::own_edits::NotTaken;
-use crate::moved::{fill_with, given, made_beside};
+use crate::moved::{after, beside, fill_with};
 use crate::stages::{PlainStage, PlainStages, SubOp, sub_operations};
 use ft_base::OutOfMemory;
-use ft_base::moved::both;
+use ft_base::moved::{all_three, both};
 use ft_op::ChannelOp;
 use ft_plain_lists::ElementNames;
 use std::collections::VecDeque;
@@ -44,7 +44,7 @@ impl PlainDocument {
         ensures answers { AnswersSteps (local_sub_operations self.old pending.now first (map sub_operation_of ops.items)) self.new result }
         ensures refused { LeavesRefused self.old self.new result }
     {
-        let (mut copy, ops) = made_beside(self.copy(), ops)?;
+        let (mut copy, ops) = beside(self.copy(), ops)?;
         let stages = copy.edit_all(pending, first, ops);
         fill_with(self, copy, stages)
     }
@@ -61,7 +61,7 @@ impl PlainDocument {
     {
         let mut stages = PlainStages::new(self.alloc());
         let done = self.take_all(pending, first, &mut ops, &mut stages);
-        given(done, stages)
+        after(done, stages)
     }
 
     // Takes these sub-operations in order as stages from `first` on, of which there are none so far.
@@ -99,7 +99,7 @@ impl PlainDocument {
             self.old self.new (Err why)) }
     {
         let names = self.edit_one(pending, stages.as_slice(), stage, &op);
-        let (names, op) = made_beside(names, op)?;
+        let (names, op) = beside(names, op)?;
         stages.push(PlainStage::new(stage, op, names))?;
         Ok(())
     }
@@ -127,9 +127,8 @@ impl PlainDocument {
         ensures { IfOk result (λ copy. copy ≡ self.now) }
     {
         let texts = both(self.text.copy(), self.intervals.copy());
-        let units = both(self.rows.copy(), self.cols.copy());
-        let grid = both(units, self.cells.copy());
-        let ((text, intervals), ((rows, cols), cells)) = both(texts, grid)?;
+        let grid = all_three(self.rows.copy(), self.cols.copy(), self.cells.copy());
+        let ((text, intervals), (rows, cols, cells)) = both(texts, grid)?;
         Ok(PlainDocument {
             text,
             rows,

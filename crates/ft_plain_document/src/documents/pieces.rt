@@ -11,7 +11,7 @@ ghost use Rattle.ft_plain_document.specs.SubOperations.{sub_operation_of};
 use crate::documents::PlainDocument;
 use crate::moved::queue_of;
 use crate::stages::{PlainStage, SubOp};
-use ft_base::moved::{both, push_behind};
+use ft_base::moved::{all_three, both, push_behind};
 use ft_base::{Datum, OutOfMemory, Text};
 use ft_json::ValText;
 use ft_op::{BaseOp, CellOp, Ends, Seg, Target, TextOp};
@@ -299,8 +299,7 @@ fn interval_addition(
 ) -> Result<TextOp, OutOfMemory>
     ensures { IfOk result (λ op. op ≡ TextOp.IntervalAdd label.now id.now ends props.now) }
 {
-    let texts = both(label.copy(), id.copy());
-    let ((label, id), props) = both(texts, props.copy())?;
+    let (label, id, props) = all_three(label.copy(), id.copy(), props.copy())?;
     Ok(TextOp::IntervalAdd {
         label,
         id,
@@ -318,8 +317,7 @@ fn interval_change(
 ) -> Result<TextOp, OutOfMemory>
     ensures { IfOk result (λ op. op ≡ TextOp.IntervalChange label.now id.now (Some ends) props.now) }
 {
-    let texts = both(label.copy(), id.copy());
-    let ((label, id), props) = both(texts, props.copy())?;
+    let (label, id, props) = all_three(label.copy(), id.copy(), props.copy())?;
     Ok(TextOp::IntervalChange {
         label,
         id,

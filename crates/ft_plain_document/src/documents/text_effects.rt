@@ -126,10 +126,6 @@ pub(crate) fn segment_contents(alloc: Global, seg: &Seg) -> Result<Vec<Content>,
 {
     match seg {
         Seg::Chars { text } => characters(alloc, text.as_str()),
-        Seg::Marker { ref_type } => {
-            let mut contents = Vec::new(alloc);
-            contents.push(Content::Marker(*ref_type))?;
-            Ok(contents)
-        }
+        Seg::Marker { ref_type } => Ok(vec![in alloc; Content::Marker(*ref_type)]?),
     }
 }

@@ -5,7 +5,7 @@ ghost use Rattle.ft_msg.specs.Summary.{trim};
 
 use crate::documents::PlainDocument;
 use ft_base::OutOfMemory;
-use ft_base::moved::both;
+use ft_base::moved::{all_three, both};
 
 impl PlainDocument {
     /// The document as a summary keeps it: without collectable elements and cells of removed rows and
@@ -15,12 +15,11 @@ impl PlainDocument {
     {
         let min = self.minimum;
         let texts = both(self.text.trimmed(min), self.intervals.copy());
-        let units = both(self.rows.trimmed(min), self.cols.trimmed(min));
         let written = self
             .cells
             .trimmed(self.rows.as_slice(), self.cols.as_slice());
-        let grid = both(units, written);
-        let ((text, intervals), ((rows, cols), cells)) = both(texts, grid)?;
+        let grid = all_three(self.rows.trimmed(min), self.cols.trimmed(min), written);
+        let ((text, intervals), (rows, cols, cells)) = both(texts, grid)?;
         Ok(PlainDocument {
             text,
             rows,

@@ -8,9 +8,10 @@ pub returns-clause-answers : goal.returns-clause-answers
 returns-clause-answers c =
     let steps = local_sub_operations c.args.self.now c.args.pending.now c.args.first (map sub_operation_of c.args.ops.items) in
     let done = c.take_all-done in
-    stages-answered steps done.new.self done.new.stages done.result c.given.result done.ensures.taken done.ensures.answers c.given.ensures
+    stages-answered steps done.new.self done.new.stages done.result c.after.result done.ensures.taken done.ensures.answers
+    c.after.ensures.done c.after.ensures.value c.after.ensures.err
 
 pub returns-clause-refused : goal.returns-clause-refused
 returns-clause-refused c few =
     let done = c.take_all-done in
-    refusal-left c.args.self.now done.new.self done.new.stages done.result c.given.result (done.ensures.refused few) c.given.ensures
+    refusal-left c.args.self.now done.new.self done.result c.after.result (done.ensures.refused few) c.after.ensures.err
