@@ -1,4 +1,3 @@
-mod DoneFirst
 pub mod FrontRuns
 pub mod FrontSegments
 pub mod MadeSegments

@@ -7,7 +7,6 @@ ghost use Rattle.ft_msg.specs.Summary.{list_of, run_items, segment_bodies, segme
 ghost use Rattle.ft_plain_lists.specs.Contents.{content_of};
 
 use ft_base::OutOfMemory;
-use ft_base::moved::push;
 use ft_marks::{stamp_of, stamps_of};
 use ft_plain_lists::{Content, PlainList, characters, units};
 use ft_props::Props;
@@ -37,7 +36,7 @@ fn add_segment(list: &mut PlainList, seg: &SegRec) -> Result<(), OutOfMemory>
     ensures made { OnOk result (list.new.made ≡ list.old.made + length (segment_bodies seg.now.body)) }
 {
     let alloc = list.alloc();
-    let contents = segment_contents(alloc, &seg.body)?;
+    let contents = segment_bodies(alloc, &seg.body)?;
     let dels = stamps_of(alloc, seg.dels.as_slice())?;
     let by = Some(stamp_of(seg.by));
     list.append(
@@ -50,16 +49,12 @@ fn add_segment(list: &mut PlainList, seg: &SegRec) -> Result<(), OutOfMemory>
 }
 
 // The contents of the elements of a segment.
-fn segment_contents(alloc: Global, seg: &Seg) -> Result<Vec<Content>, OutOfMemory>
+fn segment_bodies(alloc: Global, seg: &Seg) -> Result<Vec<Content>, OutOfMemory>
     ensures { IfOk result (λ v. map content_of v.items ≡ segment_bodies seg.now) }
 {
     match seg {
         Seg::Chars { text } => characters(alloc, text.as_str()),
-        Seg::Marker { ref_type } => {
-            let mut contents = Vec::new(alloc);
-            push(&mut contents, Content::Marker(*ref_type))?;
-            Ok(contents)
-        }
+        Seg::Marker { ref_type } => Ok(vec![in alloc; Content::Marker(*ref_type)]?),
     }
 }
 

@@ -5,7 +5,7 @@ ghost use Rattle.std.specs.Prelude.{◌≡◌, ◌++◌, IfOk, OnOk, map, slice_
 ghost use Rattle.ft_msg.specs.Summary.{cells_of, interval_of};
 ghost use Rattle.ft_plain_summary.specs.NamedPlaces.{named_cell, named_cells, named_end, named_interval, unremoved_names};
 
-use ft_base::moved::{both, push};
+use ft_base::moved::{all_three, push};
 use ft_base::{Datum, OutOfMemory};
 use ft_plain_lists::{
     ElementName, ElementNames, PlainCells, PlainElement, PlainInterval, PlainIntervals,
@@ -58,8 +58,7 @@ fn named_interval(names: &[ElementName], rec: &IntervalRec) -> Result<PlainInter
     ensures { IfOk result (λ interval. interval ≡ named_interval names.now rec.now) }
 {
     let ends = named_ends(names, rec);
-    let texts = both(rec.label.copy(), rec.id.copy());
-    let ((label, id), props) = both(texts, rec.props.copy())?;
+    let (label, id, props) = all_three(rec.label.copy(), rec.id.copy(), rec.props.copy())?;
     Ok(PlainInterval::new(label, id, &ends, props))
 }
 

@@ -5,7 +5,7 @@ use Rattle.ft_msg.specs.Summary.{segment_bodies}
 use Rattle.ft_plain_lists.specs.declared.elements.Content.TheVariants.{Character}
 use Rattle.ft_plain_lists.specs.Contents.{content_of}
 use Rattle.ft_plain_lists.proofs.CharacterContents.{map-characters}
-use Rattle.ft_plain_summary.proofs.lists.segment_contents.Goals as goal
+use Rattle.ft_plain_summary.proofs.lists.segment_bodies.Goals as goal
 
 pub returns-in-Chars : goal.returns-in-Chars
 returns-in-Chars c =
