@@ -1,6 +1,6 @@
 //! Values that are moved without a look at what they are. So the proofs of those who move large ones take none of them apart.
 
-ghost use Rattle.std.specs.Prelude.{◌≡◌, ◌+◌, ◌++◌, ◌∷◌, [], IfOk, IsOk, IsOkAnd, OnErr, OnOk, if◌then◌else◌, length, reverse};
+ghost use Rattle.std.specs.Prelude.{◌≡◌, ◌+◌, ◌++◌, ◌∷◌, [], IsOkAnd, OnErr, OnOk, length, reverse};
 ghost use Rattle.ft_plain_lists.specs.Places.{IsPlaceIn, set_or_insert};
 
 use ft_base::{List, OutOfMemory};
@@ -36,24 +36,6 @@ pub fn set_or_insert<T: Drop>(
         Ok(i) => items[i] = item,
         Err(i) => items.insert(i, item)?,
     }
-    Ok(())
-}
-
-/// Adds an item behind the others, unless it is among them.
-///
-/// Returns `OutOfMemory` where there is no room for it, or it couldn't be found out whether it is among them.
-pub fn push_unless<T: Drop>(
-    there: Result<bool, OutOfMemory>,
-    items: &mut Vec<T>,
-    item: T,
-) -> Result<(), OutOfMemory>
-    ensures found { OnOk result (IsOk there) }
-    ensures items { OnOk result (IfOk there (λ t. items.new.items ≡ (if t then items.old.items else items.old.items ++ item ∷ []))) }
-{
-    if there? {
-        return Ok(());
-    }
-    items.push(item)?;
     Ok(())
 }
 

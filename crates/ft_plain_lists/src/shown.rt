@@ -6,7 +6,8 @@ ghost use Rattle.ft_plain_lists.specs.Contents.{content_of};
 ghost use Rattle.ft_plain_lists.specs.PropertyRuns.{Extends, all_shown_props, runs_before};
 
 use crate::elements::{Content, PlainElement};
-use crate::moved::{push_made, push_unless, turned};
+use crate::moved::{push_made, turned};
+use ft_base::moved::push_unless;
 use ft_base::{Datum, OutOfMemory, Text};
 use ft_msg::{Run, Runs, Spot, Spots};
 use ft_props::Props;

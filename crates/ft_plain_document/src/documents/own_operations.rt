@@ -8,10 +8,10 @@ ghost use Rattle.ft_plain_document.specs.SubOperations.{sub_operation_of};
 
 use crate::documents::PlainDocument;
 use crate::documents::own_edits::NotTaken;
-use crate::moved::{after, beside, fill_with};
+use crate::moved::fill_with;
 use crate::stages::{PlainStage, PlainStages, SubOp, sub_operations};
 use ft_base::OutOfMemory;
-use ft_base::moved::{all_three, both};
+use ft_base::moved::{after, all_three, beside, both};
 use ft_op::ChannelOp;
 use ft_plain_lists::ElementNames;
 use std::collections::VecDeque;
