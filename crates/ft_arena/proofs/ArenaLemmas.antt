@@ -43,14 +43,17 @@ with_spare s n = record { leaves = s.leaves; nodes = s.nodes; spare = n }
 pub IsForest-spare : {L B : Type 0} (a : Forest L B) (n : ℕ) → IsForest a → IsForest (with_spare a n)
 IsForest-spare a n f = record { leaf_once = f.leaf_once; child_once = f.child_once; few = f.few }
 
-pub Changes-spare : {L B : Type 0} (a b : Forest L B) (m n id : ℕ) (now : Option (Entry L B)) → Changes a b id now → Changes (with_spare a m) (with_spare b n) id now
+pub Changes-spare : {L B : Type 0} (a b : Forest L B) (m n id : ℕ) (now : Option (Entry L B)) → Changes a b id now
+    → Changes (with_spare a m) (with_spare b n) id now
 Changes-spare a b m n id now h = record { changed = h.changed; others = h.others }
 
-pub PutsChild-spare : {L B : Type 0} (a b : Forest L B) (m n block at child : ℕ) → PutsChild a b block at child → PutsChild (with_spare a m) (with_spare b n) block at child
+pub PutsChild-spare : {L B : Type 0} (a b : Forest L B) (m n block at child : ℕ) → PutsChild a b block at child
+    → PutsChild (with_spare a m) (with_spare b n) block at child
 PutsChild-spare a b m n block at child h =
     record { kids = h.kids; other_kids = h.other_kids; parent = h.parent; other_parents = h.other_parents; leaf_values = h.leaf_values; block_values = h.block_values }
 
-pub TakesChild-spare : {L B : Type 0} (a b : Forest L B) (m n block at child : ℕ) → TakesChild a b block at child → TakesChild (with_spare a m) (with_spare b n) block at child
+pub TakesChild-spare : {L B : Type 0} (a b : Forest L B) (m n block at child : ℕ) → TakesChild a b block at child
+    → TakesChild (with_spare a m) (with_spare b n) block at child
 TakesChild-spare a b m n block at child h =
     record { kids = h.kids; other_kids = h.other_kids; parent = h.parent; other_parents = h.other_parents; leaf_values = h.leaf_values; block_values = h.block_values }
 
@@ -72,7 +75,8 @@ IsForest-same {L} {B} a b l n f =
 
 -- the children and parents are those of before
 pub IsForest-other : {L B : Type 0} (a b : Forest L B) → ((id : ℕ) → times b.leaves id ≡ count_some (leaf_of_entry (entry b id)))
-    → ((id : ℕ) → kids_of_entry (entry b id) ≡ kids_of_entry (entry a id)) → ((id : ℕ) → parent_of_entry (entry b id) ≡ parent_of_entry (entry a id)) → IsForest a
+    → ((id : ℕ) → kids_of_entry (entry b id) ≡ kids_of_entry (entry a id))
+    → ((id : ℕ) → parent_of_entry (entry b id) ≡ parent_of_entry (entry a id)) → IsForest a
     → IsForest b
 IsForest-other a b once kids parents f =
     record {
@@ -157,7 +161,8 @@ module _ {L B : Type 0} where
   )
 
   -- a write of one slot that keeps its node and parent
-  pub entries_kept : (s : Slab (Slot L B)) (id : ℕ) (old new : Slot L B) → get s id ≡ Some old → entry_of new ≡ entry_of old → entries_of (with_value s id new) ≡ entries_of s
+  pub entries_kept : (s : Slab (Slot L B)) (id : ℕ) (old new : Slot L B) → get s id ≡ Some old → entry_of new ≡ entry_of old
+      → entries_of (with_value s id new) ≡ entries_of s
   entries_kept s id old new found same =
       let l : id < length s.slots = ContainsKey-within s id (rw found refl) in
       let here : get_or (entries_of s) id None ≡ Some (entry_of new) = entries_at s id ∙ ap (option_map entry_of) found ∙ ap Some (sym same) in
@@ -218,7 +223,8 @@ module _ {L B : Type 0} where
       → MatchOption (prev_of s t (Some id)) (first (leaves_of s h) ≡ Some id) (λ p. after (leaves_of s h) p ≡ Some id)
   before_is s h t id f live = by_place (prev_of s t (Some id)) (f.0.ring.forth (Some id) live) (f.0.ring.prev_live (Some id) live)
     where
-      by_place : (q : Option ℕ) → next_of s h q ≡ Some id → live_of (entries_of s) q ≡ 1 → MatchOption q (first (leaves_of s h) ≡ Some id) (λ p. after (leaves_of s h) p
+      by_place : (q : Option ℕ) → next_of s h q ≡ Some id → live_of (entries_of s) q ≡ 1
+          → MatchOption q (first (leaves_of s h) ≡ Some id) (λ p. after (leaves_of s h) p
           ≡ Some id)
       by_place None e v = sym (IsWalk-first (next_of s h) h (leaves_of s h) f.0.walks) ∙ e
       by_place (Some p) e v = sym (IsWalk-after (next_of s h) h (leaves_of s h) p f.0.walks (omega (arith, f.1.leaf_once p, v))) ∙ e

@@ -146,7 +146,8 @@ module _ {L B : Type 0} where
   block_is (Block k w) v h = ap (Block k) (cc)
 
   -- a write of a block's value
-  pub block_written_sound : (s : Slab (Slot L B)) (h t : Option ℕ) (id : ℕ) (slot : Slot L B) (v w : B) → get s id ≡ Some slot → block_of_node slot.node ≡ Some v
+  pub block_written_sound : (s : Slab (Slot L B)) (h t : Option ℕ) (id : ℕ) (slot : Slot L B) (v w : B) → get s id ≡ Some slot
+      → block_of_node slot.node ≡ Some v
       → IsChain record { slots = s; head = h; tail = t } → IsChain record {
         slots = with_value s id (with_node slot (Block (kids_of_node slot.node) w));
         head = h;
@@ -194,7 +195,8 @@ module _ {L B : Type 0} (s0 : Slab (Slot L B)) (h t : Option ℕ) (block at chil
   old_kids : kids_of before block ≡ kids_of_node slot1.node
   old_kids = ap kids_of_entry block_entry
 
-  pub put_done : node ≡ with_kids slot1.node (insert (kids_of_node slot1.node) at child) → IsSome (block_value before block) → at ≤ length (kids_of before block)
+  pub put_done : node ≡ with_kids slot1.node (insert (kids_of_node slot1.node) at child) → IsSome (block_value before block)
+      → at ≤ length (kids_of before block)
       → length (kids_of before block) < 8 → parent_of before child ≡ None → IsChain record {
         slots = slots_after (Some block);
         head = h;
@@ -272,7 +274,8 @@ module _ {L B : Type 0} (s : Slab (Node L B)) (ls : List Links) (h t : Option �
     block_found : get (slots_of s ls) block ≡ Some (slot_of old (links_under ls block))
     block_found = found_slot s ls block old found
 
-    child_found : get (with_value (slots_of s ls) block (with_node (slot_of old (links_under ls block)) node)) child ≡ Some (slot_of last.0 (links_under ls child))
+    child_found : get (with_value (slots_of s ls) block (with_node (slot_of old (links_under ls block)) node)) child
+        ≡ Some (slot_of last.0 (links_under ls child))
     child_found = subst (λ (z : Slab (Slot L B)). get z child ≡ Some (slot_of last.0 (links_under ls child))) (slots-with_node s ls block node)
         (found_slot (with_value s block node) ls child last.0 last.1)
 
@@ -284,7 +287,8 @@ module _ {L B : Type 0} (s : Slab (Node L B)) (ls : List Links) (h t : Option �
         ∙ ap (λ z. with_value z child (slot_of last.0 (parent_changed (links_under ls child) par))) (slots-with_node s ls block node)
 
     pub put_written : (at : ℕ) → node ≡ with_kids old (insert (kids_of_node old) at child) → IsSome (block_value (shown (slots_of s ls)) block)
-        → at ≤ length (kids_of (shown (slots_of s ls)) block) → length (kids_of (shown (slots_of s ls)) block) < 8 → parent_of (shown (slots_of s ls)) child ≡ None
+        → at ≤ length (kids_of (shown (slots_of s ls)) block) → length (kids_of (shown (slots_of s ls)) block) < 8
+        → parent_of (shown (slots_of s ls)) child ≡ None
         → IsChain (linked (slots_of (with_value s block node) (set ls child (parent_changed links (Some block)))))
         × (leaves_of (slots_of (with_value s block node) (set ls child (parent_changed links (Some block)))) h ≡ leaves_of (slots_of s ls) h)
         × PutsChild (shown (slots_of s ls)) (shown (slots_of (with_value s block node) (set ls child (parent_changed links (Some block))))) block at child

@@ -19,7 +19,8 @@ pub record IsLinked (live : Option ℕ → ℕ) (next prev : Option ℕ → Opti
   pub once : (id : ℕ) → times xs id ≡ live (Some id)
 
 -- no leaf leads to itself
-pub next_apart : (live : Option ℕ → ℕ) (next prev : Option ℕ → Option ℕ) (xs : List ℕ) (id : ℕ) → IsLinked live next prev xs → live (Some id) ≡ 1 → next (Some id) ≢ Some id
+pub next_apart : (live : Option ℕ → ℕ) (next prev : Option ℕ → Option ℕ) (xs : List ℕ) (id : ℕ) → IsLinked live next prev xs
+    → live (Some id) ≡ 1 → next (Some id) ≢ Some id
 next_apart live next prev xs id g here =
     let once_id : times xs id ≡ 1 = g.once id ∙ here in
     λ e. after_self xs id (omega (arith, once_id)) (sym (IsWalk-after next (next None) xs id g.walks (omega (arith, once_id))) ∙ e)
@@ -74,7 +75,8 @@ module _ (live : Option ℕ → ℕ) (next prev : Option ℕ → Option ℕ) (li
       g_in : (q : Option ℕ) → live q ≡ 1 → IsIn xs q
       g_in q h = at_place q h
 
-      walked : (q : Option ℕ) → next' q ≡ Some id → next' (Some id) ≡ next q → ((p : Option ℕ) → p ≢ q → p ≢ Some id → next' p ≡ next p) → times xs id ≡ 0 → IsIn xs q
+      walked : (q : Option ℕ) → next' q ≡ Some id → next' (Some id) ≡ next q → ((p : Option ℕ) → p ≢ q → p ≢ Some id → next' p ≡ next p)
+          → times xs id ≡ 0 → IsIn xs q
           → IsWalk next' (next' None) (put_after xs q id)
       walked None n ni nr z i =
           let rest : IsWalk next' (next None) xs = IsWalk-other next next' (next None) xs (λ x m. nr (Some x) (λ e. cc) (λ e. let q : x ≡ id = cc in

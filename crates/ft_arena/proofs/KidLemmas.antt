@@ -105,7 +105,8 @@ module _ {L B : Type 0} where
 
   -- the same links among the same leaves
   pub links_kept : (s s' : Slab (Slot L B)) (h t : Option ℕ) → ((p : Option ℕ) → live_of (entries_of s) p ≡ 1 → next_of s' h p ≡ next_of s h p)
-      → ((p : Option ℕ) → live_of (entries_of s) p ≡ 1 → prev_of s' t p ≡ prev_of s t p) → ((p : Option ℕ) → live_of (entries_of s') p ≡ live_of (entries_of s) p)
+      → ((p : Option ℕ) → live_of (entries_of s) p ≡ 1 → prev_of s' t p ≡ prev_of s t p)
+      → ((p : Option ℕ) → live_of (entries_of s') p ≡ live_of (entries_of s) p)
       → Linked s h t → Linked s' h t × (leaves_of s' h ≡ leaves_of s h)
   links_kept s s' h t n p l f =
       let one : (x : ℕ) → 1 ≤ times (leaves_of s h) x → live_of (entries_of s) (Some x) ≡ 1 =

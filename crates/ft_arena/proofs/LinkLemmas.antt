@@ -111,7 +111,8 @@ module _ {L B : Type 0} (n0 n1 : Slab (Node L B)) (l0 l1 l2 : List Links) (h0 t0
     pub hooked_length : length l3 ≡ length n1.slots
     hooked_length = ap length second ∙ length-with_prev l2 next (Some id) ∙ long2
 
-    pub hooked_changes : Changes (nodes_of record { slots = slots_of n0 l0; head = h0; tail = t0 }) (nodes_of record { slots = slots_of n1 l3; head = h2; tail = t3 }) id
+    pub hooked_changes : Changes (nodes_of record { slots = slots_of n0 l0; head = h0; tail = t0 })
+        (nodes_of record { slots = slots_of n1 l3; head = h2; tail = t3 }) id
         (Some record { node = Leaf leaf; parent = None })
     hooked_changes = linked_changes (slots_of n0 l0) (slots_of n1 l1) (slots_of n1 l2) (slots_of n1 l3) h0 t0 h2 t3 at next id leaf sound place leads gone ups nx pv
 

@@ -57,7 +57,8 @@ after_self (y ∷ ys) x h = elim (cases_eq y x) [
     head [] e h = cc
     head (z ∷ zs) e h = let q : z ≡ x = cc in omega (arith, same_refl z, ap (same z) q)
 
-pub IsWalk-other : (next next' : Option ℕ → Option ℕ) (at : Option ℕ) (xs : List ℕ) → ((x : ℕ) → 1 ≤ times xs x → next' (Some x) ≡ next (Some x)) → IsWalk next at xs
+pub IsWalk-other : (next next' : Option ℕ → Option ℕ) (at : Option ℕ) (xs : List ℕ)
+    → ((x : ℕ) → 1 ≤ times xs x → next' (Some x) ≡ next (Some x)) → IsWalk next at xs
     → IsWalk next' at xs
 IsWalk-other next next' at [] h w = w
 IsWalk-other next next' at (y ∷ ys) h w =
@@ -67,7 +68,8 @@ IsWalk-other next next' at (y ∷ ys) h w =
     )
 
 pub IsWalk-insert : (next next' : Option ℕ → Option ℕ) (at : Option ℕ) (xs : List ℕ) (a id : ℕ) → next' (Some a) ≡ Some id → next' (Some id) ≡ next (Some a)
-    → ((x : ℕ) → x ≢ a → x ≢ id → next' (Some x) ≡ next (Some x)) → times xs a ≡ 1 → times xs id ≡ 0 → IsWalk next at xs → IsWalk next' at (insert_after xs a id)
+    → ((x : ℕ) → x ≢ a → x ≢ id → next' (Some x) ≡ next (Some x)) → times xs a ≡ 1 → times xs id ≡ 0 → IsWalk next at xs
+    → IsWalk next' at (insert_after xs a id)
 IsWalk-insert next next' at [] a id ha hi ho once none w = w
 IsWalk-insert next next' at (y ∷ ys) a id ha hi ho once none w = elim (cases_eq y a) [
   | inl e ↦
@@ -88,7 +90,8 @@ IsWalk-insert next next' at (y ∷ ys) a id ha hi ho once none w = elim (cases_e
 
 pub IsWalk-without : (next next' : Option ℕ → Option ℕ) (at at' : Option ℕ) (xs : List ℕ) (id : ℕ)
     → ((x : ℕ) → 1 ≤ times xs x → x ≢ id → next (Some x) ≡ Some id → next' (Some x) ≡ next (Some id))
-    → ((x : ℕ) → 1 ≤ times xs x → x ≢ id → next (Some x) ≢ Some id → next' (Some x) ≡ next (Some x)) → (at ≡ Some id → at' ≡ next (Some id)) → (at ≢ Some id → at' ≡ at)
+    → ((x : ℕ) → 1 ≤ times xs x → x ≢ id → next (Some x) ≢ Some id → next' (Some x) ≡ next (Some x))
+    → (at ≡ Some id → at' ≡ next (Some id)) → (at ≢ Some id → at' ≡ at)
     → times xs id ≤ 1 → IsWalk next at xs → IsWalk next' at' (without xs id)
 IsWalk-without next next' at at' [] id hs ho am ao once w = ao (λ e. cc) ∙ w
 IsWalk-without next next' at at' (y ∷ ys) id hs ho am ao once w = elim (cases_eq y id) [
@@ -118,7 +121,8 @@ IsWalk-without next next' at at' (y ∷ ys) id hs ho am ao once w = elim (cases_
 
 pub IsRing-insert : (live : Option ℕ → ℕ) (next prev : Option ℕ → Option ℕ) (live' : Option ℕ → ℕ) (next' prev' : Option ℕ → Option ℕ) (at new : Option ℕ)
     → IsRing live next prev → live at ≡ 1 → live new ≡ 0 → live' new ≡ 1 → ((p : Option ℕ) → p ≢ new → live' p ≡ live p) → next' at ≡ new → next' new ≡ next at
-    → ((p : Option ℕ) → p ≢ at → p ≢ new → next' p ≡ next p) → prev' (next at) ≡ new → prev' new ≡ at → ((p : Option ℕ) → p ≢ next at → p ≢ new → prev' p ≡ prev p)
+    → ((p : Option ℕ) → p ≢ at → p ≢ new → next' p ≡ next p) → prev' (next at) ≡ new → prev' new ≡ at
+    → ((p : Option ℕ) → p ≢ next at → p ≢ new → prev' p ≡ prev p)
     → IsRing live' next' prev'
 IsRing-insert live next prev live' next' prev' at new r here fresh l lo n nn nr p pn po =
     record {
@@ -162,7 +166,8 @@ IsRing-insert live next prev live' next' prev' at new r here fresh l lo n nn nr 
 
 pub IsRing-without : (live : Option ℕ → ℕ) (next prev : Option ℕ → Option ℕ) (live' : Option ℕ → ℕ) (next' prev' : Option ℕ → Option ℕ) (gone : Option ℕ)
     → IsRing live next prev → live gone ≡ 1 → next gone ≢ gone → live' gone ≡ 0 → ((p : Option ℕ) → p ≢ gone → live' p ≡ live p) → next' (prev gone) ≡ next gone
-    → ((p : Option ℕ) → p ≢ prev gone → p ≢ gone → next' p ≡ next p) → prev' (next gone) ≡ prev gone → ((p : Option ℕ) → p ≢ next gone → p ≢ gone → prev' p ≡ prev p)
+    → ((p : Option ℕ) → p ≢ prev gone → p ≢ gone → next' p ≡ next p) → prev' (next gone) ≡ prev gone
+    → ((p : Option ℕ) → p ≢ next gone → p ≢ gone → prev' p ≡ prev p)
     → IsRing live' next' prev'
 IsRing-without live next prev live' next' prev' gone r here apart dead lo n nr p po =
     let apart' : prev gone ≢ gone = (λ e. apart (ap next (sym e) ∙ r.forth gone here)) in

@@ -14,7 +14,8 @@ use Rattle.ft_arena.specs.Seats.{entry_of_seat, value_of_seat, slab_of, AreSeats
 
 module _ {T : Type 0} where
   -- what a read at a number gives is the entry there
-  pub seat_read : (es : List (Seat T)) (key : ℕ) (e : Seat T) → key < length es → e ≡ get_or es key e → slice_get (map entry_of_seat es) key ≡ Some (entry_of_seat e)
+  pub seat_read : (es : List (Seat T)) (key : ℕ) (e : Seat T) → key < length es → e ≡ get_or es key e
+      → slice_get (map entry_of_seat es) key ≡ Some (entry_of_seat e)
   seat_read es key e within read =
       slice_get-map entry_of_seat es key ∙ ap (option_map entry_of_seat) (slice_get_read es (length es) key e refl within read)
 
@@ -36,21 +37,25 @@ module _ {T : Type 0} where
       get_or-map value_of (map entry_of_seat es) key (entry_of_seat e) None (omega (arith, within, length-map es entry_of_seat))
       ∙ ap value_of (get_or-map entry_of_seat es key e (entry_of_seat e) within ∙ ap entry_of_seat (sym read))
 
-  pub values-set : (es : List (Seat T)) (key : ℕ) (e : Seat T) → map value_of (map entry_of_seat (set es key e)) ≡ set (map value_of (map entry_of_seat es)) key (value_of_seat e)
+  pub values-set : (es : List (Seat T)) (key : ℕ) (e : Seat T)
+      → map value_of (map entry_of_seat (set es key e)) ≡ set (map value_of (map entry_of_seat es)) key (value_of_seat e)
   values-set es key e = ap (map value_of) (map-set entry_of_seat es key e) ∙ map-set value_of (map entry_of_seat es) key (entry_of_seat e)
 
   -- a write of one seat changes what its number finds, and no other
-  pub Updates-seat : (es : List (Seat T)) (next after capacity key : ℕ) (e : Seat T) → key < length es → Updates (slab_of es next capacity) (slab_of (set es key e) after capacity) key (value_of_seat e)
+  pub Updates-seat : (es : List (Seat T)) (next after capacity key : ℕ) (e : Seat T) → key < length es
+      → Updates (slab_of es next capacity) (slab_of (set es key e) after capacity) key (value_of_seat e)
   Updates-seat es next after capacity key e within =
       Updates-set _ _ key (value_of_seat e) (omega (arith, within, length-map es entry_of_seat, length-map (map entry_of_seat es) (value_of {T = T}))) (values-set es key e)
 
   -- the number of values after a write
   pub len-set : (es : List (Seat T)) (next after capacity key : ℕ) (old new : Seat T) → slice_get (map entry_of_seat es) key ≡ Some (entry_of_seat old)
-      → slab_len (slab_of (set es key new) after capacity) + cond (is_some (value_of_seat old)) 1 0 ≡ slab_len (slab_of es next capacity) + cond (is_some (value_of_seat new)) 1 0
+      → slab_len (slab_of (set es key new) after capacity) + cond (is_some (value_of_seat old)) 1 0 ≡ slab_len (slab_of es next capacity)
+      + cond (is_some (value_of_seat new)) 1 0
   len-set es next after capacity key old new found =
       rw (map-set entry_of_seat es key new) (count-set (map entry_of_seat es) key (entry_of_seat old) (entry_of_seat new) found)
 
-  pub AreSeats-push : (es : List (Seat T)) (len next capacity : ℕ) (value : T) → AreSeats es len next → next ≡ length es → HasRoomFor (slab_of es next capacity) 1
+  pub AreSeats-push : (es : List (Seat T)) (len next capacity : ℕ) (value : T) → AreSeats es len next → next ≡ length es
+      → HasRoomFor (slab_of es next capacity) 1
       → AreSeats (es ++ Taken value ∷ []) (len + 1) (next + 1)
   AreSeats-push es len next capacity value s at_end room =
       let there : next ≡ length (map entry_of_seat es) = omega (arith, at_end, length-map es entry_of_seat) in
@@ -67,7 +72,8 @@ module _ {T : Type 0} where
         few = omega (arith, s.few, length-set es next (Taken value));
       }
 
-  pub AreSeats-vacate : (es : List (Seat T)) (len next key : ℕ) (value : T) → AreSeats es len next → slice_get (map entry_of_seat es) key ≡ Some (Occupied value)
+  pub AreSeats-vacate : (es : List (Seat T)) (len next key : ℕ) (value : T) → AreSeats es len next
+      → slice_get (map entry_of_seat es) key ≡ Some (Occupied value)
       → AreSeats (set es key (Free next)) (len - 1) key
   AreSeats-vacate es len next key value s found =
       let free : Seat T = Free next in
@@ -76,7 +82,8 @@ module _ {T : Type 0} where
         few = omega (arith, s.few, length-set es key free);
       }
 
-  pub AreSeats-rewrite : (es : List (Seat T)) (len next key : ℕ) (old new : T) → AreSeats es len next → slice_get (map entry_of_seat es) key ≡ Some (Occupied old)
+  pub AreSeats-rewrite : (es : List (Seat T)) (len next key : ℕ) (old new : T) → AreSeats es len next
+      → slice_get (map entry_of_seat es) key ≡ Some (Occupied old)
       → AreSeats (set es key (Taken new)) len next
   AreSeats-rewrite es len next key old new s found =
       record {

@@ -122,7 +122,8 @@ module _ {L B : Type 0} where
   pub slots_at : (s : Slab (Node L B)) (ls : List Links) (id : ℕ) → get (slots_of s ls) id ≡ slot_at (get s id) (links_under ls id)
   slots_at s ls id = zipped-at s.slots ls id
 
-  pub found_slot : (s : Slab (Node L B)) (ls : List Links) (id : ℕ) (n : Node L B) → get s id ≡ Some n → get (slots_of s ls) id ≡ Some (slot_of n (links_under ls id))
+  pub found_slot : (s : Slab (Node L B)) (ls : List Links) (id : ℕ) (n : Node L B) → get s id ≡ Some n
+      → get (slots_of s ls) id ≡ Some (slot_of n (links_under ls id))
   found_slot s ls id n found = slots_at s ls id ∙ ap (λ o. slot_at o (links_under ls id)) found
 
   pub has_node : (s : Slab (Node L B)) (ls : List Links) (id : ℕ) → ContainsKey (slots_of s ls) id → ContainsKey s id
@@ -169,7 +170,8 @@ module _ {L B : Type 0} where
   next_shown s ls head (Some id) h = let n = some_value (get s id) h in sym (ap next_of_slot (found_slot s ls id n.0 n.1))
 
   -- a write of one link, seen at the slots
-  pub slots_next : (s : Slab (Node L B)) (ls ls' : List Links) (head head' at to : Option ℕ) → length ls ≡ length s.slots → HasPlace s at → ls' ≡ with_next ls at to
+  pub slots_next : (s : Slab (Node L B)) (ls ls' : List Links) (head head' at to : Option ℕ) → length ls ≡ length s.slots → HasPlace s at
+      → ls' ≡ with_next ls at to
       → head' ≡ end_with head at to → SetsNext (slots_of s ls) head (slots_of s ls') head' at to
   slots_next s ls ls' head head' None to long h e k =
       rw (e, k) record { changed = refl; others = elim [ None ↦ λ d. absurd (d refl) | Some x ↦ λ d. refl ]; prevs = λ tail p. refl; entries = refl }
@@ -179,7 +181,8 @@ module _ {L B : Type 0} where
       rw (e, k, slots-with_links s ls id (next_changed l to) n.0 n.1 (omega (arith, long, ContainsKey-within s id h)))
       (sets_next (slots_of s ls) head to id (slot_of n.0 l) (found_slot s ls id n.0 n.1))
 
-  pub slots_prev : (s : Slab (Node L B)) (ls ls' : List Links) (tail tail' at to : Option ℕ) → length ls ≡ length s.slots → HasPlace s at → ls' ≡ with_prev ls at to
+  pub slots_prev : (s : Slab (Node L B)) (ls ls' : List Links) (tail tail' at to : Option ℕ) → length ls ≡ length s.slots → HasPlace s at
+      → ls' ≡ with_prev ls at to
       → tail' ≡ end_with tail at to → SetsPrev (slots_of s ls) tail (slots_of s ls') tail' at to
   slots_prev s ls ls' tail tail' None to long h e k =
       rw (e, k) record { changed = refl; others = elim [ None ↦ λ d. absurd (d refl) | Some x ↦ λ d. refl ]; nexts = λ head p. refl; entries = refl }
@@ -190,14 +193,16 @@ module _ {L B : Type 0} where
       (sets_prev (slots_of s ls) tail to id (slot_of n.0 l) (found_slot s ls id n.0 n.1))
 
   -- what stands before a leaf, and above a node
-  pub prev_shown : (s : Slab (Node L B)) (ls : List Links) (tail : Option ℕ) (id : ℕ) → ContainsKey s id → (links_under ls id).prev ≡ prev_of (slots_of s ls) tail (Some id)
+  pub prev_shown : (s : Slab (Node L B)) (ls : List Links) (tail : Option ℕ) (id : ℕ) → ContainsKey s id
+      → (links_under ls id).prev ≡ prev_of (slots_of s ls) tail (Some id)
   prev_shown s ls tail id h = let n = some_value (get s id) h in sym (ap prev_of_slot (found_slot s ls id n.0 n.1))
 
   pub entry_is : (s : Slab (Node L B)) (ls : List Links) (id : ℕ) (n : Node L B) → get s id ≡ Some n
       → get_or (entries_of (slots_of s ls)) id None ≡ Some (entry_of (slot_of n (links_under ls id)))
   entry_is s ls id n found = entries_at (slots_of s ls) id ∙ ap (option_map entry_of) (found_slot s ls id n found)
 
-  pub parent_shown : (s : Slab (Node L B)) (ls : List Links) (id : ℕ) → ContainsKey s id → (links_under ls id).parent ≡ parent_of_entry (get_or (entries_of (slots_of s
+  pub parent_shown : (s : Slab (Node L B)) (ls : List Links) (id : ℕ) → ContainsKey s id
+      → (links_under ls id).parent ≡ parent_of_entry (get_or (entries_of (slots_of s
       ls)) id None)
   parent_shown s ls id h = let n = some_value (get s id) h in sym (ap parent_of_entry (entry_is s ls id n.0 n.1))
 

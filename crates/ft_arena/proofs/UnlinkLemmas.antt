@@ -117,7 +117,8 @@ module _ {L B : Type 0} (n0 n1 : Slab (Node L B)) (l0 : List Links) (h0 t0 : Opt
       pub unhooked_length : length l3 ≡ length n1.slots
       unhooked_length = ap length second ∙ length-with_prev l2 links.next links.prev ∙ long2
 
-      pub unhooked_changes : Changes (nodes_of record { slots = slots_of n0 l0; head = h0; tail = t0 }) (nodes_of record { slots = slots_of n1 l3; head = h2; tail = t3 }) id None
+      pub unhooked_changes : Changes (nodes_of record { slots = slots_of n0 l0; head = h0; tail = t0 })
+          (nodes_of record { slots = slots_of n1 l3; head = h2; tail = t3 }) id None
       unhooked_changes = unlinked_changes (slots_of n0 l0) (slots_of n1 l0) (slots_of n1 l2) (slots_of n1 l3) h0 t0 h2 t3 id (slot_of node links) sound found_links leaf ups nx pv
 
       pub unhooked_leaves : leaves_of (slots_of n1 l3) h2 ≡ without (leaves_of (slots_of n0 l0) h0) id

@@ -14,7 +14,8 @@ invariant_of-self g c =
 pub unreachable-requires : goal.unreachable-requires
 unreachable-requires g c =
     let some = rw (← c.self.view_is) at c.requires in
-    let none = value_read c.self.inside.seats.items c.args.key c.index_mut.result.now some c.index_mut.ensures.value ∙ ap value_of_seat (sym c.replace.ensures.value ∙ c.in-Free.is) in
+    let none = value_read c.self.inside.seats.items c.args.key c.index_mut.result.now some c.index_mut.ensures.value
+    ∙ ap value_of_seat (sym c.replace.ensures.value ∙ c.in-Free.is) in
     true≢false (sym some ∙ ap is_some none)
 
 pub returns-clause-value : goal.returns-clause-value
