@@ -70,7 +70,8 @@ total_same f g [] h = refl
 total_same f g (x ∷ xs) h = omega (arith, h x (omega (arith, same_refl x)), total_same f g xs (λ y m. h y (omega arith)))
 
 -- where only one number of the list has another value
-pub total_change : (f g : ℕ → ℕ) (xs : List ℕ) (at : ℕ) → times xs at ≡ 1 → ((x : ℕ) → 1 ≤ times xs x → x ≢ at → g x ≡ f x) → total g xs + f at ≡ total f xs + g at
+pub total_change : (f g : ℕ → ℕ) (xs : List ℕ) (at : ℕ) → times xs at ≡ 1 → ((x : ℕ) → 1 ≤ times xs x → x ≢ at → g x ≡ f x)
+    → total g xs + f at ≡ total f xs + g at
 total_change f g [] at h o = absurd (omega arith)
 total_change f g (y ∷ ys) at h o = elim (cases_eq y at) [
   | inl e ↦
@@ -93,13 +94,15 @@ none_by (Some x) h = absurd (h x refl)
 pub dead_apart : {X : Type 0} (f : ℕ → Option X) (x q : ℕ) → IsSome (f x) → f q ≡ None → x ≢ q
 dead_apart f x q h dead e = let k : IsSome (f q) = subst (λ (z : ℕ). IsSome (f z)) e h in cc (k, dead)
 
-pub edit_member : (step : ℕ) (ed : List ℕ → List ℕ) (at new : ℕ) → IsEdit step ed at new → (xs : List ℕ) (x : ℕ) → 1 ≤ times (ed xs) x → (1 ≤ times xs x) ⊎ (x ≡ new)
+pub edit_member : (step : ℕ) (ed : List ℕ → List ℕ) (at new : ℕ) → IsEdit step ed at new → (xs : List ℕ) (x : ℕ) → 1 ≤ times (ed xs) x
+    → (1 ≤ times xs x) ⊎ (x ≡ new)
 edit_member step ed at new E xs x m = elim (cases_eq x new) [
   | inl e ↦ inr e
   | inr d ↦ inl (omega (arith, m, E.others xs x d))
 ]
 
-pub edit-flat_map : (step : ℕ) (ed : List ℕ → List ℕ) (at new : ℕ) → IsEdit step ed at new → (f : ℕ → List ℕ) (xs : List ℕ) → ed (flat_map f xs) ≡ flat_map (λ x. ed (f x)) xs
+pub edit-flat_map : (step : ℕ) (ed : List ℕ → List ℕ) (at new : ℕ) → IsEdit step ed at new → (f : ℕ → List ℕ) (xs : List ℕ)
+    → ed (flat_map f xs) ≡ flat_map (λ x. ed (f x)) xs
 edit-flat_map step ed at new E f [] = E.none
 edit-flat_map step ed at new E f (x ∷ xs) = E.joins (f x) (flat_map f xs) ∙ ap (λ zs. ed (f x) ++ zs) (edit-flat_map step ed at new E f xs)
 

@@ -15,7 +15,8 @@ use Rattle.ft_shape.proofs.EditLemmas.{is_some_from, none_by}
 use Rattle.ft_shape.proofs.KindLemmas.{kind_is_height, kind_is_block, kind_height, kind_live, kind_block, block_live, kind_from_values}
 
 module _ {L S : Type 0} (a0 a1 a2 a3 s : Forest L (Headed S)) (id top : ℕ) (leaf : L) (z : (Headed S)) (is_high : z.height ≡ 1) (bare : (x : ℕ)
-    → entry a0 x ≡ None) (no_leaves : a0.leaves ≡ []) (l1 : a1.leaves ≡ id ∷ a0.leaves) (c1 : Changes a0 a1 id (Some record { node = Leaf leaf; parent = None }))
+    → entry a0 x ≡ None) (no_leaves : a0.leaves ≡ []) (l1 : a1.leaves ≡ id ∷ a0.leaves)
+    (c1 : Changes a0 a1 id (Some record { node = Leaf leaf; parent = None }))
     (l2 : a2.leaves ≡ a1.leaves) (f2 : entry a1 top ≡ None) (c2 : Changes a1 a2 top (Some record { node = Block [] z; parent = None })) (l3 : a3.leaves ≡ a2.leaves)
     (p3 : PutsChild a2 a3 top 0 id) (r : SameShape a3 s) where
   o_apart : id ≢ top

@@ -31,7 +31,8 @@ total_part g f (y ∷ ys) b m = elim (cases_eq y b) [
 ]
 
 module _ {L S : Type 0} (s : Forest L (Headed S)) (root : ℕ) (extra : Option ℕ) {short : Option ℕ} (t : IsShape s root extra short) where
-  up_from : (x : ℕ) → IsSome (entry s x) → x ≢ root → extra ≢ Some x → (b : ℕ) × (parent_of s x ≡ Some b) × (height_of s b ≡ height_of s x + 1) × IsSome (block_value s b)
+  up_from : (x : ℕ) → IsSome (entry s x) → x ≢ root → extra ≢ Some x
+      → (b : ℕ) × (parent_of s x ≡ Some b) × (height_of s b ≡ height_of s x + 1) × IsSome (block_value s b)
   up_from x live d e =
       let b = some_of (parent_of s x) (t.one_top x live d e) in
       let h : height_of s b.0 ≡ height_of s x + 1 = t.heights x b.0 b.1 in (
@@ -57,7 +58,8 @@ module _ {L S : Type 0} (s : Forest L (Headed S)) (root : ℕ) (extra : Option �
       let e : n + 1 ≡ suc n = omega arith in
       subst (λ (zs : List ℕ). 1 ≤ times zs x) (below-below s 1 n (root ∷ []) ∙ ap (λ (k : ℕ). below s k (root ∷ [])) e) m
 
-module _ {L S : Type 0} (measure : Measure L S) (s : Forest L (Headed S)) (root : ℕ) (extra : Option ℕ) {short : Option ℕ} (t : IsShape s root extra short) where
+module _ {L S : Type 0} (measure : Measure L S) (s : Forest L (Headed S)) (root : ℕ) (extra : Option ℕ) {short : Option ℕ}
+    (t : IsShape s root extra short) where
   -- the children of a block are together no longer than all leaves of the tree, where the sums are right below it
   pub kids_fit : (b : ℕ) → IsSome (block_value s b) → ((y : ℕ) → height_of s b ≤ height_of s y → extra ≢ Some y)
       → ((k : ℕ) → IsSome (block_value s k) → height_of s k < height_of s b → length_of measure s k ≡ total (length_of measure s) (kids_of s k))
@@ -126,7 +128,8 @@ module _ {L S : Type 0} where
       some_leaf None h = absurd (omega arith)
       some_leaf (Some w) h = (w, refl)
 
-module _ {L S : Type 0} (s : Forest L (Headed S)) (root at new step : ℕ) (ed : List ℕ → List ℕ) (E : IsEdit step ed at new) (g : IsGrowing s root at new ed) where
+module _ {L S : Type 0} (s : Forest L (Headed S)) (root at new step : ℕ) (ed : List ℕ → List ℕ) (E : IsEdit step ed at new)
+    (g : IsGrowing s root at new ed) where
   module _ (p : ℕ) (up : parent_of s at ≡ Some p) where
     pub gr_high : height_of s p ≡ height_of s at + 1
     gr_high = g.shape.heights at p up

@@ -205,7 +205,8 @@ module _ {L S : Type 0} (s s' : Forest L (Headed S)) (root at new p : ℕ) (step
     ]
 
     -- who was the parent of a child of now
-    sp_old_parent : (b x : ℕ) → x ≢ new → parent_of s' x ≡ Some b → ((parent_of s x ≡ Some p) × (height_of s' b ≡ height_of s p)) ⊎ ((parent_of s x ≡ Some b) × (b ≢ p) × (b ≢ q))
+    sp_old_parent : (b x : ℕ) → x ≢ new → parent_of s' x ≡ Some b
+        → ((parent_of s x ≡ Some p) × (height_of s' b ≡ height_of s p)) ⊎ ((parent_of s x ≡ Some b) × (b ≢ p) × (b ≢ q))
     sp_old_parent b x d e =
         let m : 1 ≤ times (kids_of s' b) x = omega (arith, r.forest.child_once b x, points_at (parent_of s' x) b e) in
         let old : times (ed (kids_of s p)) x ≡ times (kids_of s p) x = E.others (kids_of s p) x d in
@@ -400,13 +401,15 @@ module _ {L S : Type 0} (s s' : Forest L (Headed S)) (root at new p : ℕ) (step
 
 module _ {L S : Type 0} where
   -- a node without a parent that is not the one beside the tree is its root
-  pub top_is_root : (s : Forest L (Headed S)) (root at new : ℕ) → IsShape s root (Some new) None → IsSome (entry s at) → at ≢ new → parent_of s at ≡ None → at ≡ root
+  pub top_is_root : (s : Forest L (Headed S)) (root at new : ℕ) → IsShape s root (Some new) None → IsSome (entry s at) → at ≢ new
+      → parent_of s at ≡ None → at ≡ root
   top_is_root s root at new shape live apart top = elim (cases_eq at root) [
     | inl e ↦ e
     | inr d ↦ let b = some_of (parent_of s at) (shape.one_top at live d (λ e. apart (cc e))) in cc (b.1, top)
   ]
 
-module _ {L S : Type 0} (s s' : Forest L (Headed S)) (root new t : ℕ) (g : IsGrowing s root root new (λ xs. insert_after xs root new)) (r : RootsOver s s' root new t) where
+module _ {L S : Type 0} (s s' : Forest L (Headed S)) (root new t : ℕ) (g : IsGrowing s root root new (λ xs. insert_after xs root new))
+    (r : RootsOver s s' root new t) where
   rt_not : (x : ℕ) → IsSome (entry s x) → x ≢ t
   rt_not x h = dead_apart (entry s) x t h r.fresh
 

@@ -305,7 +305,8 @@ module _ {L S : Type 0} (s : Forest L (Headed S)) (root at : ℕ) (v w : L) (t :
   changed_tree = record { shape = changed_shape; leaves = changed_leaves }
 
   -- once the tree is right again, only that leaf has changed
-  pub changed_leaf : (f : L → L) → w ≡ f v → (new : Forest L (Headed S)) → new.leaves ≡ ch_s.leaves → ((x : ℕ) → leaf_value new x ≡ leaf_value ch_s x) → ChangesLeaf f s new at
+  pub changed_leaf : (f : L → L) → w ≡ f v → (new : Forest L (Headed S)) → new.leaves ≡ ch_s.leaves
+      → ((x : ℕ) → leaf_value new x ≡ leaf_value ch_s x) → ChangesLeaf f s new at
   changed_leaf f is new l vs =
       record {
         leaves = l;
@@ -374,7 +375,8 @@ module _ {L S : Type 0} (s s' : Forest L (Headed S)) (root at id : ℕ) (v w res
   cut_apart : at ≢ id
   cut_apart = dead_apart (entry (with_leaf s at w)) at id (leaf_live (entry (with_leaf s at w) at) cut_leaf) fresh
 
-  pub cut_splits : (front rear : L → L) → w ≡ front v → rest ≡ rear v → (new : Forest L (Headed S)) → new.leaves ≡ s'.leaves → ((x : ℕ) → leaf_value new x ≡ leaf_value s' x)
+  pub cut_splits : (front rear : L → L) → w ≡ front v → rest ≡ rear v → (new : Forest L (Headed S)) → new.leaves ≡ s'.leaves
+      → ((x : ℕ) → leaf_value new x ≡ leaf_value s' x)
       → SplitsLeaf front rear s new at id
   cut_splits front rear is_front is_rear new l vs =
       record {

@@ -97,7 +97,8 @@ module _ {L S : Type 0} where
       of_node (Block ks v) = refl
 
   -- the values of a node say its kind and its length
-  pub kind_from_values : (o u : Option (Entry L (Headed S))) → leaf_of_entry u ≡ leaf_of_entry o → block_of_entry u ≡ block_of_entry o → kind_of_entry u ≡ kind_of_entry o
+  pub kind_from_values : (o u : Option (Entry L (Headed S))) → leaf_of_entry u ≡ leaf_of_entry o → block_of_entry u ≡ block_of_entry o
+      → kind_of_entry u ≡ kind_of_entry o
   kind_from_values o u l b = kind_is_by u ∙ ap (λ z. kind_by z (block_of_entry u)) l ∙ ap (kind_by (leaf_of_entry o)) b ∙ sym (kind_is_by o)
 
   pub length_from_values : (measure : Measure L S) (o u : Option (Entry L (Headed S))) → leaf_of_entry u ≡ leaf_of_entry o → block_of_entry u ≡ block_of_entry o

@@ -16,7 +16,8 @@ module _ {L S : Type 0} where
       below-below s i j (flat_map (kids_of s) xs) ∙ ap (λ n. below s n xs) (sym e)
 
   -- the levels stay where no block above them changes its children
-  pub below_same : (s s' : Forest L (Headed S)) (n k : ℕ) (xs : List ℕ) → ((b x : ℕ) → 1 ≤ times (kids_of s b) x → height_of s b ≡ height_of s x + 1) → AllHigh s k xs
+  pub below_same : (s s' : Forest L (Headed S)) (n k : ℕ) (xs : List ℕ)
+      → ((b x : ℕ) → 1 ≤ times (kids_of s b) x → height_of s b ≡ height_of s x + 1) → AllHigh s k xs
       → n ≤ k → ((x : ℕ) → height_of s x ≤ k → k < height_of s x + n → kids_of s' x ≡ kids_of s x) → below s' n xs ≡ below s n xs
   below_same s s' zero k xs hs a l h = refl
   below_same s s' (suc n) k xs hs a l h =
@@ -24,7 +25,8 @@ module _ {L S : Type 0} where
       ap (below s' n) e ∙ below_same s s' n (k - 1) (flat_map (kids_of s) xs) hs (λ x m. let r = flat_map_member (kids_of s) xs x m in
       omega (arith, a r.0 r.1, hs r.0 x r.2)) (omega arith) (λ x low high. h x (omega arith) (omega arith))
 
-  pub below_high : (s : Forest L (Headed S)) (n k : ℕ) (xs : List ℕ) → ((b x : ℕ) → 1 ≤ times (kids_of s b) x → height_of s b ≡ height_of s x + 1) → AllHigh s k xs
+  pub below_high : (s : Forest L (Headed S)) (n k : ℕ) (xs : List ℕ)
+      → ((b x : ℕ) → 1 ≤ times (kids_of s b) x → height_of s b ≡ height_of s x + 1) → AllHigh s k xs
       → AllHigh s (k - n) (below s n xs)
   below_high s zero k xs hs a = λ x m. omega (arith, a x m)
   below_high s (suc n) k xs hs a =

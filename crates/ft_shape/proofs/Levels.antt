@@ -96,7 +96,8 @@ module _ {L S : Type 0} (s : Forest L (Headed S)) (root : ℕ) (extra : Option �
 abbrev pub SumsUpTo : {L S : Type 0} → Measure L S → Forest L (Headed S) → ℕ → Type 0
 SumsUpTo measure s j = (b : ℕ) → IsSome (block_value s b) → height_of s b ≤ j → length_of measure s b ≡ total (length_of measure s) (kids_of s b)
 
-module _ {L S : Type 0} (measure : Measure L S) (s : Forest L (Headed S)) (root : ℕ) (extra : Option ℕ) {short : Option ℕ} (t : IsShape s root extra short) where
+module _ {L S : Type 0} (measure : Measure L S) (s : Forest L (Headed S)) (root : ℕ) (extra : Option ℕ) {short : Option ℕ}
+    (t : IsShape s root extra short) where
   pub total_kids_up_to : (j : ℕ) (xs : List ℕ) → SumsUpTo measure s (suc j) → AllHigh s (suc j) xs
       → total (length_of measure s) (flat_map (kids_of s) xs) ≡ total (length_of measure s) xs
   total_kids_up_to j [] sums h = refl
@@ -110,7 +111,8 @@ module _ {L S : Type 0} (measure : Measure L S) (s : Forest L (Headed S)) (root 
       )
 
   -- the kept lengths of a level are those of its leaves together
-  pub total_below_up_to : (j : ℕ) (xs : List ℕ) → SumsUpTo measure s j → AllHigh s j xs → total (length_of measure s) (below s j xs) ≡ total (length_of measure s) xs
+  pub total_below_up_to : (j : ℕ) (xs : List ℕ) → SumsUpTo measure s j → AllHigh s j xs
+      → total (length_of measure s) (below s j xs) ≡ total (length_of measure s) xs
   total_below_up_to zero xs sums h = refl
   total_below_up_to (suc j) xs sums h =
       total_below_up_to j (flat_map (kids_of s) xs) (λ b i l. sums b i (omega arith)) (kids_high s root extra t j xs h) ∙ total_kids_up_to j xs sums h
@@ -120,7 +122,8 @@ pub record IsDescent {L S : Type 0} (measure : Measure L S) (s : Forest L (Heade
   pub high : height_of s at ≡ height_of s child + 1
   pub low : 1 ≤ further
   pub within : further ≤ length_of measure s child
-  pub same : seek (length_of measure s) (below s (height_of s at) (at ∷ [])) rest ≡ seek (length_of measure s) (below s (height_of s child) (child ∷ [])) further
+  pub same : seek (length_of measure s) (below s (height_of s at) (at ∷ [])) rest
+      ≡ seek (length_of measure s) (below s (height_of s child) (child ∷ [])) further
 
 module _ {L S : Type 0} (measure : Measure L S) (s : Forest L (Headed S)) (root : ℕ) (t : IsTree s root) (sums : SumsBut measure s None) where
   all_sums : (b : ℕ) → IsSome (block_value s b) → length_of measure s b ≡ total (length_of measure s) (kids_of s b)
@@ -150,7 +153,8 @@ module _ {L S : Type 0} (measure : Measure L S) (s : Forest L (Headed S)) (root 
             ∙ ap (λ (z : ℕ). seek f (below s j (z ∷ [])) p) parts.0 ∙ ap (seek f (below s j (x ∷ []))) parts.1
       ]
 
-  pub descends : (at child rest further : ℕ) → 1 ≤ rest → seek (length_of measure s) (kids_of s at) rest ≡ Some (child, further) → IsDescent measure s at child rest further
+  pub descends : (at child rest further : ℕ) → 1 ≤ rest → seek (length_of measure s) (kids_of s at) rest ≡ Some (child, further)
+      → IsDescent measure s at child rest further
   descends at child rest further l found =
       let f : ℕ → ℕ = length_of measure s in
       let m = seek_found f (kids_of s at) rest child further l found in

@@ -99,7 +99,8 @@ module _ {L S : Type 0} (s : Forest L (Headed S)) (up front rear : ℕ) (forest 
         omega (arith, total-append (length_of measure s') (kids_of s front) (kids_of s rear), f, r, sums front P.front_block (λ e. cc), sums rear P.rear_block (λ e. cc))
 
     -- those left of the block's children, in which the front one has a new length
-    pr_left : total (length_of measure s') (without (kids_of s up) rear) + length_of measure s front ≡ total (length_of measure s) (without (kids_of s up) rear) +
+    pr_left : total (length_of measure s') (without (kids_of s up) rear) + length_of measure s front
+        ≡ total (length_of measure s) (without (kids_of s up) rear) +
         length_of measure s' front
     pr_left = total_change (length_of measure s) (length_of measure s') (without (kids_of s up) rear) front pr_rest_front
         (λ x m d. others x (pr_live up x (omega (arith, m, times-without_le (kids_of s up) rear x))) d (pr_rest x m))
@@ -138,7 +139,8 @@ module _ {L S : Type 0} (s : Forest L (Headed S)) (up front rear : ℕ) (forest 
     rg_up = r.other_kids up pr_up_front pr_up_rear
 
     -- the child that is taken out at the rear one's place is the rear one
-    pub mg_takes : (place : ℕ) → slice_get (kids_of s up) (place + 1) ≡ Some rear → (s2 : Forest L (Headed S)) (k : ℕ) → slice_get (kids_of s1 up) (place + 1) ≡ Some k
+    pub mg_takes : (place : ℕ) → slice_get (kids_of s up) (place + 1) ≡ Some rear → (s2 : Forest L (Headed S)) (k : ℕ)
+        → slice_get (kids_of s1 up) (place + 1) ≡ Some k
         → TakesChild s1 s2 up (place + 1) k → TakesChild s1 s2 up (place + 1) rear
     mg_takes place e s2 k h t =
         let q : Some k ≡ Some rear = sym h ∙ ap (λ ks. slice_get ks (place + 1)) rg_up ∙ e in
@@ -151,7 +153,8 @@ module _ {L S : Type 0} (s : Forest L (Headed S)) (up front rear : ℕ) (forest 
     pub mg_drop_block : (s2 : Forest L (Headed S)) (place : ℕ) → TakesChild s1 s2 up (place + 1) rear → IsSome (block_value s2 rear)
     mg_drop_block s2 place t = subst (λ (o : Option (Headed S)). IsSome o) (sym (t.block_values rear ∙ r.block_values rear)) P.rear_block
 
-    pub mg_drop_empty : (s2 : Forest L (Headed S)) (place : ℕ) → TakesChild s1 s2 up (place + 1) rear → want ≡ length (kids_of s front) + length (kids_of s rear)
+    pub mg_drop_empty : (s2 : Forest L (Headed S)) (place : ℕ) → TakesChild s1 s2 up (place + 1) rear
+        → want ≡ length (kids_of s front) + length (kids_of s rear)
         → kids_of s2 rear ≡ []
     mg_drop_empty s2 place t all =
         t.other_kids rear (λ e. pr_up_rear (sym e))
@@ -169,7 +172,8 @@ module _ {L S : Type 0} (s : Forest L (Headed S)) (up front rear : ℕ) (forest 
       rg_length : (x : ℕ) → length_of measure s1 x ≡ length_of measure s x
       rg_length x = length_from_values measure (entry s x) (entry s1 x) (r.leaf_values x) (r.block_values x)
 
-      pub rg_total : total (length_of measure s1) (kids_of s1 front) + total (length_of measure s1) (kids_of s1 rear) ≡ length_of measure s front + length_of measure s rear
+      pub rg_total : total (length_of measure s1) (kids_of s1 front) + total (length_of measure s1) (kids_of s1 rear)
+          ≡ length_of measure s front + length_of measure s rear
       rg_total = omega (
         arith,
         total-append (length_of measure s1) (kids_of s1 front) (kids_of s1 rear),
@@ -386,7 +390,8 @@ module _ {L S : Type 0} (s : Forest L (Headed S)) (up front rear : ℕ) (forest 
   pub md_apart : times (kids_of s3 front) front ≡ 0
   md_apart = ap (λ ks. times ks front) md_front ∙ rg_front_front s up front rear forest P s1 want r
 
-  pub md_total : (measure : Measure L S) → SumsBut measure s None → total (length_of measure s3) (kids_of s3 front) ≤ length_of measure s front + length_of measure s rear
+  pub md_total : (measure : Measure L S) → SumsBut measure s None
+      → total (length_of measure s3) (kids_of s3 front) ≤ length_of measure s front + length_of measure s rear
   md_total measure sums =
       let same_length : (x : ℕ) → x ≢ rear → length_of measure s3 x ≡ length_of measure s1 x =
       λ x d. ap (length_of_entry measure) (c.others x d) ∙ length_from_values measure (entry s1 x) (entry s2 x) (t.leaf_values x) (t.block_values x) in
@@ -415,7 +420,8 @@ last_moved (x ∷ y ∷ xs) ys zero k e h = absurd (omega (arith, e))
 last_moved (x ∷ xs) ys (suc i) k e h = ap (λ zs. x ∷ zs) (last_moved xs ys i k (omega (arith, e)) h)
 
 -- a child that is taken out is live, and is another than who is no child
-pub taken_live : {L S : Type 0} (s s1 : Forest L (Headed S)) (b place k : ℕ) → IsForest s → slice_get (kids_of s b) place ≡ Some k → TakesChild s s1 b place k → IsSome (entry s1 k)
+pub taken_live : {L S : Type 0} (s s1 : Forest L (Headed S)) (b place k : ℕ) → IsForest s → slice_get (kids_of s b) place ≡ Some k
+    → TakesChild s s1 b place k → IsSome (entry s1 k)
 taken_live s s1 b place k f h t =
     let m = times_at (kids_of s b) place k h in
     let up : parent_of s k ≡ Some b = points_some (parent_of s k) b (omega (arith, m, f.child_once b k)) in

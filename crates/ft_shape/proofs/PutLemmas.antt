@@ -6,7 +6,8 @@ use Rattle.ft_shape.specs.Steps.{PutsAt}
 use Rattle.ft_arena.specs.Forest.{PutsChild}
 
 module _ {L S : Type 0} where
-  pub PutsAt-from : (old mid : Forest L (Headed S)) (block i id : ℕ) → mid.leaves ≡ old.leaves → PutsChild old mid block i id → IsForest mid → PutsAt old mid block i id
+  pub PutsAt-from : (old mid : Forest L (Headed S)) (block i id : ℕ) → mid.leaves ≡ old.leaves → PutsChild old mid block i id
+      → IsForest mid → PutsAt old mid block i id
   PutsAt-from old mid block i id l p f =
       record {
         leaves = l;

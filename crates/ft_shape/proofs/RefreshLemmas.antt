@@ -24,7 +24,8 @@ module _ {L S : Type 0} where
   by_node_leaf (Leaf x) v w e = cc
   by_node_leaf (Block ks x) v w e = refl
 
-  by_node_kind : (n : Node L (Headed S)) (v w : (Headed S)) → w.height ≡ v.height → block_of_node n ≡ Some v → kind_of_node {L = L} (Block (kids_of_node n) w) ≡ kind_of_node n
+  by_node_kind : (n : Node L (Headed S)) (v w : (Headed S)) → w.height ≡ v.height → block_of_node n ≡ Some v
+      → kind_of_node {L = L} (Block (kids_of_node n) w) ≡ kind_of_node n
   by_node_kind (Leaf x) v w h e = cc
   by_node_kind (Block ks x) v w h e = let q : x ≡ v = cc in ap Some (h ∙ ap (λ z. z.height) (sym q))
 
@@ -40,7 +41,8 @@ module _ {L S : Type 0} where
   written_parent None w = refl
   written_parent (Some x) w = refl
 
-  written_kind : (o : Option (Entry L (Headed S))) (v w : (Headed S)) → w.height ≡ v.height → block_of_entry o ≡ Some v → kind_of_entry (with_block_entry o w) ≡ kind_of_entry o
+  written_kind : (o : Option (Entry L (Headed S))) (v w : (Headed S)) → w.height ≡ v.height → block_of_entry o ≡ Some v
+      → kind_of_entry (with_block_entry o w) ≡ kind_of_entry o
   written_kind None v w h e = refl
   written_kind (Some x) v w h e = ap Some (by_node_kind x.node v w h e)
 
@@ -67,7 +69,8 @@ module _ {L S : Type 0} where
     | inr g ↦ absurd (let q : block_of_entry (entry s b) ≡ None = ap block_of_entry (get_or_past s.nodes b None g) in cc (q, e))
   ]
 
-  pub written_changes : (s : Forest L (Headed S)) (b : ℕ) (v w : (Headed S)) → block_value s b ≡ Some v → Changes s (with_block s b w) b (with_block_entry (entry s b) w)
+  pub written_changes : (s : Forest L (Headed S)) (b : ℕ) (v w : (Headed S)) → block_value s b ≡ Some v
+      → Changes s (with_block s b w) b (with_block_entry (entry s b) w)
   written_changes s b v w e =
       record {
         changed = get_or-set_same s.nodes b (with_block_entry (entry s b) w) None (block_within s b v e);
@@ -75,7 +78,8 @@ module _ {L S : Type 0} where
       }
 
   -- a block of the same height keeps everything but its value
-  pub refreshed_shape : (s : Forest L (Headed S)) (b : ℕ) (v w : (Headed S)) → block_value s b ≡ Some v → w.height ≡ v.height → IsForest s → SameShape s (with_block s b w)
+  pub refreshed_shape : (s : Forest L (Headed S)) (b : ℕ) (v w : (Headed S)) → block_value s b ≡ Some v → w.height ≡ v.height → IsForest s
+      → SameShape s (with_block s b w)
   refreshed_shape s b v w e h f =
       let new : Forest L (Headed S) = with_block s b w in
       let c : Changes s new b (with_block_entry (entry s b) w) = written_changes s b v w e in
@@ -107,7 +111,8 @@ module _ {L S : Type 0} where
       }
 
 -- the shape stays, and so do the leaves by levels
-pub SameShape-shape : {L S : Type 0} (s s' : Forest L (Headed S)) (root : ℕ) (extra short : Option ℕ) → IsShape s root extra short → SameShape s s' → IsShape s' root extra short
+pub SameShape-shape : {L S : Type 0} (s s' : Forest L (Headed S)) (root : ℕ) (extra short : Option ℕ) → IsShape s root extra short
+    → SameShape s s' → IsShape s' root extra short
 SameShape-shape s s' root extra short g r =
     let h : (x : ℕ) → height_of s' x ≡ height_of s x = λ x. kind_height (entry s x) (entry s' x) (r.kinds x) in
     let live : (x : ℕ) → IsSome (entry s' x) → IsSome (entry s x) = λ x. kind_live (entry s' x) (entry s x) (sym (r.kinds x)) in
@@ -134,7 +139,8 @@ pub SameShape-parents : {L S : Type 0} (s s' : Forest L (Headed S)) → IsForest
 SameShape-parents s s' f r x = points_same (parent_of s' x) (parent_of s x) (λ k. sym (r.forest.child_once k x) ∙ ap (λ ks. times ks x) (r.kids k) ∙ f.child_once k x)
 
 -- once a block is right, only the block above it may have a wrong sum
-pub SameShape-sums : {L S : Type 0} (measure : Measure L S) (s s' : Forest L (Headed S)) (b : ℕ) → SameShape s s' → Resums measure s s' b → SumsBut measure s (Some b)
+pub SameShape-sums : {L S : Type 0} (measure : Measure L S) (s s' : Forest L (Headed S)) (b : ℕ) → SameShape s s' → Resums measure s s' b
+    → SumsBut measure s (Some b)
     → SumsBut measure s' (parent_of s' b)
 SameShape-sums measure s s' b r u sums k h stale = elim (cases_eq k b) [
   | inl e ↦ subst (λ (z : ℕ). length_of measure s' z ≡ total (length_of measure s') (kids_of s' z)) (sym e) u.sum
@@ -146,7 +152,8 @@ SameShape-sums measure s s' b r u sums k h stale = elim (cases_eq k b) [
 ]
 
 -- and that one owes as much
-pub SameShape-owes : {L S : Type 0} (measure : Measure L S) (s s' : Forest L (Headed S)) (b more less : ℕ) → SameShape s s' → Resums measure s s' b → SumsBut measure s (Some b)
+pub SameShape-owes : {L S : Type 0} (measure : Measure L S) (s s' : Forest L (Headed S)) (b more less : ℕ) → SameShape s s'
+    → Resums measure s s' b → SumsBut measure s (Some b)
     → times (kids_of s b) b ≡ 0 → OwesAt measure s (Some b) more less → OwesAt measure s' (parent_of s' b) more less
 SameShape-owes measure s s' b more less r u sums apart owes p up =
     let one : times (kids_of s' p) b ≡ 1 = r.forest.child_once p b ∙ points_at (parent_of s' b) p up in
@@ -177,7 +184,8 @@ SameShape-tree s s' root t r =
     }
 
 -- so does a tree of some of the leaves
-pub SameShape-part : {L S : Type 0} (s s' : Forest L (Headed S)) (root : ℕ) (extra short : Option ℕ) → IsPartTree s root extra short → SameShape s s' → IsPartTree s' root extra short
+pub SameShape-part : {L S : Type 0} (s s' : Forest L (Headed S)) (root : ℕ) (extra short : Option ℕ) → IsPartTree s root extra short
+    → SameShape s s' → IsPartTree s' root extra short
 SameShape-part s s' root extra short t r =
     let h : (x : ℕ) → height_of s' x ≡ height_of s x = λ x. kind_height (entry s x) (entry s' x) (r.kinds x) in
     let e : below s' (height_of s' root) (root ∷ []) ≡ below s (height_of s root) (root ∷ []) =

@@ -51,7 +51,8 @@ module _ {L S : Type 0} where
   pub live_from_values : (o u : Option (Entry L (Headed S))) → leaf_of_entry u ≡ leaf_of_entry o → block_of_entry u ≡ block_of_entry o → IsSome o → IsSome u
   live_from_values o u l b h = kind_live o u (kind_from_values o u l b) h
 
-  pub PutsInHalf-left : (old new : Forest L (Headed S)) (block rear place id : ℕ) → new.leaves ≡ old.leaves → new.spare ≡ old.spare → PutsChild old new block place id
+  pub PutsInHalf-left : (old new : Forest L (Headed S)) (block rear place id : ℕ) → new.leaves ≡ old.leaves → new.spare ≡ old.spare
+      → PutsChild old new block place id
       → IsForest new → length (kids_of old block) ≡ 4 → length (kids_of old rear) ≡ 4 → block ≢ rear → place ≤ 4 → PutsInHalf old new block rear place id
   PutsInHalf-left old new block rear place id l sp p f front back apart low =
       let kr = p.other_kids rear (λ e. apart (sym e)) in
@@ -68,8 +69,10 @@ module _ {L S : Type 0} where
         other_kids = λ x d _. p.other_kids x d;
       }
 
-  pub PutsInHalf-right : (old new : Forest L (Headed S)) (block rear place id : ℕ) → new.leaves ≡ old.leaves → new.spare ≡ old.spare → PutsChild old new rear (place - 4) id
-      → IsForest new → length (kids_of old block) ≡ 4 → length (kids_of old rear) ≡ 4 → block ≢ rear → 4 < place → place ≤ 8 → PutsInHalf old new block rear place id
+  pub PutsInHalf-right : (old new : Forest L (Headed S)) (block rear place id : ℕ) → new.leaves ≡ old.leaves → new.spare ≡ old.spare
+      → PutsChild old new rear (place - 4) id
+      → IsForest new → length (kids_of old block) ≡ 4 → length (kids_of old rear) ≡ 4 → block ≢ rear → 4 < place → place ≤ 8
+      → PutsInHalf old new block rear place id
   PutsInHalf-right old new block rear place id l sp p f front back apart low high =
       let kb = p.other_kids block apart in
       record {

@@ -30,7 +30,8 @@ apart_part s root id short a =
     }
 
 -- it stays one where leaves, children and heights stay
-pub SameShape-apart : {L S : Type 0} (s s' : Forest L (Headed S)) (root id : ℕ) (short : Option ℕ) → IsApart s root id short → SameShape s s' → IsApart s' root id short
+pub SameShape-apart : {L S : Type 0} (s s' : Forest L (Headed S)) (root id : ℕ) (short : Option ℕ) → IsApart s root id short
+    → SameShape s s' → IsApart s' root id short
 SameShape-apart {L} s s' root id short a r =
     let h : height_of s' root ≡ height_of s root = kind_height (entry s root) (entry s' root) (r.kinds root) in
     let shape = SameShape-shape s s' root (Some id) short a.shape r in
@@ -43,7 +44,8 @@ SameShape-apart {L} s s' root id short a r =
     }
 
 -- the child taken out at a leaf's place is the leaf
-pub took_id : {L S : Type 0} (s0 s1 : Forest L (Headed S)) (p place id k : ℕ) → slice_get (kids_of s0 p) place ≡ Some id → slice_get (kids_of s0 p) place ≡ Some k
+pub took_id : {L S : Type 0} (s0 s1 : Forest L (Headed S)) (p place id k : ℕ) → slice_get (kids_of s0 p) place ≡ Some id
+    → slice_get (kids_of s0 p) place ≡ Some k
     → TakesChild s0 s1 p place k → TakesChild s0 s1 p place id
 took_id s0 s1 p place id k e h t =
     let q : Some k ≡ Some id = sym h ∙ e in

@@ -51,7 +51,8 @@ module _ {L S : Type 0} (R : S → List (Option L × Option S) → Type 0) (s s'
       (λ x m. told_from_values s s' x (r.leaf_values x) (r.block_values x)) (λ w q. keeps b w q stale)
 
   -- where a block was split, only the block above it
-  pub split_keeps : (p place new q : ℕ) → SplitsAt s s' p place new q → RetellsBoth R s s' p q → parent_of s' q ≡ None → KeepsBut R s (Some p) → KeepsBut R s' (parent_of s' p)
+  pub split_keeps : (p place new q : ℕ) → SplitsAt s s' p place new q → RetellsBoth R s s' p q → parent_of s' q ≡ None
+      → KeepsBut R s (Some p) → KeepsBut R s' (parent_of s' p)
   split_keeps p place new q r u alone keeps b v e stale = elim (cases_eq b p) [
     | inl c ↦ subst (λ (z : ℕ). R v.sum (map (told s') (kids_of s' z))) (sym c) (u.front_right v (ap (block_value s') (sym c) ∙ e))
     | inr n ↦ elim (cases_eq b q) [
@@ -100,7 +101,8 @@ module _ {L S : Type 0} (R : S → List (Option L × Option S) → Type 0) (s : 
   written_others x d = ap (λ (o : Option (Entry L (Headed S))). (leaf_of_entry o, sum_of (block_of_entry o))) ((written_changes s b v w is).others x d)
 
   -- and where that is right for its children, the block is right
-  pub written_tells : times (kids_of s b) b ≡ 0 → kids_of (with_block s b w) b ≡ kids_of s b → R w.sum (map (told s) (kids_of s b)) → Retells R s (with_block s b w) b
+  pub written_tells : times (kids_of s b) b ≡ 0 → kids_of (with_block s b w) b ≡ kids_of s b → R w.sum (map (told s) (kids_of s b))
+      → Retells R s (with_block s b w) b
   written_tells apart kids right =
       record {
         others = written_others;
@@ -124,7 +126,8 @@ module _ {L S : Type 0} (R : S → List (Option L × Option S) → Type 0) (s s3
       }
 
 -- a leaf that is linked, but in no block yet, leaves right what is
-pub linked_keeps : {L S : Type 0} (R : S → List (Option L × Option S) → Type 0) (s s' : Forest L (Headed S)) (id : ℕ) (leaf : L) → IsForest s → entry s id ≡ None
+pub linked_keeps : {L S : Type 0} (R : S → List (Option L × Option S) → Type 0) (s s' : Forest L (Headed S)) (id : ℕ) (leaf : L)
+    → IsForest s → entry s id ≡ None
     → Changes s s' id (Some record { node = Leaf leaf; parent = None }) → KeepsBut R s None → (stale : Option ℕ) → KeepsBut R s' stale
 linked_keeps {L} {S} R s s' id leaf forest fresh c keeps stale b v e apart =
     let far : b ≢ id = (λ q. let n : None ≡ Some v = sym (ap block_of_entry c.changed) ∙ sym (ap (block_value s') q) ∙ e in cc n) in
@@ -134,7 +137,8 @@ linked_keeps {L} {S} R s s' id leaf forest fresh c keeps stale b v e apart =
 
 module _ {L S : Type 0} (R : S → List (Option L × Option S) → Type 0) (s s' : Forest L (Headed S)) where
   -- where two neighbours share their children anew and both were made right, only the block above them
-  pub pair_keeps : (up front rear : ℕ) → IsForest s → IsPair s up front rear → Shares s s' up front rear → RetellsBoth R s s' front rear → KeepsButBoth R s front rear
+  pub pair_keeps : (up front rear : ℕ) → IsForest s → IsPair s up front rear → Shares s s' up front rear → RetellsBoth R s s' front rear
+      → KeepsButBoth R s front rear
       → KeepsBut R s' (Some up)
   pair_keeps up front rear forest pair r u keeps b v e stale = elim (cases_eq b front) [
     | inl c ↦ subst (λ (z : ℕ). R v.sum (map (told s') (kids_of s' z))) (sym c) (u.front_right v (ap (block_value s') (sym c) ∙ e))
@@ -194,7 +198,8 @@ module _ {L S : Type 0} (R : S → List (Option L × Option S) → Type 0) (s s3
         front_right = u4.right;
         rear_right = λ v e.
             let t : told s4 rear ≡ told s3 rear = u4.others rear (λ q. differ (sym q)) in
-            let n : None ≡ Some v.sum = sym (ap (λ (o : Option (Entry L (Headed S))). sum_of (block_of_entry o)) gone) ∙ sym (ap (λ (z : Option L × Option S). z.1) t) ∙ ap sum_of e in
+            let n : None ≡ Some v.sum = sym (ap (λ (o : Option (Entry L (Headed S))). sum_of (block_of_entry o)) gone)
+            ∙ sym (ap (λ (z : Option L × Option S). z.1) t) ∙ ap sum_of e in
             absurd (cc n);
       }
 
@@ -203,6 +208,7 @@ pub bare_keeps : {L S : Type 0} (R : S → List (Option L × Option S) → Type 
 bare_keeps R s bare but b v e stale = absurd (let n : None ≡ Some v = sym (ap block_of_entry (bare.nodes b)) ∙ e in cc n)
 
 -- room that was made for nodes leaves right what is
-pub room_keeps : {L S : Type 0} (R : S → List (Option L × Option S) → Type 0) (s0 s1 : Forest L (Headed S)) → s1 ≡ record s0 { spare = s1.spare } → KeepsBut R s0 None
+pub room_keeps : {L S : Type 0} (R : S → List (Option L × Option S) → Type 0) (s0 s1 : Forest L (Headed S))
+    → s1 ≡ record s0 { spare = s1.spare } → KeepsBut R s0 None
     → KeepsBut R s1 None
 room_keeps {L} {S} R s0 s1 room keeps = subst (λ (z : Forest L (Headed S)). KeepsBut R z None) (sym room) (λ b v e stale. keeps b v e stale)

@@ -73,7 +73,8 @@ remove_is_without (y ∷ ys) (suc i) x e h =
     ap (λ zs. y ∷ zs) (remove_is_without ys i x e (omega (arith, h, same_other y x d))) ∙ sym (without_later y ys x d)
 
 -- two neighbours, of which the second is taken out and put back
-pub neighbours : (xs : List ℕ) (i f r : ℕ) → slice_get xs i ≡ Some f → slice_get xs (i + 1) ≡ Some r → times xs f ≡ 1 → times xs r ≡ 1 → insert_after (without xs r) f r ≡ xs
+pub neighbours : (xs : List ℕ) (i f r : ℕ) → slice_get xs i ≡ Some f → slice_get xs (i + 1) ≡ Some r → times xs f ≡ 1 → times xs r ≡ 1
+    → insert_after (without xs r) f r ≡ xs
 neighbours [] i f r ef er hf hr = cc
 neighbours (y ∷ []) zero f r ef er hf hr = cc
 neighbours (y ∷ z ∷ zs) zero f r ef er hf hr =
@@ -110,7 +111,8 @@ shared f g (x ∷ xs) p q e h =
     ]
 
 -- the same two levels further down
-pub two_levels : (f g : ℕ → List ℕ) (xs : List ℕ) → ((x : ℕ) → 1 ≤ times xs x → flat_map g (g x) ≡ flat_map f (f x)) → flat_map g (flat_map g xs) ≡ flat_map f (flat_map f xs)
+pub two_levels : (f g : ℕ → List ℕ) (xs : List ℕ) → ((x : ℕ) → 1 ≤ times xs x → flat_map g (g x) ≡ flat_map f (f x))
+    → flat_map g (flat_map g xs) ≡ flat_map f (flat_map f xs)
 two_levels f g [] h = refl
 two_levels f g (x ∷ xs) h =
     flat_map-append g (g x) (flat_map g xs) ∙ ap (λ zs. zs ++ flat_map g (flat_map g xs)) (h x (omega (arith, same_refl x)))
