@@ -66,7 +66,8 @@ module _ {L : Type 0} (s s1 s2 : Forest L (Headed Summary)) (root id at step : �
   moved_stay = moved_values s s2 root id at step ed E a nodes0 forest leaves at_leaf differ
 
   pub moved_adds : (size : L → ℕ) (element : L → Element) (floor high : ℕ) (exchange : Exchange) (leaf : L)
-      → leaf_value s id ≡ Some leaf → s2.spare ≡ s1.spare → high + 2 ≤ s1.spare → high + 2 < 2 ^ 64 → height_of s root ≤ high → SumsKeptBut size element floor s None → AreFromFloor floor s
+      → leaf_value s id ≡ Some leaf → s2.spare ≡ s1.spare → high + 2 ≤ s1.spare → high + 2 < 2 ^ 64 → height_of s root ≤ high
+      → SumsKeptBut size element floor s None → AreFromFloor floor s
       → total (length_of (by_size size) s) s.leaves < 2 ^ 64 → MakesExchange floor exchange (element leaf) 0 (element leaf) (size leaf)
       → IsToAdd size element floor s2 root at id ed exchange
   moved_adds size element floor high exchange leaf is spare enough tall low sums floors fits makes =

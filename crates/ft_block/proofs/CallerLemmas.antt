@@ -15,7 +15,8 @@ module _ {L : Type 0} where
   times-ids [] id = refl
   times-ids (x ∷ xs) id = ap (λ (n : ℕ). same x.0 id + n) (times-ids xs id)
 
-  place_from_in : (f : L → ℕ) (xs : List (ℕ × L)) (p : ℕ) (found : Found) → place_from f xs p ≡ Some found → (id : ℕ) × (found.leaf ≡ Some id) × (1 ≤ times_leaf xs id)
+  place_from_in : (f : L → ℕ) (xs : List (ℕ × L)) (p : ℕ) (found : Found) → place_from f xs p ≡ Some found
+      → (id : ℕ) × (found.leaf ≡ Some id) × (1 ≤ times_leaf xs id)
   place_from_in f [] p found e = cc
   place_from_in f (x ∷ xs) p found e = elim (cases_lt (f x.1) p) [
     | inl later ↦
@@ -55,7 +56,8 @@ module _ {L : Type 0} where
       let d : x.0 ≢ at = (λ e. omega (arith, h, same_refl at, ap (λ z. same z at) e)) in
       put_later x.0 x.1 xs at new d ∙ ap (λ (zs : List (ℕ × L)). x ∷ zs) (put_none xs at new (omega arith))
 
-  length_by-put_leaf_after : (f : L → ℕ) (xs : List (ℕ × L)) (at : ℕ) (new : ℕ × L) → times_leaf xs at ≡ 1 → length_by f (put_leaf_after xs at new) ≡ length_by f xs + f new.1
+  length_by-put_leaf_after : (f : L → ℕ) (xs : List (ℕ × L)) (at : ℕ) (new : ℕ × L) → times_leaf xs at ≡ 1
+      → length_by f (put_leaf_after xs at new) ≡ length_by f xs + f new.1
   length_by-put_leaf_after f [] at new h = absurd (omega arith)
   length_by-put_leaf_after f (x ∷ xs) at new h = elim (cases_eq x.0 at) [
     | inl e ↦
@@ -76,7 +78,8 @@ module _ {L : Type 0} where
   length-by_one (x ∷ xs) = omega (arith, length-by_one xs)
 
   -- there is one leaf more
-  pub length-put_leaf : (xs : List (ℕ × L)) (at : Option ℕ) (new : ℕ × L) → IsPlaceIn xs at → ((id : ℕ) → times_leaf xs id ≤ 1) → length (put_leaf xs at new) ≡ length xs + 1
+  pub length-put_leaf : (xs : List (ℕ × L)) (at : Option ℕ) (new : ℕ × L) → IsPlaceIn xs at → ((id : ℕ) → times_leaf xs id ≤ 1)
+      → length (put_leaf xs at new) ≡ length xs + 1
   length-put_leaf xs at new h once = omega (arith, length_by-put_leaf (λ v. 1) xs at new h once, length-by_one xs, length-by_one (put_leaf xs at new))
 
   -- the leaf of a place that was found, if there is one, stands there

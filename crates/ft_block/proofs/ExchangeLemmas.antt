@@ -35,7 +35,8 @@ unfolding levels_left
 levels_some s root b = refl
 
 module _ {L : Type 0} where
-  pub block_length : (measure : Measure L Summary) (o : Option (Entry L (Headed Summary))) (v : Headed Summary) → block_of_entry o ≡ Some v → length_of_entry measure o ≡ measure.block v
+  pub block_length : (measure : Measure L Summary) (o : Option (Entry L (Headed Summary))) (v : Headed Summary) → block_of_entry o ≡ Some v
+      → length_of_entry measure o ≡ measure.block v
   block_length measure None v e = cc
   block_length measure (Some x) v e = of_node x.node e
     where

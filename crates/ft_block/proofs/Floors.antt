@@ -48,7 +48,8 @@ module _ {L : Type 0} (s s' : Forest L (Headed Summary)) (root at new p : ℕ) (
   put_floors r floor all x v e = all x v (sym (r.block_values x) ∙ e)
 
 -- room is made
-pub room_floors : {L : Type 0} (s0 s1 : Forest L (Headed Summary)) (room : s1 ≡ record s0 { spare = s1.spare }) (floor : ℕ) → AreFromFloor floor s0 → AreFromFloor floor s1
+pub room_floors : {L : Type 0} (s0 s1 : Forest L (Headed Summary)) (room : s1 ≡ record s0 { spare = s1.spare }) (floor : ℕ)
+    → AreFromFloor floor s0 → AreFromFloor floor s1
 room_floors {L} s0 s1 room floor all = subst (λ (z : Forest L (Headed Summary)). AreFromFloor floor z) (sym room) (λ x v e. all x v e)
 
 -- a leaf is linked

@@ -38,7 +38,8 @@ one_filled : {L : Type 0} (size : L → ℕ) (x : ℕ) (o : Option L) (rest : Li
 one_filled size x None rest k h = h
 one_filled size x (Some v) rest k h = All-cons (λ y. 1 ≤ size y.1) (x, v) rest (k v refl) h
 
-all_filled : {L : Type 0} (size : L → ℕ) (s : Forest L (Headed Summary)) (xs : List ℕ) → ((id : ℕ) (v : L) → leaf_value s id ≡ Some v → 1 ≤ size v) → All (λ x. 1 ≤ size x.1) (pairs_of s xs)
+all_filled : {L : Type 0} (size : L → ℕ) (s : Forest L (Headed Summary)) (xs : List ℕ)
+    → ((id : ℕ) (v : L) → leaf_value s id ≡ Some v → 1 ≤ size v) → All (λ x. 1 ≤ size x.1) (pairs_of s xs)
 all_filled size s [] h = All-nil (λ x. 1 ≤ size x.1)
 all_filled size s (x ∷ xs) h = one_filled size x (leaf_value s x) (pairs_of s xs) (h x) (all_filled size s xs h)
 
@@ -143,7 +144,8 @@ module _ {L Change : Type 0} (size : L → ℕ) (element : L → Element) (a : I
       (λ x m d. i.others x d (λ e. omega (arith, m, none, ap (times a.arena.leaves) e)))
       ∙ ap (λ (ps : List (ℕ × L)). split_leaf front rear ps leaf id) (sym in_leaves)
 
-  pub in_change : (f : L → L) (new : Forest L (Headed Summary)) (leaf : ℕ) → ChangesLeaf f a.arena new leaf → pairs_of new new.leaves ≡ change_leaf f v.leaves leaf
+  pub in_change : (f : L → L) (new : Forest L (Headed Summary)) (leaf : ℕ) → ChangesLeaf f a.arena new leaf
+      → pairs_of new new.leaves ≡ change_leaf f v.leaves leaf
   in_change f new leaf i =
       ap (pairs_of new) i.leaves ∙ pairs-change f a.arena new a.arena.leaves leaf i.was in_live i.old_value i.new_value i.others
       ∙ ap (λ (ps : List (ℕ × L)). change_leaf f ps leaf) (sym in_leaves)
@@ -151,7 +153,8 @@ module _ {L Change : Type 0} (size : L → ℕ) (element : L → Element) (a : I
   pub in_some : All (λ x. 1 ≤ size x.1) v.leaves
   in_some = subst (λ (ps : List (ℕ × L)). All (λ x. 1 ≤ size x.1) ps) (sym in_leaves) (all_filled size a.arena a.arena.leaves in_sound.filled)
 
-  pub in_take : (new : Forest L (Headed Summary)) (leaf : ℕ) (value : L) → TakesLeaf a.arena new leaf value → pairs_of new new.leaves ≡ without_leaf v.leaves leaf
+  pub in_take : (new : Forest L (Headed Summary)) (leaf : ℕ) (value : L) → TakesLeaf a.arena new leaf value
+      → pairs_of new new.leaves ≡ without_leaf v.leaves leaf
   in_take new leaf value i = ap (pairs_of new) i.leaves ∙ pairs-without a.arena new a.arena.leaves leaf in_live (λ x m d. i.others x d)
       ∙ ap (λ (ps : List (ℕ × L)). without_leaf ps leaf) (sym in_leaves)
 

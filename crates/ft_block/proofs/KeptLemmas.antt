@@ -81,11 +81,8 @@ pub one_more : (kept kept' n rest whole : ℕ) → kept' ≡ (kept + n) % 2 ^ 64
 one_more kept kept' n rest whole e so_far fits = omega arith
 
 -- a node that is read has a table with a floor up to this one
-pub node_from : {L : Type 0} (floor : ℕ) (s : Forest L (Headed Summary)) (id : ℕ) (n : Node L (Headed Summary)) (p : Option ℕ) → AreFromFloor floor s → entry s id ≡ Some record {
-  node =
-      n;
-  parent = p;
-} → IsNodeFrom floor n
+pub node_from : {L : Type 0} (floor : ℕ) (s : Forest L (Headed Summary)) (id : ℕ) (n : Node L (Headed Summary)) (p : Option ℕ)
+    → AreFromFloor floor s → entry s id ≡ Some record { node = n; parent = p } → IsNodeFrom floor n
 node_from floor s id (Leaf v) p all e = tt
 node_from floor s id (Block ks v) p all e = all id v (ap block_of_entry e)
 
@@ -96,7 +93,8 @@ settled kept' kept more less t e owes low fits =
     omega (arith, q)
 
 -- the tables' floors where blocks keep their values, or a new block comes
-pub same_floors : {L : Type 0} (floor : ℕ) (s s' : Forest L (Headed Summary)) → ((x : ℕ) → block_value s' x ≡ block_value s x) → AreFromFloor floor s → AreFromFloor floor s'
+pub same_floors : {L : Type 0} (floor : ℕ) (s s' : Forest L (Headed Summary)) → ((x : ℕ) → block_value s' x ≡ block_value s x)
+    → AreFromFloor floor s → AreFromFloor floor s'
 same_floors floor s s' same all x v e = all x v (sym (same x) ∙ e)
 
 pub added_floors : {L : Type 0} (floor : ℕ) (s s' : Forest L (Headed Summary)) (id : ℕ) (z : Headed Summary) (p : Option ℕ)
@@ -110,7 +108,8 @@ added_floors floor s s' id z p c is all x v e = elim (cases_eq x id) [
 ]
 
 -- a new leaf brings no table
-pub linked_floors : {L : Type 0} (floor : ℕ) (s s' : Forest L (Headed Summary)) (id : ℕ) (leaf : L) (p : Option ℕ) → Changes s s' id (Some record { node = Leaf leaf; parent = p })
+pub linked_floors : {L : Type 0} (floor : ℕ) (s s' : Forest L (Headed Summary)) (id : ℕ) (leaf : L) (p : Option ℕ)
+    → Changes s s' id (Some record { node = Leaf leaf; parent = p })
     → AreFromFloor floor s → AreFromFloor floor s'
 linked_floors floor s s' id leaf p c all x v e = elim (cases_eq x id) [
   | inl q ↦ let now : Some v ≡ None = sym e ∙ ap (block_value s') q ∙ ap block_of_entry c.changed in cc now

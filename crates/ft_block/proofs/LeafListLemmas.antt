@@ -59,7 +59,8 @@ module _ {L : Type 0} where
       let v = head_value s x xs a in
       ap ids (pairs_cons s x xs v.0 v.1) ∙ ap (λ (ys : List ℕ). x ∷ ys) (ids-pairs s xs (λ y m. a y (omega arith)))
 
-  pub length_by-pairs : (measure : Measure L Summary) (s : Forest L (Headed Summary)) (xs : List ℕ) → AllLeaves s xs → length_by measure.leaf (pairs_of s xs) ≡ total (length_of measure s) xs
+  pub length_by-pairs : (measure : Measure L Summary) (s : Forest L (Headed Summary)) (xs : List ℕ) → AllLeaves s xs
+      → length_by measure.leaf (pairs_of s xs) ≡ total (length_of measure s) xs
   length_by-pairs measure s [] a = refl
   length_by-pairs measure s (x ∷ xs) a =
       let v = head_value s x xs a in
@@ -126,11 +127,13 @@ module _ {L : Type 0} where
   put_leaf_here : (v : L) (ps : List (ℕ × L)) (at : ℕ) (new : ℕ × L) → put_leaf_after ((at, v) ∷ ps) at new ≡ (at, v) ∷ new ∷ put_leaf_after ps at new
   put_leaf_here v ps at new = cond-true (eqb at at) _ _ (eq-eqb at at refl)
 
-  put_leaf_later : (y : ℕ) (v : L) (ps : List (ℕ × L)) (at : ℕ) (new : ℕ × L) → (y ≡ at → ⊥) → put_leaf_after ((y, v) ∷ ps) at new ≡ (y, v) ∷ put_leaf_after ps at new
+  put_leaf_later : (y : ℕ) (v : L) (ps : List (ℕ × L)) (at : ℕ) (new : ℕ × L) → (y ≡ at → ⊥)
+      → put_leaf_after ((y, v) ∷ ps) at new ≡ (y, v) ∷ put_leaf_after ps at new
   put_leaf_later y v ps at new d = cond-false (eqb y at) _ _ (ne_eqb y at d)
 
   -- a leaf put among the nodes is put among the leaves
-  pub pairs-insert : (s s' : Forest L (Headed Summary)) (xs : List ℕ) (at id : ℕ) (leaf : L) → AllLeaves s xs → ((x : ℕ) → 1 ≤ times xs x → leaf_value s' x ≡ leaf_value s x)
+  pub pairs-insert : (s s' : Forest L (Headed Summary)) (xs : List ℕ) (at id : ℕ) (leaf : L) → AllLeaves s xs
+      → ((x : ℕ) → 1 ≤ times xs x → leaf_value s' x ≡ leaf_value s x)
       → leaf_value s' id ≡ Some leaf → pairs_of s' (insert_after xs at id) ≡ put_leaf_after (pairs_of s xs) at (id, leaf)
   pairs-insert s s' [] at id leaf a h e = refl
   pairs-insert s s' (y ∷ ys) at id leaf a h e =
@@ -231,7 +234,8 @@ module _ {L : Type 0} where
   without_leaf_later y v ps x d = cond-false (eqb y x) _ _ (ne_eqb y x d)
 
   -- a leaf that is taken out of the list is taken out of the leaves
-  pub pairs-without : (s s' : Forest L (Headed Summary)) (xs : List ℕ) (x : ℕ) → AllLeaves s xs → ((z : ℕ) → 1 ≤ times xs z → z ≢ x → leaf_value s' z ≡ leaf_value s z)
+  pub pairs-without : (s s' : Forest L (Headed Summary)) (xs : List ℕ) (x : ℕ) → AllLeaves s xs
+      → ((z : ℕ) → 1 ≤ times xs z → z ≢ x → leaf_value s' z ≡ leaf_value s z)
       → pairs_of s' (without xs x) ≡ without_leaf (pairs_of s xs) x
   pairs-without s s' [] x a h = refl
   pairs-without s s' (y ∷ ys) x a h =
@@ -294,7 +298,8 @@ module _ {L : Type 0} where
   ]
 
   -- a leaf joined with the next one, which is taken out
-  pub join_from : (f : L → L → L) (ps : List (ℕ × L)) (x n : ℕ) (w : L) → ((z : ℕ) → times_leaf ps z ≤ 1) → after (ids ps) x ≡ Some n → value_after ps x ≡ Some w
+  pub join_from : (f : L → L → L) (ps : List (ℕ × L)) (x n : ℕ) (w : L) → ((z : ℕ) → times_leaf ps z ≤ 1) → after (ids ps) x ≡ Some n
+      → value_after ps x ≡ Some w
       → change_leaf (λ v. f v w) (without_leaf ps n) x ≡ join_leaf f ps x
   join_from f [] x n w o e h = cc e
   join_from f (p ∷ []) x n w o e h = elim (cases_eq p.0 x) [

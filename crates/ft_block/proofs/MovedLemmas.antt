@@ -86,7 +86,8 @@ two_members (z ∷ []) x y d m n = elim (cases_eq z x) [
 two_members (z ∷ w ∷ zs) x y d m n = omega arith
 
 -- a list in which one is moved is as long by any measure
-pub list_total : {L : Type 0} (s : Forest L (Headed Summary)) → IsForest s → (f : ℕ → ℕ) (id : ℕ) (at : Option ℕ) → IsSome (leaf_value s id) → IsPlace s at → at ≢ Some id
+pub list_total : {L : Type 0} (s : Forest L (Headed Summary)) → IsForest s → (f : ℕ → ℕ) (id : ℕ) (at : Option ℕ)
+    → IsSome (leaf_value s id) → IsPlace s at → at ≢ Some id
     → total f (put_after (without s.leaves id) at id) ≡ total f s.leaves
 list_total s g f id None live p d = omega (arith, total-without f s.leaves id (g.leaf_once id ∙ counted (leaf_value s id) live))
 list_total s g f id (Some at) live p d =

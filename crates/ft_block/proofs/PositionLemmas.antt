@@ -67,7 +67,8 @@ before-flat_map k (y ∷ ys) p x m n o = elim (cases_eq y p) [
 pub forest_kid_live : {L : Type 0} (s : Forest L (Headed Summary)) (b k : ℕ) → IsForest s → 1 ≤ times (kids_of s b) k → IsSome (entry s k)
 forest_kid_live s b k f m = live_from_parent (entry s k) b (points_some (parent_of s k) b (omega (arith, m, f.child_once b k)))
 
-module _ {L : Type 0} (measure : Measure L Summary) (s : Forest L (Headed Summary)) (root : ℕ) (t : IsTree s root) (sums : SumsBut measure s None) (at p : ℕ) (up : parent_of s at ≡ Some p) where
+module _ {L : Type 0} (measure : Measure L Summary) (s : Forest L (Headed Summary)) (root : ℕ) (t : IsTree s root)
+    (sums : SumsBut measure s None) (at p : ℕ) (up : parent_of s at ≡ Some p) where
   po_high : height_of s p ≡ height_of s at + 1
   po_high = t.shape.heights at p up
 
@@ -118,7 +119,8 @@ module _ {L : Type 0} (measure : Measure L Summary) (s : Forest L (Headed Summar
       )
 
 -- before the root stands nothing on its level
-pub before_top : {L : Type 0} (measure : Measure L Summary) (s : Forest L (Headed Summary)) (root : ℕ) → IsTree s root → (at : ℕ) → IsSome (entry s at) → parent_of s at ≡ None
+pub before_top : {L : Type 0} (measure : Measure L Summary) (s : Forest L (Headed Summary)) (root : ℕ) → IsTree s root → (at : ℕ)
+    → IsSome (entry s at) → parent_of s at ≡ None
     → total (length_of measure s) (numbers_before (below s (height_of s root - height_of s at) (root ∷ [])) at) ≡ 0
 before_top measure s root t at live top = elim (cases_eq at root) [
   | inl e ↦

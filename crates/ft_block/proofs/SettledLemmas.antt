@@ -25,7 +25,8 @@ use Rattle.ft_block.specs.Leaves.{sees_in, is_removed}
 use Rattle.ft_block.specs.Tree.{ExchangesAtStages, IsForAll, kept_length, HasRange, KeepsExchange, KeepsForAll, KeepsLengths, KeepsNode, shows, AddsExchange, MakesExchange, MakesNothing}
 
 -- the first stage of stamps, with one more of them
-pub gone_more : (k stage now : ℕ) (first : Option ℕ) (stamps : List Stamp) (i : ℕ) (d : Stamp) → i < length stamps → nat_le now k ≡ (is_gone_at k first || nat_le stage k)
+pub gone_more : (k stage now : ℕ) (first : Option ℕ) (stamps : List Stamp) (i : ℕ) (d : Stamp) → i < length stamps
+    → nat_le now k ≡ (is_gone_at k first || nat_le stage k)
     → nat_le stage k ≡ has_occurred_at_stage k (get_or stamps i d) → is_gone_at k first ≡ list_any (has_occurred_at_stage k) (take i stamps)
     → is_gone_at k (Some now) ≡ list_any (has_occurred_at_stage k) (take (i + 1) stamps)
 gone_more k stage now first stamps i d h one here before =

@@ -59,7 +59,8 @@ module _ {L : Type 0} where
   one_leaf s x v f e = f.leaf_once x ∙ ap count_some e
 
   -- all leaves together are as much longer as the new one is long
-  pub inserts_total : (measure : Measure L Summary) (old new : Forest L (Headed Summary)) (id : ℕ) (leaf : L) (e : List ℕ → List ℕ) → IsForest old → InsertsLeaf old new id leaf e
+  pub inserts_total : (measure : Measure L Summary) (old new : Forest L (Headed Summary)) (id : ℕ) (leaf : L) (e : List ℕ → List ℕ)
+      → IsForest old → InsertsLeaf old new id leaf e
       → total (length_of measure new) (e old.leaves) ≡ total (length_of measure new) old.leaves + length_of measure new id
       → total (length_of measure new) new.leaves ≡ total (length_of measure old) old.leaves + measure.leaf leaf
   inserts_total measure old new id leaf e f i longer =
@@ -69,14 +70,16 @@ module _ {L : Type 0} where
       (λ x m. leaf_same measure old new x (leaves_live old f x m) (i.others x (λ q. omega (arith, m, none, ap (times old.leaves) q)))) in
       omega (arith, ap (total (length_of measure new)) i.leaves, longer, same_rest, leaf_length measure (entry new id) leaf i.value)
 
-  pub put_after_longer : (f : ℕ → ℕ) (s : Forest L (Headed Summary)) (at : Option ℕ) (id : ℕ) → IsForest s → IsPlace s at → total f (put_after s.leaves at id) ≡ total f s.leaves + f id
+  pub put_after_longer : (f : ℕ → ℕ) (s : Forest L (Headed Summary)) (at : Option ℕ) (id : ℕ) → IsForest s → IsPlace s at
+      → total f (put_after s.leaves at id) ≡ total f s.leaves + f id
   put_after_longer f s None id g p = omega arith
   put_after_longer f s (Some at) id g p =
       let v = some_of (leaf_value s at) p in
       (after_is_edit at id).totals f s.leaves (one_leaf s at v.0 g v.1)
 
   -- the two parts of a leaf together are as long as the leaf was
-  pub splits_total : (measure : Measure L Summary) (front rear : L → L) (old new : Forest L (Headed Summary)) (leaf id : ℕ) → IsForest old → (i : SplitsLeaf front rear old new leaf id)
+  pub splits_total : (measure : Measure L Summary) (front rear : L → L) (old new : Forest L (Headed Summary)) (leaf id : ℕ) → IsForest old
+      → (i : SplitsLeaf front rear old new leaf id)
       → measure.leaf (front i.whole) + measure.leaf (rear i.whole) ≡ measure.leaf i.whole
       → total (length_of measure new) new.leaves ≡ total (length_of measure old) old.leaves
   splits_total measure front rear old new leaf id f i parts =
@@ -99,7 +102,8 @@ module _ {L : Type 0} where
         parts,
       )
 
-  pub changes_total : (measure : Measure L Summary) (f : L → L) (old new : Forest L (Headed Summary)) (leaf : ℕ) → IsForest old → (i : ChangesLeaf f old new leaf)
+  pub changes_total : (measure : Measure L Summary) (f : L → L) (old new : Forest L (Headed Summary)) (leaf : ℕ) → IsForest old
+      → (i : ChangesLeaf f old new leaf)
       → total (length_of measure new) new.leaves + measure.leaf i.was ≡ total (length_of measure old) old.leaves + measure.leaf (f i.was)
   changes_total measure f old new leaf g i =
       let one : times old.leaves leaf ≡ 1 = one_leaf old leaf i.was g i.old_value in
@@ -115,7 +119,8 @@ module _ {L : Type 0} where
 
 module _ {L : Type 0} (size : L → ℕ) (element : L → Element) (floor : ℕ) where
   -- a leaf with another value of the same size and the same stamps
-  pub changed_sound : (s : Forest L (Headed Summary)) (root : Option ℕ) (at : ℕ) (v w : L) → IsSound size element floor s root → leaf_value s at ≡ Some v → element w ≡ element v
+  pub changed_sound : (s : Forest L (Headed Summary)) (root : Option ℕ) (at : ℕ) (v w : L) → IsSound size element floor s root
+      → leaf_value s at ≡ Some v → element w ≡ element v
       → size w ≡ size v → IsSound size element floor (with_leaf s at w) root
   changed_sound s None at v w f found e n = absurd (rooted_root s None at v f.rooted found refl)
   changed_sound s (Some root) at v w f found e n =
@@ -131,8 +136,10 @@ module _ {L : Type 0} (size : L → ℕ) (element : L → Element) (floor : ℕ)
       }
 
   -- a tree with one more leaf
-  pub inserts_sound : (old new : Forest L (Headed Summary)) (root : Option ℕ) (top id : ℕ) (leaf : L) (e : List ℕ → List ℕ) → IsSound size element floor old root → 1 ≤ size leaf
-      → total (length_of (by_size size) old) old.leaves + size leaf < 2 ^ 64 → ((f : ℕ → ℕ) → total f (e old.leaves) ≡ total f old.leaves + f id) → IsTree new top
+  pub inserts_sound : (old new : Forest L (Headed Summary)) (root : Option ℕ) (top id : ℕ) (leaf : L) (e : List ℕ → List ℕ)
+      → IsSound size element floor old root → 1 ≤ size leaf
+      → total (length_of (by_size size) old) old.leaves + size leaf < 2 ^ 64
+      → ((f : ℕ → ℕ) → total f (e old.leaves) ≡ total f old.leaves + f id) → IsTree new top
       → SumsKeptBut size element floor new None → AreFromFloor floor new → InsertsLeaf old new id leaf e → IsSound size element floor new (Some top)
   inserts_sound old new root top id leaf e f some fits longer tree sums floors i =
       record {
@@ -167,7 +174,8 @@ module _ {L : Type 0} (size : L → ℕ) (element : L → Element) (floor : ℕ)
 
   -- a tree in which a leaf has another value
   pub changes_sound : (f : L → L) (old new : Forest L (Headed Summary)) (root : ℕ) (leaf : ℕ) → IsSound size element floor old (Some root)
-      → ((v : L) → leaf_value old leaf ≡ Some v → (1 ≤ size (f v)) × (total (length_of (by_size size) old) old.leaves + size (f v) < 2 ^ 64 + size v)) → IsTree new root
+      → ((v : L) → leaf_value old leaf ≡ Some v → (1 ≤ size (f v)) × (total (length_of (by_size size) old) old.leaves + size (f v) < 2 ^ 64
+      + size v)) → IsTree new root
       → SumsKeptBut size element floor new None → AreFromFloor floor new → ChangesLeaf f old new leaf → IsSound size element floor new (Some root)
   changes_sound g old new root leaf f sized tree sums floors i =
       record {
@@ -182,7 +190,8 @@ module _ {L : Type 0} (size : L → ℕ) (element : L → Element) (floor : ℕ)
       }
 
 -- four facts on what a call answers give a fifth
-pub if_ok_four : {T E : Type 0} (r : Result T E) (P I S : T → Type 0) (Q R : Type 0) → ((x : T) → P x → Q → R → I x → S x) → IfOk r P → OnOk r Q → OnOk r R → IfOk r I → IfOk r S
+pub if_ok_four : {T E : Type 0} (r : Result T E) (P I S : T → Type 0) (Q R : Type 0) → ((x : T) → P x → Q → R → I x → S x) → IfOk r P
+    → OnOk r Q → OnOk r R → IfOk r I → IfOk r S
 if_ok_four (Ok x) P I S Q R f p q r i = f x p q r i
 if_ok_four (Err e) P I S Q R f p q r i = tt
 
@@ -200,7 +209,8 @@ after_longer f s at id g p = put_after_longer f s (Some at) id g p
 
 module _ {L : Type 0} (size : L → ℕ) (element : L → Element) (floor : ℕ) where
   -- a tree without one of its leaves
-  pub takes_sound : (old new : Forest L (Headed Summary)) (root top : Option ℕ) (leaf : ℕ) (value : L) → IsSound size element floor old root → leaf_value new leaf ≡ None
+  pub takes_sound : (old new : Forest L (Headed Summary)) (root top : Option ℕ) (leaf : ℕ) (value : L)
+      → IsSound size element floor old root → leaf_value new leaf ≡ None
       → IsRooted new top → SumsKeptBut size element floor new None → AreFromFloor floor new → TakesLeaf old new leaf value → IsSound size element floor new top
   takes_sound old new root top leaf value f gone rooted sums floors i =
       let g = rooted_forest old root f.rooted in
@@ -221,7 +231,8 @@ module _ {L : Type 0} (size : L → ℕ) (element : L → Element) (floor : ℕ)
       }
 
   -- a tree in which a leaf stands elsewhere
-  pub moves_sound : (old new : Forest L (Headed Summary)) (root : Option ℕ) (top leaf : ℕ) (at : Option ℕ) → IsSound size element floor old root → IsSome (leaf_value old leaf)
+  pub moves_sound : (old new : Forest L (Headed Summary)) (root : Option ℕ) (top leaf : ℕ) (at : Option ℕ)
+      → IsSound size element floor old root → IsSome (leaf_value old leaf)
       → ((f : ℕ → ℕ) → total f new.leaves ≡ total f old.leaves) → IsTree new top → SumsKeptBut size element floor new None → AreFromFloor floor new
       → MovesLeaf old new leaf at → IsSound size element floor new (Some top)
   moves_sound old new root top leaf at f live longer tree sums floors i =
@@ -241,7 +252,8 @@ module _ {L : Type 0} (size : L → ℕ) (element : L → Element) (floor : ℕ)
       }
 
   -- a higher floor asks for fewer views
-  pub raised_sound : (higher : ℕ) (s : Forest L (Headed Summary)) (root : Option ℕ) → floor ≤ higher → IsSound size element floor s root → IsSound size element higher s root
+  pub raised_sound : (higher : ℕ) (s : Forest L (Headed Summary)) (root : Option ℕ) → floor ≤ higher → IsSound size element floor s root
+      → IsSound size element higher s root
   raised_sound higher s root h f =
       record {
         rooted = f.rooted;

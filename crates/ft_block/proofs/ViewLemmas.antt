@@ -36,7 +36,8 @@ module _ {L : Type 0} (size : L → ℕ) (element : L → Element) (view : View)
   seen_le x = cond_le (shows view (element x)) (size x)
 
   -- a view sees no more of leaves than there is
-  pub view_fits : (s : Forest L (Headed Summary)) (xs : List ℕ) → AllLeaves s xs → total (length_of (by_view size element view) s) xs ≤ total (length_of (by_size size) s) xs
+  pub view_fits : (s : Forest L (Headed Summary)) (xs : List ℕ) → AllLeaves s xs
+      → total (length_of (by_view size element view) s) xs ≤ total (length_of (by_size size) s) xs
   view_fits s [] all = omega arith
   view_fits s (x ∷ xs) all =
       let v = some_of (leaf_value s x) (all x (omega (arith, same_refl x))) in
@@ -49,5 +50,6 @@ module _ {L : Type 0} (size : L → ℕ) (element : L → Element) (view : View)
             (λ y m. all y (omega arith)),
       )
 
-  pub all_fit : (s : Forest L (Headed Summary)) → IsForest s → total (length_of (by_view size element view) s) s.leaves ≤ total (length_of (by_size size) s) s.leaves
+  pub all_fit : (s : Forest L (Headed Summary)) → IsForest s
+      → total (length_of (by_view size element view) s) s.leaves ≤ total (length_of (by_size size) s) s.leaves
   all_fit s f = view_fits s s.leaves (leaves_live s f)

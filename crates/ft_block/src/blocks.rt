@@ -109,7 +109,6 @@ impl<L: Leaf> Blocks<L> {
         ensures few { length_by L.size self.now.leaves < 2 ^ 64 }
         ensures depth { 4 ^ self.now.depth ≤ length self.now.leaves + 1 }
     {
-        let _ = &self.root;
         self.arena.first()
     }
 
@@ -119,7 +118,6 @@ impl<L: Leaf> Blocks<L> {
         requires live { IsLeafIn self.now.leaves id }
         ensures { result ≡ after (ids self.now.leaves) id }
     {
-        let _ = &self.root;
         self.arena.next(id)
     }
 
@@ -129,7 +127,6 @@ impl<L: Leaf> Blocks<L> {
         requires live { IsLeafIn self.now.leaves id }
         ensures { MatchOption result (first (ids self.now.leaves) ≡ Some id) (λ p. after (ids self.now.leaves) p ≡ Some id) }
     {
-        let _ = &self.root;
         self.arena.prev(id)
     }
 
@@ -139,7 +136,6 @@ impl<L: Leaf> Blocks<L> {
         requires live { IsLeafIn self.now.leaves id }
         ensures { value_at self.now.leaves id ≡ Some result.now }
     {
-        let _ = &self.root;
         leaf_in::<L, Brand>(&self.arena, id, Blank::new(1))
     }
 
@@ -245,6 +241,7 @@ impl<L: Leaf> Blocks<L> {
         ensures cost { steps.new ≤ steps.old + 9 * (self.now.depth + 1) }
         ensures depth { 4 ^ self.now.depth ≤ length self.now.leaves + 1 }
     {
+        // How deep the tree is holds also where nothing of it is read.
         let _ = &self.root;
         if p == 0 {
             return Ok(Found {

@@ -37,7 +37,8 @@ returns-clause-inserts g c =
     c.add_block-top.result c.args.leaf _ refl at0 none c.link_after-id.ensures.leaves c.link_after-id.ensures.changes
     c.add_block-top.ensures.leaves c.add_block-top.ensures.fresh c.add_block-top.ensures.changes c.put_child.ensures.leaves c.put_child.ensures.puts
     c.in_ok-rebuild.ensures.shape in
-    let e : (x : ℕ) → leaf_value c.reserve.new.self x ≡ leaf_value c.args.arena.now x = λ x. ap (λ (s : Forest g.row.L.Denot (Headed Summary)). leaf_value s x) c.reserve.ensures.kept in
+    let e : (x : ℕ) → leaf_value c.reserve.new.self x ≡ leaf_value c.args.arena.now x =
+    λ x. ap (λ (s : Forest g.row.L.Denot (Headed Summary)). leaf_value s x) c.reserve.ensures.kept in
     record {
       leaves = i.leaves ∙ ap (λ (s : Forest g.row.L.Denot (Headed Summary)). c.link_after-id.result ∷ s.leaves) c.reserve.ensures.kept;
       fresh = sym (e c.link_after-id.result) ∙ i.fresh;

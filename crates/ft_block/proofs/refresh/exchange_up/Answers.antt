@@ -30,7 +30,8 @@ up-init g c =
 pub up-smaller : goal.up-smaller
 up-smaller g c =
     let w : Headed Summary = record { height = c.block_mut.result.now.height; sum = c.fold_and_exchange.new.self } in
-    ex_smaller c.up.arena c.args._root c.args._apart c.args._short c.up.invariant.tree c.in-Some.block c.block_mut.result.now w c.block_mut.ensures.value refl c.up.stale c.parent-stale.result c.in-Some.is c.parent-stale.ensures
+    ex_smaller c.up.arena c.args._root c.args._apart c.args._short c.up.invariant.tree c.in-Some.block c.block_mut.result.now w
+    c.block_mut.ensures.value refl c.up.stale c.parent-stale.result c.in-Some.is c.parent-stale.ensures
 
 pub up-preserved : goal.up-preserved
 up-preserved g c =

@@ -11,4 +11,5 @@ returns-in-Some-clause-exchanges c =
 
 pub returns-in_ok-exchange-in-None-clause-exchanges : goal.returns-in_ok-exchange-in-None-clause-exchanges
 returns-in_ok-exchange-in-None-clause-exchanges c =
-    on_ok_weaker c.add_exchange.result (c.in_ok-exchange-in-None.ensures c.args.self.now c.add_exchange.new.self c.requires.floor c.add_exchange.ensures.stages) c.add_exchange.ensures.adds
+    on_ok_weaker c.add_exchange.result (c.in_ok-exchange-in-None.ensures c.args.self.now c.add_exchange.new.self c.requires.floor
+    c.add_exchange.ensures.stages) c.add_exchange.ensures.adds
