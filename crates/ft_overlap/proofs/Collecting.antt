@@ -21,7 +21,8 @@ pub any_cost : (h k before after : ℕ) → IsCheap h k before after → after �
 any_cost zero k before after c = omega (arith, c.leaf refl)
 any_cost (suc h) k before after c = omega (arith, c.block (omega arith))
 
-cost_stop : (h i x y k s1 s2 before : ℕ) → s1 + 9 * h * (x + y) ≤ before + 1 + i + 9 * h * k → i ≤ 7 → s2 ≤ s1 + 1 + 9 * h * (x + 1) → s2 ≤ before + 9 * (h + 1) * (k + 1)
+cost_stop : (h i x y k s1 s2 before : ℕ) → s1 + 9 * h * (x + y) ≤ before + 1 + i + 9 * h * k → i ≤ 7 → s2 ≤ s1 + 1 + 9 * h * (x + 1)
+    → s2 ≤ before + 9 * (h + 1) * (k + 1)
 cost_stop h i x y k s1 s2 before p few q = omega (arith, p, few, q)
 
 cost_end : (h i k s before : ℕ) → s + 9 * h * 0 ≤ before + 1 + i + 9 * h * k → i ≤ 8 → 1 ≤ k → s ≤ before + 1 + 9 * (h + 1) * k
@@ -37,7 +38,8 @@ module _ (place : ℕ → ℤ) (a b : ℤ) where
   pub collecting_init : (all : List Item) (h : ℕ) (old : List ℕ) (start : ℕ) → Collecting place a b all all h 0 old old start start
   collecting_init all h old start = record { keys = refl; whole = λ e. e; suffix = λ ys r. r; cost = omega arith }
 
-  module _ (all kid rest : List Item) (h i : ℕ) (old now next : List ℕ) (start s1 s2 : ℕ) (c : Collecting place a b all (kid ++ rest) h i old now start s1) where
+  module _ (all kid rest : List Item) (h i : ℕ) (old now next : List ℕ) (start s1 s2 : ℕ)
+      (c : Collecting place a b all (kid ++ rest) h i old now start s1) where
     parts : length (keys_within place a b (kid ++ rest)) ≡ length (keys_within place a b kid) + length (keys_within place a b rest)
     parts = ap length (within-append place a b kid rest) ∙ length-append (keys_within place a b kid) (keys_within place a b rest)
 
@@ -59,7 +61,8 @@ module _ (place : ℕ → ℤ) (a b : ℤ) where
           cost = cost_step h i (length (keys_within place a b kid)) (length (keys_within place a b rest)) (length (keys_within place a b all)) s1 s2 start cost_here (k.cost refl);
         }
 
-    pub collecting_stop : IsRising place all → Collects place a b kid h now next s1 s2 false → (before after : ℕ) → Collects place a b all (suc h) old next before after false
+    pub collecting_stop : IsRising place all → Collects place a b kid h now next s1 s2 false → (before after : ℕ)
+        → Collects place a b all (suc h) old next before after false
     collecting_stop r k before after =
         let rising : IsRising place (kid ++ rest) =
         subst (IsRising place) (append-nil (kid ++ rest)) (c.suffix [] (subst (IsRising place) (sym (append-nil all)) r)) in
@@ -75,7 +78,8 @@ module _ (place : ℕ → ℤ) (a b : ℤ) where
     pub collecting_cheap : (before : ℕ) → start ≡ before + 1 → i ≤ 7 → IsCheap h (length (keys_within place a b kid)) s1 s2
         → IsCheap (suc h) (length (keys_within place a b all)) before s2
     collecting_cheap before e few k =
-        let here = subst (λ (n : ℕ). s1 + 9 * h * (length (keys_within place a b kid) + length (keys_within place a b rest)) ≤ n + i + 9 * h * length (keys_within place a b all)) e cost_here in
+        let here = subst (λ (n : ℕ). s1 + 9 * h * (length (keys_within place a b kid) + length (keys_within place a b rest)) ≤ n + i + 9
+        * h * length (keys_within place a b all)) e cost_here in
         let n : h + 1 ≡ suc h = omega arith in
         record {
           leaf = λ q. absurd (omega (arith, q));
@@ -84,7 +88,8 @@ module _ (place : ℕ → ℤ) (a b : ℤ) where
               (any_cost h (length (keys_within place a b kid)) s1 s2 k));
         }
 
-  module _ (all : List Item) (named : Item) (h i : ℕ) (old now : List ℕ) (before s : ℕ) (c : Collecting place a b all [] h i old now (before + 1) s) (few : i ≤ 8) where
+  module _ (all : List Item) (named : Item) (h i : ℕ) (old now : List ℕ) (before s : ℕ)
+      (c : Collecting place a b all [] h i old now (before + 1) s) (few : i ≤ 8) where
     pub collecting_end : Contains all named → a ≤ℤ place named.end → Collects place a b all (suc h) old now before s true
     collecting_end there reaches =
         let same : keys_within place a b all ≡ keys_from place a all = c.whole refl in
@@ -144,7 +149,8 @@ module _ (place : ℕ → ℤ) (a b : ℤ) where
         cost = λ q. omega arith;
       }
 
-  pub item_in : (x : Item) (old : List ℕ) (steps : ℕ) → place x.start ≤ℤ b → a ≤ℤ place x.end → Collects place a b (x ∷ []) 0 old (old ++ x.key ∷ []) steps (steps + 1) true
+  pub item_in : (x : Item) (old : List ℕ) (steps : ℕ) → place x.start ≤ℤ b → a ≤ℤ place x.end
+      → Collects place a b (x ∷ []) 0 old (old ++ x.key ∷ []) steps (steps + 1) true
   item_in x old steps l m =
       let s : starts_by place b x ≡ true = ap not (lt_false b (place x.start) l) in
       let e : ends_from place a x ≡ true = ap not (lt_false (place x.end) a m) in

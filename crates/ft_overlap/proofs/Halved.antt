@@ -37,7 +37,8 @@ none_resums s s' b =
     record { others = λ x d. none_long (entry s' x) ∙ sym (none_long (entry s x)); sum = none_long (entry s' b) ∙ sym (none_total s' (kids_of s' b)) }
 
 -- while the children are shared out each old node tells what it told
-pub halves_told : (a0 a1 a2 a3 : Nodes) (block place id rear : ℕ) (z : Option (Entry Item (Headed Span))) → Changes a0 a1 rear z → Halves a1 a2 block rear → PutsInHalf a2 a3 block rear place id
+pub halves_told : (a0 a1 a2 a3 : Nodes) (block place id rear : ℕ) (z : Option (Entry Item (Headed Span))) → Changes a0 a1 rear z
+    → Halves a1 a2 block rear → PutsInHalf a2 a3 block rear place id
     → (x : ℕ) → x ≢ rear → told a3 x ≡ told a0 x
 halves_told a0 a1 a2 a3 block place id rear z c1 r2 r3 x d =
     told_from_values a2 a3 x (r3.leaf_values x) (r3.block_values x) ∙ told_from_values a1 a2 x (r2.leaf_values x) (r2.block_values x)
@@ -60,5 +61,6 @@ module _ (Knows : ℕ → Type 0) (a0 a1 a2 a3 : Nodes) (block place id rear : �
   ]
 
 -- a node that was put among children leaves known what is
-pub put_known : (Knows : ℕ → Type 0) (s s' : Nodes) → ((x : ℕ) → leaf_value s' x ≡ leaf_value s x) → ((x : ℕ) → block_value s' x ≡ block_value s x) → EndsKnown Knows s → EndsKnown Knows s'
+pub put_known : (Knows : ℕ → Type 0) (s s' : Nodes) → ((x : ℕ) → leaf_value s' x ≡ leaf_value s x)
+    → ((x : ℕ) → block_value s' x ≡ block_value s x) → EndsKnown Knows s → EndsKnown Knows s'
 put_known Knows s s' l b known x v e = known x v (ap named_by (sym (told_from_values s s' x (l x) (b x))) ∙ e)

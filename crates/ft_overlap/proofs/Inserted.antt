@@ -14,7 +14,8 @@ use Rattle.ft_overlap.specs.declared.items.Item.{Item}
 use Rattle.ft_overlap.specs.declared.items.Span.{Span}
 use Rattle.ft_overlap.specs.Inside.{Nodes, either_named, span_last, named_by, EndsKnown, IsLeafPlace}
 
-pub linked_known : (Knows : ℕ → Type 0) (s s' : Nodes) (id : ℕ) (item : Item) → Changes s s' id (Some record { node = Leaf item; parent = None }) → Knows item.end
+pub linked_known : (Knows : ℕ → Type 0) (s s' : Nodes) (id : ℕ) (item : Item)
+    → Changes s s' id (Some record { node = Leaf item; parent = None }) → Knows item.end
     → EndsKnown Knows s → EndsKnown Knows s'
 linked_known Knows s s' id item c k known x v e = elim (cases_eq x id) [
   | inl q ↦

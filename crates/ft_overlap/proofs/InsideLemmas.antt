@@ -37,7 +37,8 @@ block_later (Some w) items rest b h = Contains-append_right (record { named = w.
 
 module _ (s : Nodes) where
   -- a block among these nodes is among their blocks
-  on_row : (h : ℕ) (xs : List ℕ) (b : ℕ) (v : Headed Span) → 1 ≤ times xs b → block_value s b ≡ Some v → Contains (blocks_of s h xs) record { named = v.sum.last; items = items_under s h b }
+  on_row : (h : ℕ) (xs : List ℕ) (b : ℕ) (v : Headed Span) → 1 ≤ times xs b → block_value s b ≡ Some v
+      → Contains (blocks_of s h xs) record { named = v.sum.last; items = items_under s h b }
   on_row h [] b v m e = absurd (omega arith)
   on_row h (x ∷ xs) b v m e = elim (cases_eq x b) [
     | inl q ↦ subst (λ (z : ℕ). Contains (block_of (block_value s x) (items_under s h x) (blocks_of s h xs)) record { named = v.sum.last; items = items_under s h z }) q
@@ -59,7 +60,8 @@ module _ (s : Nodes) where
       (on_rows j h (flat_map (kids_of s) xs) k b v m (omega (arith, l)) e)
 
   -- each block of a tree is one that callers see
-  pub block_seen : (root b : ℕ) (v : Headed Span) → IsTree s root → block_value s b ≡ Some v → Contains (blocks_below s (height_of s root) (root ∷ [])) record { named = v.sum.last; items = items_below s b }
+  pub block_seen : (root b : ℕ) (v : Headed Span) → IsTree s root → block_value s b ≡ Some v
+      → Contains (blocks_below s (height_of s root) (root ∷ [])) record { named = v.sum.last; items = items_below s b }
   block_seen root b v t e =
       let block : IsSome (block_value s b) = is_some_from (block_value s b) v e in
       let live : IsSome (entry s b) = block_live (entry s b) block in

@@ -80,7 +80,8 @@ module _ (place : ℕ → ℤ) (new : Item) where
       cond-false (starts_by place (place new.start) x) (x ∷ put_item place new xs) (new ∷ x ∷ xs) (ap not (lt_true (place new.start) (place x.start) h))
 
   -- the item goes where the first that starts behind it stands
-  pub put_cut : (xs ys : List Item) → All (λ x. place x.start ≤ℤ place new.start) xs → IsBehind place (place new.start) ys → put_item place new (xs ++ ys) ≡ xs ++ new ∷ ys
+  pub put_cut : (xs ys : List Item) → All (λ x. place x.start ≤ℤ place new.start) xs → IsBehind place (place new.start) ys
+      → put_item place new (xs ++ ys) ≡ xs ++ new ∷ ys
   put_cut [] [] h b = refl
   put_cut [] (y ∷ ys) h b = put_here y ys b
   put_cut (x ∷ xs) ys h b =

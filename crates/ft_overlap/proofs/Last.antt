@@ -23,7 +23,8 @@ module _ (s : Nodes) where
   named_of x e v read h = ap (λ (o : Option (Entry Item (Headed Span))). either_named (leaf_of_entry o) (span_last (sum_of (block_of_entry o)))) read ∙ h
 
   -- and where its first item starts
-  pub start_of : (x : ℕ) (e : Entry Item (Headed Span)) (b : ℕ) → entry s x ≡ Some e → either_start (leaf_of_node e.node) (span_start (sum_of (block_of_node e.node)))
+  pub start_of : (x : ℕ) (e : Entry Item (Headed Span)) (b : ℕ) → entry s x ≡ Some e
+      → either_start (leaf_of_node e.node) (span_start (sum_of (block_of_node e.node)))
       ≡ Some b
       → start_by (told s x) ≡ Some b
   start_of x e b read h = ap (λ (o : Option (Entry Item (Headed Span))). either_start (leaf_of_entry o) (span_start (sum_of (block_of_entry o)))) read ∙ h

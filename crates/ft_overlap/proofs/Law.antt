@@ -21,7 +21,8 @@ module _ (p q : ℕ → ℤ) (all : List Item) (keeps : KeepsOrder p q all) wher
   end_in : (x : Item) → Contains all x → IsEndIn all x.end
   end_in x h = (x, h, inr refl)
 
-  behind_kept : (x : Item) (ys : List Item) → Contains all x → All (Contains all) ys → All (λ y. p x.start ≤ℤ p y.start) ys → All (λ y. q x.start ≤ℤ q y.start) ys
+  behind_kept : (x : Item) (ys : List Item) → Contains all x → All (Contains all) ys → All (λ y. p x.start ≤ℤ p y.start) ys
+      → All (λ y. q x.start ≤ℤ q y.start) ys
   behind_kept x [] m h l = All-nil (λ y. q x.start ≤ℤ q y.start)
   behind_kept x (y ∷ ys) m h l = All-cons (λ y. q x.start ≤ℤ q y.start) y ys
       (keeps x.start y.start (start_in x m) (start_in y (All-head (Contains all) y ys h)) (All-head (λ y. p x.start ≤ℤ p y.start) y ys l))

@@ -66,7 +66,8 @@ module _ (place : ℕ → ℤ) (s : Nodes) (forest : IsForest s) (item : Item) w
   place_live at p = leaves_live s forest at (omega (arith, ap (λ zs. times zs at) p.cut, times-append p.left p.right at, last_in p.left at p.last))
 
   -- the new leaf between the two parts puts the item in
-  put_between : (at : Option ℕ) (p : IsPlaceFor place (place item.start) s at) (s' : Nodes) (id : ℕ) → s'.leaves ≡ p.left ++ id ∷ p.right → leaf_value s id ≡ None
+  put_between : (at : Option ℕ) (p : IsPlaceFor place (place item.start) s at) (s' : Nodes) (id : ℕ) → s'.leaves ≡ p.left ++ id ∷ p.right
+      → leaf_value s id ≡ None
       → leaf_value s' id ≡ Some item → ((x : ℕ) → x ≢ id → leaf_value s' x ≡ leaf_value s x) → items_of s' s'.leaves ≡ put_item place item (items_of s s.leaves)
   put_between at p s' id l fresh value others =
       let none : times s.leaves id ≡ 0 = omega (arith, forest.leaf_once id, ap (λ (o : Option Item). count_some o) fresh) in
@@ -78,7 +79,8 @@ module _ (place : ℕ → ℤ) (s : Nodes) (forest : IsForest s) (item : Item) w
       ∙ sym (ap (λ zs. put_item place item (items_of s zs)) p.cut ∙ ap (put_item place item) (items-append s p.left p.right)
       ∙ put_cut place item (items_of s p.left) (items_of s p.right) p.before p.behind)
 
-  pub put_items_after : (at : ℕ) → IsPlaceFor place (place item.start) s (Some at) → (s' : Nodes) (id : ℕ) → InsertsLeaf s s' id item (λ xs. insert_after xs at id)
+  pub put_items_after : (at : ℕ) → IsPlaceFor place (place item.start) s (Some at) → (s' : Nodes) (id : ℕ)
+      → InsertsLeaf s s' id item (λ xs. insert_after xs at id)
       → items_of s' s'.leaves ≡ put_item place item (items_of s s.leaves)
   put_items_after at p s' id r =
       put_between (Some at) p s' id
@@ -91,7 +93,8 @@ module _ (place : ℕ → ℤ) (s : Nodes) (forest : IsForest s) (item : Item) w
       ∙ ap (λ (zs : List ℕ). zs ++ id ∷ p.right) (sym (last_none p.left p.last))) r.fresh r.value r.others
 
 -- the leaf with the key that leaves takes its item out
-pub taken_items : (key : ℕ) (s s' : Nodes) (id : ℕ) (value : Item) → IsFirstWith key s id → TakesLeaf s s' id value → items_of s' s'.leaves ≡ without_key key (items_of s s.leaves)
+pub taken_items : (key : ℕ) (s s' : Nodes) (id : ℕ) (value : Item) → IsFirstWith key s id → TakesLeaf s s' id value
+    → items_of s' s'.leaves ≡ without_key key (items_of s s.leaves)
 taken_items key s s' id value f r =
     ap (items_of s') r.leaves
     ∙ items_same s s' (without s.leaves id) (λ x m. r.others x (λ e. omega (arith, m, ap (times (without s.leaves id)) e, times-without_same s.leaves id)))

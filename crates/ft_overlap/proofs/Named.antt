@@ -60,7 +60,8 @@ kind s x h = of_entry (entry s x) refl h
     of_entry None e h = cc
     of_entry (Some k) e h = of_node k.node (ap leaf_of_entry e) (ap block_of_entry e) (ap height_of_entry e)
       where
-        of_node : (n : Node Item (Headed Span)) → leaf_value s x ≡ leaf_of_node n → block_value s x ≡ block_of_node n → height_of s x ≡ height_of_node n → Kind s x
+        of_node : (n : Node Item (Headed Span)) → leaf_value s x ≡ leaf_of_node n → block_value s x ≡ block_of_node n
+            → height_of s x ≡ height_of_node n → Kind s x
         of_node (Leaf v) l b q = is_leaf v l q
         of_node (Block ks v) l b q = is_block v l b
 
@@ -69,7 +70,8 @@ module _ (s : Nodes) where
   leaf_below x v l q = ap (λ (h : ℕ). items_under s h x) q ∙ ap (λ o. item_of o []) l
 
   -- an item below one of these nodes, which head so many levels, is below them
-  part_in : (h : ℕ) (ks : List ℕ) (k : ℕ) (v : Item) → 1 ≤ times ks k → height_of s k ≡ h → Contains (items_below s k) v → Contains (items_of s (below s h ks)) v
+  part_in : (h : ℕ) (ks : List ℕ) (k : ℕ) (v : Item) → 1 ≤ times ks k → height_of s k ≡ h → Contains (items_below s k) v
+      → Contains (items_of s (below s h ks)) v
   part_in h [] k v m q c = absurd (omega arith)
   part_in h (x ∷ xs) k v m q c =
       let e : items_of s (below s h (x ∷ xs)) ≡ items_under s h x ++ items_of s (below s h xs) =

@@ -17,12 +17,14 @@ use Rattle.ft_overlap.proofs.Named.{told_from, told_each}
 use Rattle.ft_overlap.proofs.Last.{told_in, all_last}
 
 -- where each tells the same start, the first does
-starts_same : (f f' : ℕ → Option Item × Option Span) (xs : List ℕ) → ((x : ℕ) → start_by (f' x) ≡ start_by (f x)) → first_start (map f' xs) ≡ first_start (map f xs)
+starts_same : (f f' : ℕ → Option Item × Option Span) (xs : List ℕ) → ((x : ℕ) → start_by (f' x) ≡ start_by (f x))
+    → first_start (map f' xs) ≡ first_start (map f xs)
 starts_same f f' [] h = refl
 starts_same f f' (x ∷ xs) h = h x
 
 -- and so it does where a node is put behind it
-first_insert : (f : ℕ → Option Item × Option Span) (xs : List ℕ) (i x : ℕ) → 1 ≤ i → 1 ≤ length xs → first_start (map f (insert xs i x)) ≡ first_start (map f xs)
+first_insert : (f : ℕ → Option Item × Option Span) (xs : List ℕ) (i x : ℕ) → 1 ≤ i → 1 ≤ length xs
+    → first_start (map f (insert xs i x)) ≡ first_start (map f xs)
 first_insert f [] i x a b = absurd (omega arith)
 first_insert f (y ∷ ys) zero x a b = absurd (omega arith)
 first_insert f (y ∷ ys) (suc i) x a b = refl

@@ -31,7 +31,8 @@ module _ (Knows : ℕ → Type 0) (s : Nodes) (known : EndsKnown Knows s) where
   ]
 
 -- where a block was right already, and nothing was written, all are right
-pub stays_right : (R : Span → List (Option Item × Option Span) → Type 0) (s s' : Nodes) (b : ℕ) → s' ≡ s → Retells R s s' b → KeepsBut R s (Some b) → KeepsBut R s' None
+pub stays_right : (R : Span → List (Option Item × Option Span) → Type 0) (s s' : Nodes) (b : ℕ) → s' ≡ s → Retells R s s' b
+    → KeepsBut R s (Some b) → KeepsBut R s' None
 stays_right R s s' b same u keeps k v e d = elim (cases_eq k b) [
   | inl q ↦ subst (λ (z : ℕ). R v.sum (map (told s') (kids_of s' z))) (sym q) (u.right v (ap (block_value s') (sym q) ∙ e))
   | inr n ↦ subst (λ (z : Nodes). block_value z k ≡ Some v → R v.sum (map (told z) (kids_of z k))) (sym same)

@@ -50,7 +50,8 @@ module _ (place : ℕ → ℤ) (a b : ℤ) (s : Nodes) (root n : ℕ) (t : IsTre
     k_known Knows h = all_front (λ x. Knows x.start × Knows x.end) (items_below s kid) (items_of s (below s under (drop (i + 1) kids)))
         (subst (λ (zs : List Item). AreKnown Knows zs) k_rest h)
 
-    pub k_known_rest : (Knows : ℕ → Type 0) → AreKnown Knows (items_of s (below s under (drop i kids))) → AreKnown Knows (items_of s (below s under (drop (i + 1) kids)))
+    pub k_known_rest : (Knows : ℕ → Type 0) → AreKnown Knows (items_of s (below s under (drop i kids)))
+        → AreKnown Knows (items_of s (below s under (drop (i + 1) kids)))
     k_known_rest Knows h = all_rest (λ x. Knows x.start × Knows x.end) (items_below s kid) (items_of s (below s under (drop (i + 1) kids)))
         (subst (λ (zs : List Item). AreKnown Knows zs) k_rest h)
 

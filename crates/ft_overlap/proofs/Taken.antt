@@ -10,7 +10,8 @@ use Rattle.ft_overlap.specs.declared.items.Span.{Span}
 use Rattle.ft_overlap.specs.Inside.{Nodes, either_named, span_last, named_by, EndsKnown}
 
 -- a node that is gone leaves known what is
-pub gone_known : (Knows : ℕ → Type 0) (s s' : Nodes) (id : ℕ) → entry s' id ≡ None → ((x : ℕ) → x ≢ id → told s' x ≡ told s x) → EndsKnown Knows s → EndsKnown Knows s'
+pub gone_known : (Knows : ℕ → Type 0) (s s' : Nodes) (id : ℕ) → entry s' id ≡ None → ((x : ℕ) → x ≢ id → told s' x ≡ told s x)
+    → EndsKnown Knows s → EndsKnown Knows s'
 gone_known Knows s s' id gone same known x v e = elim (cases_eq x id) [
   | inl q ↦ absurd (
       let n : None ≡ Some v = sym (ap (λ (o : Option (Entry Item (Headed Span))). either_named (leaf_of_entry o) (span_last (sum_of (block_of_entry o)))) (ap (entry s') q ∙ gone)) ∙ e in

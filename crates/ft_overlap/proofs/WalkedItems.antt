@@ -107,7 +107,8 @@ module _ (P : Item → Type 0) (s : Nodes) (forest : IsForest s) (before : Optio
     walk_less = w_less next w_next
 
 -- the leaf before which a walk stands that passed no item with the key, and that has it
-pub walk_found : (key : ℕ) (s : Nodes) (forest : IsForest s) (before : Option ℕ) (id : ℕ) (w : IsWalking (HasNot key) s before (Some id)) (x : Item) → leaf_value s id ≡ Some x
+pub walk_found : (key : ℕ) (s : Nodes) (forest : IsForest s) (before : Option ℕ) (id : ℕ) (w : IsWalking (HasNot key) s before (Some id))
+    (x : Item) → leaf_value s id ≡ Some x
     → x.key ≡ key → IsFirstWith key s id
 walk_found key s forest before id w x there e =
     let cut = w_cut (HasNot key) s forest before id w in
@@ -125,7 +126,8 @@ walk_found key s forest before id w x there e =
     }
 
 -- a walk to the end that passed none
-pub walk_none : (key : ℕ) (s : Nodes) (before next : Option ℕ) (w : IsWalking (HasNot key) s before next) → next ≡ None → item_at key (items_of s s.leaves) ≡ None
+pub walk_none : (key : ℕ) (s : Nodes) (before next : Option ℕ) (w : IsWalking (HasNot key) s before next) → next ≡ None
+    → item_at key (items_of s s.leaves) ≡ None
 walk_none key s before next w e =
     let end : items_of s w.right ≡ [] = ap (items_of s) (no_first w.right (sym w.at ∙ e)) in
     ap (λ ys. item_at key (items_of s ys)) w.cut ∙ ap (item_at key) (items-append s w.left w.right) ∙ at_none key (items_of s w.left) (items_of s w.right) w.passed end

@@ -100,7 +100,6 @@ impl Index {
         ensures order { OnOk result (IsInOrder (P.end_place at.now) self.new) }
         ensures err { OnErr result (self.new ≡ self.old) }
     {
-        let _ = &self.root;
         self.root = insert_in::<P, Brand>(&mut self.arena, self.root, item, at, Blank::new(1))?;
         Ok(())
     }
@@ -134,6 +133,7 @@ impl Index {
         ensures law { (p q : ℕ → ℤ) → KeepsOrder p q self.now.items → IsInOrder p self.now → IsInOrder q self.now }
         ensures depth { 4 ^ self.now.depth ≤ length self.now.items + 1 }
     {
+        // It is read off what holds of the index at any time.
         let _ = &self.root;
     }
 }

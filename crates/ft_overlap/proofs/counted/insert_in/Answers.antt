@@ -38,7 +38,8 @@ pub insert_front-top-requires-clause-one : goal.insert_front-top-requires-clause
 insert_front-top-requires-clause-one g c = room_keeps IsSpan c.args.arena.now c.reserve-2.new.self c.reserve-2.ensures.kept c.requires.one
 
 pub insert_front-top-requires-clause-last : goal.insert_front-top-requires-clause-last
-insert_front-top-requires-clause-last g c = room_keeps (SpansLast (g.P.Places.end_place c.args.at.now)) c.args.arena.now c.reserve-2.new.self c.reserve-2.ensures.kept c.requires.last
+insert_front-top-requires-clause-last g c = room_keeps (SpansLast (g.P.Places.end_place c.args.at.now)) c.args.arena.now
+    c.reserve-2.new.self c.reserve-2.ensures.kept c.requires.last
 
 pub returns-clause-one : goal.returns-clause-one
 returns-clause-one g c =
@@ -54,10 +55,12 @@ returns-clause-items g c =
     let place = g.P.Places.end_place c.args.at.now in
     elim c.match-place_for.branch [
       | in-Some-place_for w ↦ subst (λ (z : Nodes). items_of z z.leaves ≡ put_item place c.args.item (items_of c.args.arena.now c.args.arena.now.leaves)) (sym w.arena-is)
-          (put_items_after place c.reserve-2.new.self forest c.args.item w.in-Some-place_for.before w.in-Some-place_for.ensures w.insert_at-top.new.arena w.insert_at-top.ensures.inserts.0 w.insert_at-top.ensures.inserts.1
+          (put_items_after place c.reserve-2.new.self forest c.args.item w.in-Some-place_for.before w.in-Some-place_for.ensures
+          w.insert_at-top.new.arena w.insert_at-top.ensures.inserts.0 w.insert_at-top.ensures.inserts.1
           ∙ ap (put_item place c.args.item) (room_items c.args.arena.now c.reserve-2.new.self c.reserve-2.ensures.kept))
       | in-None w ↦ subst (λ (z : Nodes). items_of z z.leaves ≡ put_item place c.args.item (items_of c.args.arena.now c.args.arena.now.leaves)) (sym w.arena-is)
-          (put_items_front place c.reserve-2.new.self forest c.args.item w.in-None.ensures w.insert_front-top.new.arena w.insert_front-top.ensures.inserts.0 w.insert_front-top.ensures.inserts.1
+          (put_items_front place c.reserve-2.new.self forest c.args.item w.in-None.ensures w.insert_front-top.new.arena
+          w.insert_front-top.ensures.inserts.0 w.insert_front-top.ensures.inserts.1
           ∙ ap (put_item place c.args.item) (room_items c.args.arena.now c.reserve-2.new.self c.reserve-2.ensures.kept))
     ]
 

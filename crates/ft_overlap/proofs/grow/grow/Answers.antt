@@ -57,7 +57,8 @@ returns-then-count-lt8-clause-one g c =
     c.in-Some.block up c.child_place-place.result.0 c.child_place-place.ensures.place in
     let puts = PutsAt-from c.up.arena c.put_child.new.self c.in-Some.block (c.child_place-place.result.0 + 1) c.up.id c.put_child.ensures.leaves c.put_child.ensures.puts
     c.put_child.ensures.sound in
-    put_keeps IsSpan c.up.arena c.put_child.new.self c.in-Some.block (c.child_place-place.result.0 + 1) c.up.id puts (subst (λ (o : Option ℕ). KeepsBut IsSpan c.up.arena o) up c.up.invariant.one)
+    put_keeps IsSpan c.up.arena c.put_child.new.self c.in-Some.block (c.child_place-place.result.0 + 1) c.up.id puts
+    (subst (λ (o : Option ℕ). KeepsBut IsSpan c.up.arena o) up c.up.invariant.one)
 
 pub returns-then-count-lt8-clause-last : goal.returns-then-count-lt8-clause-last
 returns-then-count-lt8-clause-last g c =
@@ -91,18 +92,22 @@ up-preserved g c =
     let s' = c.split_put-id.new.arena in
     let i = c.up.invariant in
     let r = c.split_put-id.ensures.splits in
-    let high : height_of s c.in-Some.block ≡ height_of s c.up.at + 1 = gr_high c.up.arena c.args.root c.up.at c.up.id 1 (λ xs. insert_after xs c.up.at c.up.id) (after_is_edit c.up.at c.up.id) c.up.invariant.growing c.in-Some.block up in
+    let high : height_of s c.in-Some.block ≡ height_of s c.up.at + 1 =
+    gr_high c.up.arena c.args.root c.up.at c.up.id 1 (λ xs. insert_after xs c.up.at c.up.id) (after_is_edit c.up.at c.up.id)
+    c.up.invariant.growing c.in-Some.block up in
     let low = gr_low c.up.arena c.args.root c.up.at c.up.id 1 (λ xs. insert_after xs c.up.at c.up.id) (after_is_edit c.up.at c.up.id) c.up.invariant.growing c.in-Some.block up in
     let root_apart = dead_apart (entry s) c.args.root c.split_put-id.result (block_live (entry s c.args.root) i.growing.shape.root_is_block) r.fresh in
     let block_apart = dead_apart (entry s) c.in-Some.block c.split_put-id.result (block_live (entry s c.in-Some.block) (gr_block c.up.arena c.args.root c.up.at c.up.id 1 (λ xs. insert_after xs c.up.at c.up.id) (after_is_edit c.up.at c.up.id) c.up.invariant.growing c.in-Some.block up)) r.fresh in
     let root_high : height_of s' c.args.root ≡ height_of s c.args.root = kind_height (entry s c.args.root) (entry s' c.args.root) (r.kinds c.args.root root_apart) in
-    let block_high : height_of s' c.in-Some.block ≡ height_of s c.in-Some.block = kind_height (entry s c.in-Some.block) (entry s' c.in-Some.block) (r.kinds c.in-Some.block block_apart) in
+    let block_high : height_of s' c.in-Some.block ≡ height_of s c.in-Some.block =
+    kind_height (entry s c.in-Some.block) (entry s' c.in-Some.block) (r.kinds c.in-Some.block block_apart) in
     let grows : IsGrowing s' c.args.root c.in-Some.block c.split_put-id.result (λ xs. insert_after xs c.in-Some.block c.split_put-id.result) = split_grows c.up.arena c.split_put-id.new.arena c.args.root c.up.at c.up.id c.in-Some.block 1 (λ xs. insert_after xs c.up.at c.up.id) (after_is_edit c.up.at c.up.id) c.up.invariant.growing up (c.child_place-place.result.0 + 1) at_place c.split_put-id.result r in
     record {
       growing = grows;
       one = split_keeps IsSpan s s' c.in-Some.block (c.child_place-place.result.0 + 1) c.up.id c.split_put-id.result r c.split_put-id.ensures.one grows.new_top
           (subst (λ (o : Option ℕ). KeepsBut IsSpan s o) up i.one);
-      last = split_keeps (SpansLast (g.P.Places.end_place c.args.places.now)) s s' c.in-Some.block (c.child_place-place.result.0 + 1) c.up.id c.split_put-id.result r c.split_put-id.ensures.last grows.new_top
+      last = split_keeps (SpansLast (g.P.Places.end_place c.args.places.now)) s s' c.in-Some.block (c.child_place-place.result.0 + 1)
+          c.up.id c.split_put-id.result r c.split_put-id.ensures.last grows.new_top
           (subst (λ (o : Option ℕ). KeepsBut (SpansLast (g.P.Places.end_place c.args.places.now)) s o) up i.last);
       known = c.split_put-id.ensures.known;
       spare = omega (arith, r.spare, i.spare, root_high, block_high, high, low);
@@ -127,7 +132,8 @@ returns-clause-one g c =
     let grows : IsGrowing c.up.arena c.args.root c.args.root c.up.id (λ xs. insert_after xs c.args.root c.up.id) =
     subst (λ (z : ℕ). IsGrowing c.up.arena c.args.root z c.up.id (λ xs. insert_after xs z c.up.id)) e c.up.invariant.growing in
     let tree = root_tree c.up.arena c.root_over-top.new.arena c.args.root c.up.id c.root_over-top.result grows c.root_over-top.ensures.roots in
-    root_keeps IsSpan c.up.arena c.root_over-top.new.arena c.args.root c.up.id c.root_over-top.result c.root_over-top.ensures.roots c.root_over-top.ensures.one tree.shape.root_is_top
+    root_keeps IsSpan c.up.arena c.root_over-top.new.arena c.args.root c.up.id c.root_over-top.result c.root_over-top.ensures.roots
+    c.root_over-top.ensures.one tree.shape.root_is_top
     (subst (λ (o : Option ℕ). KeepsBut IsSpan c.up.arena o) (sym c.parent.ensures ∙ c.in_default.is) c.up.invariant.one)
 
 pub returns-clause-last : goal.returns-clause-last
@@ -137,7 +143,8 @@ returns-clause-last g c =
     let grows : IsGrowing c.up.arena c.args.root c.args.root c.up.id (λ xs. insert_after xs c.args.root c.up.id) =
     subst (λ (z : ℕ). IsGrowing c.up.arena c.args.root z c.up.id (λ xs. insert_after xs z c.up.id)) e c.up.invariant.growing in
     let tree = root_tree c.up.arena c.root_over-top.new.arena c.args.root c.up.id c.root_over-top.result grows c.root_over-top.ensures.roots in
-    root_keeps (SpansLast (g.P.Places.end_place c.args.places.now)) c.up.arena c.root_over-top.new.arena c.args.root c.up.id c.root_over-top.result c.root_over-top.ensures.roots c.root_over-top.ensures.last tree.shape.root_is_top
+    root_keeps (SpansLast (g.P.Places.end_place c.args.places.now)) c.up.arena c.root_over-top.new.arena c.args.root c.up.id
+    c.root_over-top.result c.root_over-top.ensures.roots c.root_over-top.ensures.last tree.shape.root_is_top
     (subst (λ (o : Option ℕ). KeepsBut (SpansLast (g.P.Places.end_place c.args.places.now)) c.up.arena o) (sym c.parent.ensures ∙ c.in_default.is) c.up.invariant.last)
 
 pub returns-clause-leaves : goal.returns-clause-leaves

@@ -14,9 +14,11 @@ pub returns-clause-known : goal.returns-clause-known
 returns-clause-known g c = c.rename.ensures.known
 
 pub returns-clause-one : goal.returns-clause-one
-returns-clause-one g c = rooted_tells IsSpan c.args.arena.now c.add_block-top.new.self c.put_child.new.self c.put_child-2.new.self c.rename.new.arena c.add_block-top.result _ c.add_block-top.ensures.changes
+returns-clause-one g c = rooted_tells IsSpan c.args.arena.now c.add_block-top.new.self c.put_child.new.self c.put_child-2.new.self
+    c.rename.new.arena c.add_block-top.result _ c.add_block-top.ensures.changes
     c.put_child.ensures.puts.leaf_values c.put_child.ensures.puts.block_values c.put_child-2.ensures.puts.leaf_values c.put_child-2.ensures.puts.block_values c.rename.ensures.one
 
 pub returns-clause-last : goal.returns-clause-last
-returns-clause-last g c = rooted_tells (SpansLast (g.P.Places.end_place c.args.at.now)) c.args.arena.now c.add_block-top.new.self c.put_child.new.self c.put_child-2.new.self c.rename.new.arena c.add_block-top.result _ c.add_block-top.ensures.changes
+returns-clause-last g c = rooted_tells (SpansLast (g.P.Places.end_place c.args.at.now)) c.args.arena.now c.add_block-top.new.self
+    c.put_child.new.self c.put_child-2.new.self c.rename.new.arena c.add_block-top.result _ c.add_block-top.ensures.changes
     c.put_child.ensures.puts.leaf_values c.put_child.ensures.puts.block_values c.put_child-2.ensures.puts.leaf_values c.put_child-2.ensures.puts.block_values c.rename.ensures.last

@@ -16,7 +16,9 @@ pub rename-requires-clause-filled : goal.rename-requires-clause-filled
 rename-requires-clause-filled g c = omega (arith, c.put_in_half.ensures.front_many)
 
 pub rename-requires-clause-known : goal.rename-requires-clause-known
-rename-requires-clause-known g c = halves_known (g.P.Places.Knows c.args.at.now) c.args.arena.now c.add_block-rear.new.self c.move_half.new.arena c.put_in_half.new.arena c.args.block c.args.place c.args.id c.add_block-rear.result _ c.add_block-rear.ensures.changes c.move_half.ensures c.put_in_half.ensures c.requires.item c.requires.known
+rename-requires-clause-known g c = halves_known (g.P.Places.Knows c.args.at.now) c.args.arena.now c.add_block-rear.new.self
+    c.move_half.new.arena c.put_in_half.new.arena c.args.block c.args.place c.args.id c.add_block-rear.result _
+    c.add_block-rear.ensures.changes c.move_half.ensures c.put_in_half.ensures c.requires.item c.requires.known
 
 pub rename-requires-2-clause-apart : goal.rename-requires-2-clause-apart
 rename-requires-2-clause-apart g c = split_apart_rear4 no_length c.args.arena.now c.add_block-rear.new.self c.move_half.new.arena c.put_in_half.new.arena c.args.block c.args.place c.args.id c.add_block-rear.result c.height_at-height.result _ refl c.requires.forest c.requires.block c.requires.full c.requires.id c.requires.apart c.requires.differ (none_fits c.args.arena.now _) c.add_block-rear.ensures.fresh c.add_block-rear.ensures.leaves c.add_block-rear.ensures.spare c.add_block-rear.ensures.changes c.move_half.ensures c.put_in_half.ensures c.rename.new.arena c.rename.ensures.shape (none_resums c.put_in_half.new.arena c.rename.new.arena c.args.block)

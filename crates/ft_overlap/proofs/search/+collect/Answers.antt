@@ -23,7 +23,8 @@ returns-in-Leaf-clause-found g t c =
     let items : items_below s n ≡ c.in-Leaf.value ∷ [] = ap (λ (h : ℕ). items_under s h n) high ∙ ap (λ o. item_of o []) leaf in
     IfOk-weaker c.collect_item.result _ _ (λ more h. subst (λ (zs : List Item). Collects place c.args.range.now.low c.args.range.now.high zs (height_of s n) c.args.found.now.items c.collect_item.new.found.items
     c.args.steps.now c.read.new.steps more) (sym items) (subst (λ (k : ℕ). Collects place c.args.range.now.low c.args.range.now.high (c.in-Leaf.value ∷ []) k c.args.found.now.items
-    c.collect_item.new.found.items c.args.steps.now c.read.new.steps more) (sym high) (subst (λ (k : ℕ). Collects place c.args.range.now.low c.args.range.now.high (c.in-Leaf.value ∷ []) 0
+    c.collect_item.new.found.items c.args.steps.now c.read.new.steps more) (sym high)
+    (subst (λ (k : ℕ). Collects place c.args.range.now.low c.args.range.now.high (c.in-Leaf.value ∷ []) 0
     c.args.found.now.items c.collect_item.new.found.items c.args.steps.now k more) (sym c.read.ensures.tick) (h c.args.steps.now)))) c.collect_item.ensures
 
 pub returns-in-Leaf-clause-cheap : goal.returns-in-Leaf-clause-cheap
@@ -34,8 +35,10 @@ returns-in-Leaf-clause-cheap g t c =
     let high : height_of s n ≡ 0 = ap height_of_entry c.read.ensures.node ∙ ap height_of_node c.in-Leaf.is in
     let leaf : leaf_value s n ≡ Some c.in-Leaf.value = ap leaf_of_entry c.read.ensures.node ∙ ap leaf_of_node c.in-Leaf.is in
     let items : items_below s n ≡ c.in-Leaf.value ∷ [] = ap (λ (h : ℕ). items_under s h n) high ∙ ap (λ o. item_of o []) leaf in
-    subst (λ (k : ℕ). IsCheap (height_of s n) (length (keys_within place c.args.range.now.low c.args.range.now.high (items_below s n))) c.args.steps.now k) (sym c.read.ensures.tick)
-    (read_cheap place c.args.range.now.low c.args.range.now.high (height_of s n) (length (keys_within place c.args.range.now.low c.args.range.now.high (items_below s n))) c.args.steps.now)
+    subst (λ (k : ℕ). IsCheap (height_of s n) (length (keys_within place c.args.range.now.low c.args.range.now.high (items_below s n)))
+    c.args.steps.now k) (sym c.read.ensures.tick)
+    (read_cheap place c.args.range.now.low c.args.range.now.high (height_of s n)
+    (length (keys_within place c.args.range.now.low c.args.range.now.high (items_below s n))) c.args.steps.now)
 
 pub place-requires : goal.place-requires
 place-requires g t c =
@@ -54,8 +57,10 @@ returns-then-place-range-clause-found g t c =
     let place = g.P.Places.end_place c.args.at.now in
     let kids : kids_of s n ≡ c.in-Block.kids = ap kids_of_entry c.read.ensures.node ∙ ap kids_of_node c.in-Block.is in
     let value : block_value s n ≡ Some c.in-Block.value = ap block_of_entry c.read.ensures.node ∙ ap block_of_node c.in-Block.is in
-    subst (λ (k : ℕ). Collects place c.args.range.now.low c.args.range.now.high (items_below s n) (height_of s n) c.args.found.now.items c.args.found.now.items c.args.steps.now k true)
-    (sym c.read.ensures.tick) (passed_over place c.args.range.now.low c.args.range.now.high c.in-Block.value.sum.last (items_below s n) (height_of s n) c.args.found.now.items c.args.steps.now
+    subst (λ (k : ℕ). Collects place c.args.range.now.low c.args.range.now.high (items_below s n) (height_of s n) c.args.found.now.items
+    c.args.found.now.items c.args.steps.now k true)
+    (sym c.read.ensures.tick) (passed_over place c.args.range.now.low c.args.range.now.high c.in-Block.value.sum.last (items_below s n)
+    (height_of s n) c.args.found.now.items c.args.steps.now
     (c.requires.greatest n c.in-Block.value value) (subst (λ (z : ℤ). z <ℤ c.args.range.now.low) c.place.ensures (omega (arith, ints))))
 
 pub returns-then-place-range-clause-cheap : goal.returns-then-place-range-clause-cheap
@@ -65,8 +70,10 @@ returns-then-place-range-clause-cheap g t c =
     let place = g.P.Places.end_place c.args.at.now in
     let kids : kids_of s n ≡ c.in-Block.kids = ap kids_of_entry c.read.ensures.node ∙ ap kids_of_node c.in-Block.is in
     let value : block_value s n ≡ Some c.in-Block.value = ap block_of_entry c.read.ensures.node ∙ ap block_of_node c.in-Block.is in
-    subst (λ (k : ℕ). IsCheap (height_of s n) (length (keys_within place c.args.range.now.low c.args.range.now.high (items_below s n))) c.args.steps.now k) (sym c.read.ensures.tick)
-    (read_cheap place c.args.range.now.low c.args.range.now.high (height_of s n) (length (keys_within place c.args.range.now.low c.args.range.now.high (items_below s n))) c.args.steps.now)
+    subst (λ (k : ℕ). IsCheap (height_of s n) (length (keys_within place c.args.range.now.low c.args.range.now.high (items_below s n)))
+    c.args.steps.now k) (sym c.read.ensures.tick)
+    (read_cheap place c.args.range.now.low c.args.range.now.high (height_of s n)
+    (length (keys_within place c.args.range.now.low c.args.range.now.high (items_below s n))) c.args.steps.now)
 
 pub loop-kid-init : goal.loop-kid-init
 loop-kid-init g t c =
@@ -78,8 +85,11 @@ loop-kid-init g t c =
     record {
       few = omega (arith, c.len-few.ensures.value, c.len-few.ensures.few);
       inside = omega arith;
-      known = subst (λ (zs : List Item). AreKnown (g.P.Places.Knows c.args.at.now) zs) (b_all place c.args.range.now.low c.args.range.now.high s c.args._root n c.requires.tree c.in-Block.kids c.in-Block.value kids value) c.requires.known;
-      state = b_start place c.args.range.now.low c.args.range.now.high s c.args._root n c.requires.tree c.in-Block.kids c.in-Block.value kids value c.args.found.now.items c.read.new.steps;
+      known = subst (λ (zs : List Item). AreKnown (g.P.Places.Knows c.args.at.now) zs)
+          (b_all place c.args.range.now.low c.args.range.now.high s c.args._root n c.requires.tree c.in-Block.kids c.in-Block.value kids
+          value) c.requires.known;
+      state = b_start place c.args.range.now.low c.args.range.now.high s c.args._root n c.requires.tree c.in-Block.kids c.in-Block.value
+          kids value c.args.found.now.items c.read.new.steps;
     }
 
 pub collect-requires : goal.collect-requires
@@ -90,12 +100,19 @@ collect-requires g t c =
     let kids : kids_of s n ≡ c.in-Block.kids = ap kids_of_entry c.read.ensures.node ∙ ap kids_of_node c.in-Block.is in
     let value : block_value s n ≡ Some c.in-Block.value = ap block_of_entry c.read.ensures.node ∙ ap block_of_node c.in-Block.is in
     let there : slice_get c.in-Block.kids c.loop-kid.i ≡ Some c.in-Some.kid = sym c.get.ensures ∙ c.in-Some.is in
-    let kid_high : height_of s c.in-Some.kid ≡ height_of s n - 1 = k_high place c.args.range.now.low c.args.range.now.high s c.args._root n c.requires.tree c.in-Block.kids c.in-Block.value kids value c.loop-kid.i c.in-Some.kid there in
+    let kid_high : height_of s c.in-Some.kid ≡ height_of s n - 1 =
+    k_high place c.args.range.now.low c.args.range.now.high s c.args._root n c.requires.tree c.in-Block.kids c.in-Block.value kids
+    value c.loop-kid.i c.in-Some.kid there in
     let high = b_high place c.args.range.now.low c.args.range.now.high s c.args._root n c.requires.tree c.in-Block.kids c.in-Block.value kids value in
     let smaller : height_of s c.in-Some.kid < height_of s n = omega (arith, kid_high, high) in
-    let live = k_live place c.args.range.now.low c.args.range.now.high s c.args._root n c.requires.tree c.in-Block.kids c.in-Block.value kids value c.loop-kid.i c.in-Some.kid there in
-    let known : AreKnown (g.P.Places.Knows c.args.at.now) (items_below s c.in-Some.kid) = k_known place c.args.range.now.low c.args.range.now.high s c.args._root n c.requires.tree c.in-Block.kids c.in-Block.value kids value c.loop-kid.i c.in-Some.kid there (g.P.Places.Knows c.args.at.now) c.loop-kid.invariant.known in
-    let rising : IsRising place (items_below s c.in-Some.kid) = k_rising place c.args.range.now.low c.args.range.now.high s c.args._root n c.requires.tree c.in-Block.kids c.in-Block.value kids value c.loop-kid.i c.in-Some.kid there c.args.found.now.items c.loop-kid.found.items c.read.new.steps c.loop-kid.steps c.loop-kid.invariant.state c.requires.rising in
+    let live = k_live place c.args.range.now.low c.args.range.now.high s c.args._root n c.requires.tree c.in-Block.kids c.in-Block.value
+    kids value c.loop-kid.i c.in-Some.kid there in
+    let known : AreKnown (g.P.Places.Knows c.args.at.now) (items_below s c.in-Some.kid) =
+    k_known place c.args.range.now.low c.args.range.now.high s c.args._root n c.requires.tree c.in-Block.kids c.in-Block.value kids
+    value c.loop-kid.i c.in-Some.kid there (g.P.Places.Knows c.args.at.now) c.loop-kid.invariant.known in
+    let rising : IsRising place (items_below s c.in-Some.kid) = k_rising place c.args.range.now.low c.args.range.now.high s c.args._root n
+    c.requires.tree c.in-Block.kids c.in-Block.value kids value c.loop-kid.i c.in-Some.kid there c.args.found.now.items
+    c.loop-kid.found.items c.read.new.steps c.loop-kid.steps c.loop-kid.invariant.state c.requires.rising in
     search rules
 
 pub returns-in_err-collect-in-Block-clause-cheap : goal.returns-in_err-collect-in-Block-clause-cheap
@@ -148,7 +165,8 @@ loop-kid-preserved g t c =
     record {
       few = c.loop-kid.invariant.few;
       inside = omega (arith, slice_get_within c.in-Block.kids c.loop-kid.i c.in-Some.kid there);
-      known = k_known_rest place c.args.range.now.low c.args.range.now.high s c.args._root n c.requires.tree c.in-Block.kids c.in-Block.value kids value c.loop-kid.i c.in-Some.kid there (g.P.Places.Knows c.args.at.now) c.loop-kid.invariant.known;
+      known = k_known_rest place c.args.range.now.low c.args.range.now.high s c.args._root n c.requires.tree c.in-Block.kids
+          c.in-Block.value kids value c.loop-kid.i c.in-Some.kid there (g.P.Places.Knows c.args.at.now) c.loop-kid.invariant.known;
       state = k_step place c.args.range.now.low c.args.range.now.high s c.args._root n c.requires.tree c.in-Block.kids c.in-Block.value kids value c.loop-kid.i c.in-Some.kid there c.args.found.now.items c.loop-kid.found.items c.read.new.steps c.loop-kid.steps c.loop-kid.invariant.state c.collect.new.found.items c.collect.new.steps (subst (λ (m : Bool). Collects place c.args.range.now.low c.args.range.now.high (items_below s c.in-Some.kid) (height_of s c.in-Some.kid) c.loop-kid.found.items
           c.collect.new.found.items c.loop-kid.steps c.collect.new.steps m) c.if-not-branch.false c.in_ok-collect-in-Block.ensures.found);
     }

@@ -14,7 +14,8 @@ invariant-loop-kid g l =
       few : length l.kids ≤ 8;
       inside : l.i ≤ length l.kids;
       known : AreKnown (g.P.Places.Knows l.at) (items_of l.arena (below l.arena (height_of l.arena l.fn.node - 1) (drop l.i l.kids)));
-      state : Collecting (g.P.Places.end_place l.at) l.range.low l.range.high (items_below l.arena l.fn.node) (items_of l.arena (below l.arena (height_of l.arena l.fn.node - 1) (drop l.i l.kids)))
+      state : Collecting (g.P.Places.end_place l.at) l.range.low l.range.high (items_below l.arena l.fn.node)
+          (items_of l.arena (below l.arena (height_of l.arena l.fn.node - 1) (drop l.i l.kids)))
           (height_of l.arena l.fn.node - 1) l.i l.initial.found.items l.found.items l.initial.steps l.steps;
     }
 

@@ -21,7 +21,8 @@ pub regroup-requires-clause-rear_own : goal.regroup-requires-clause-rear_own
 regroup-requires-clause-rear_own g c = pr_rear_rear c.args.arena.now c.args.up c.args.front c.args.rear c.requires.forest c.requires.pair
 
 pub rename-requires-clause-block : goal.rename-requires-clause-block
-rename-requires-clause-block g c = rg_block c.args.arena.now c.args.up c.args.front c.args.rear c.requires.forest c.requires.pair c.regroup.new.arena _ c.regroup.ensures c.args.front c.requires.pair.front_block
+rename-requires-clause-block g c = rg_block c.args.arena.now c.args.up c.args.front c.args.rear c.requires.forest c.requires.pair
+    c.regroup.new.arena _ c.regroup.ensures c.args.front c.requires.pair.front_block
 
 pub rename-requires-clause-forest : goal.rename-requires-clause-forest
 rename-requires-clause-forest g c = c.regroup.ensures.forest
@@ -33,7 +34,8 @@ pub rename-requires-clause-filled : goal.rename-requires-clause-filled
 rename-requires-clause-filled g c = omega (arith, c.regroup.ensures.count, c.count_of.ensures.value, c.count_of-2.ensures.value, c.requires.many)
 
 pub rename-requires-clause-known : goal.rename-requires-clause-known
-rename-requires-clause-known g c = put_known (g.P.Places.Knows c.args.at.now) c.args.arena.now c.regroup.new.arena c.regroup.ensures.leaf_values c.regroup.ensures.block_values c.requires.known
+rename-requires-clause-known g c = put_known (g.P.Places.Knows c.args.at.now) c.args.arena.now c.regroup.new.arena
+    c.regroup.ensures.leaf_values c.regroup.ensures.block_values c.requires.known
 
 pub rename-requires-2-clause-block : goal.rename-requires-2-clause-block
 rename-requires-2-clause-block g c = kind_block (entry c.regroup.new.arena c.args.rear) (entry c.rename.new.arena c.args.rear)
@@ -79,7 +81,9 @@ returns-clause-one g c =
     (omega (arith, c.count_of.ensures.value, c.count_of-2.ensures.value, c.requires.many)) in
     let both = both_tell IsSpan c.args.arena.now c.regroup.new.arena c.rename.new.arena c.rename-2.new.arena c.args.front c.args.rear c.rename.ensures.one
     c.rename-2.ensures.shape c.rename-2.ensures.one c.requires.pair.differ
-    (ap (λ ks. times ks c.args.rear) (c.rename.ensures.shape.kids c.args.front) ∙ rg_front_rear c.args.arena.now c.args.up c.args.front c.args.rear c.requires.forest c.requires.pair c.regroup.new.arena _ c.regroup.ensures)
+    (ap (λ ks. times ks c.args.rear) (c.rename.ensures.shape.kids c.args.front)
+    ∙ rg_front_rear c.args.arena.now c.args.up c.args.front c.args.rear c.requires.forest c.requires.pair c.regroup.new.arena _
+    c.regroup.ensures)
     (λ x d. told_from_values c.args.arena.now c.regroup.new.arena x (c.regroup.ensures.leaf_values x) (c.regroup.ensures.block_values x)) in
     pair_keeps IsSpan c.args.arena.now c.rename-2.new.arena c.args.up c.args.front c.args.rear c.requires.forest c.requires.pair shares both c.requires.one
 
@@ -89,8 +93,12 @@ returns-clause-last g c =
     c.regroup.new.arena c.rename.new.arena c.rename-2.new.arena _ c.regroup.ensures c.rename.ensures.shape c.rename-2.ensures.shape
     (omega (arith, c.count_of.ensures.value, c.count_of-2.ensures.value, c.requires.many))
     (omega (arith, c.count_of.ensures.value, c.count_of-2.ensures.value, c.requires.many)) in
-    let both = both_tell (SpansLast (g.P.Places.end_place c.args.at.now)) c.args.arena.now c.regroup.new.arena c.rename.new.arena c.rename-2.new.arena c.args.front c.args.rear c.rename.ensures.last
+    let both = both_tell (SpansLast (g.P.Places.end_place c.args.at.now)) c.args.arena.now c.regroup.new.arena c.rename.new.arena
+    c.rename-2.new.arena c.args.front c.args.rear c.rename.ensures.last
     c.rename-2.ensures.shape c.rename-2.ensures.last c.requires.pair.differ
-    (ap (λ ks. times ks c.args.rear) (c.rename.ensures.shape.kids c.args.front) ∙ rg_front_rear c.args.arena.now c.args.up c.args.front c.args.rear c.requires.forest c.requires.pair c.regroup.new.arena _ c.regroup.ensures)
+    (ap (λ ks. times ks c.args.rear) (c.rename.ensures.shape.kids c.args.front)
+    ∙ rg_front_rear c.args.arena.now c.args.up c.args.front c.args.rear c.requires.forest c.requires.pair c.regroup.new.arena _
+    c.regroup.ensures)
     (λ x d. told_from_values c.args.arena.now c.regroup.new.arena x (c.regroup.ensures.leaf_values x) (c.regroup.ensures.block_values x)) in
-    pair_keeps (SpansLast (g.P.Places.end_place c.args.at.now)) c.args.arena.now c.rename-2.new.arena c.args.up c.args.front c.args.rear c.requires.forest c.requires.pair shares both c.requires.last
+    pair_keeps (SpansLast (g.P.Places.end_place c.args.at.now)) c.args.arena.now c.rename-2.new.arena c.args.up c.args.front c.args.rear
+    c.requires.forest c.requires.pair shares both c.requires.last

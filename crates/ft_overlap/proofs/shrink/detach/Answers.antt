@@ -49,7 +49,8 @@ fill_up-top-requires-clause-one g c = kids_keep IsSpan c.args.arena.now c.take_c
     c.take_child.ensures.takes.block_values c.take_child.ensures.takes.other_kids c.requires.one
 
 pub fill_up-top-requires-clause-last : goal.fill_up-top-requires-clause-last
-fill_up-top-requires-clause-last g c = kids_keep (SpansLast (g.P.Places.end_place c.args.at.now)) c.args.arena.now c.take_child.new.self c.in-Some.block c.take_child.ensures.takes.leaf_values
+fill_up-top-requires-clause-last g c = kids_keep (SpansLast (g.P.Places.end_place c.args.at.now)) c.args.arena.now c.take_child.new.self
+    c.in-Some.block c.take_child.ensures.takes.leaf_values
     c.take_child.ensures.takes.block_values c.take_child.ensures.takes.other_kids c.requires.last
 
 pub rename_up-requires-clause-tree : goal.rename_up-requires-clause-tree

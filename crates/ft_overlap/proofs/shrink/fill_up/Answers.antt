@@ -237,7 +237,8 @@ returns-then-count-eq1-clause-last g c =
     subst (λ (z : ℕ). DropsRoot c.up.arena c.drop_root-top.new.arena z c.drop_root-top.result) is_root c.drop_root-top.ensures in
     let is_top : c.up.block ≡ c.drop_root-top.result =
     fl_only c.up.arena c.args.root c.args._id c.up.block c.up.invariant.apart c.in-Some.up up c.drop_root-top.result (ap (kids_of c.up.arena) is_root ∙ drops.kids) in
-    gone_keeps (SpansLast (g.P.Places.end_place c.args.at.now)) c.up.arena c.drop_root-top.new.arena c.in-Some.up (Some c.drop_root-top.result) c.drop_root-top.ensures.forest c.drop_root-top.ensures.gone
+    gone_keeps (SpansLast (g.P.Places.end_place c.args.at.now)) c.up.arena c.drop_root-top.new.arena c.in-Some.up
+    (Some c.drop_root-top.result) c.drop_root-top.ensures.forest c.drop_root-top.ensures.gone
     (λ x d. told_from_values c.up.arena c.drop_root-top.new.arena x (c.drop_root-top.ensures.leaf_values x) (c.drop_root-top.ensures.block_values x d))
     c.drop_root-top.ensures.other_kids (subst (λ (z : ℕ). KeepsBut (SpansLast (g.P.Places.end_place c.args.at.now)) c.up.arena (Some z)) is_top c.up.invariant.last)
 

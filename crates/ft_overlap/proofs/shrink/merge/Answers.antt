@@ -132,8 +132,10 @@ returns-clause-last g c =
     c.take_child.new.self c.drop_block.new.self c.rename.new.arena (c.count_of.result + c.count_of-2.result) c.args.place c.requires.next
     (omega (arith, c.count_of.ensures.value, c.count_of-2.ensures.value)) c.regroup.ensures c.take_child.ensures.leaves takes c.drop_block.ensures.leaves
     c.drop_block.ensures.changes c.rename.ensures.shape (omega (arith, c.count_of.ensures.value, c.count_of-2.ensures.value, c.requires.many)) in
-    let both = one_tells (SpansLast (g.P.Places.end_place c.args.at.now)) c.args.arena.now c.drop_block.new.self c.rename.new.arena c.args.front c.args.rear c.rename.ensures.last c.requires.pair.differ
+    let both = one_tells (SpansLast (g.P.Places.end_place c.args.at.now)) c.args.arena.now c.drop_block.new.self c.rename.new.arena
+    c.args.front c.args.rear c.rename.ensures.last c.requires.pair.differ
     c.drop_block.ensures.changes.changed
     (λ x d. joined_told c.args.arena.now c.args.up c.args.front c.args.rear c.regroup.new.arena c.take_child.new.self c.drop_block.new.self
     (c.count_of.result + c.count_of-2.result) (c.args.place + 1) c.regroup.ensures takes c.drop_block.ensures.changes x d) in
-    pair_keeps (SpansLast (g.P.Places.end_place c.args.at.now)) c.args.arena.now c.rename.new.arena c.args.up c.args.front c.args.rear c.requires.forest c.requires.pair shares both c.requires.last
+    pair_keeps (SpansLast (g.P.Places.end_place c.args.at.now)) c.args.arena.now c.rename.new.arena c.args.up c.args.front c.args.rear
+    c.requires.forest c.requires.pair shares both c.requires.last

@@ -21,7 +21,8 @@ pub returns-then-is_only-clause-last : goal.returns-then-is_only-clause-last
 returns-then-is_only-clause-last g c = bare_keeps (SpansLast (g.P.Places.end_place c.args.at.now)) c.take_last.new.arena c.take_last.ensures.bare None
 
 pub returns-clause-last : goal.returns-clause-last
-returns-clause-last g c = unlinked_keeps (SpansLast (g.P.Places.end_place c.args.at.now)) c.detach-top.new.arena c.unlink.new.self c.args.id c.unlink.ensures.sound c.unlink.ensures.changes c.detach-top.ensures.last
+returns-clause-last g c = unlinked_keeps (SpansLast (g.P.Places.end_place c.args.at.now)) c.detach-top.new.arena c.unlink.new.self
+    c.args.id c.unlink.ensures.sound c.unlink.ensures.changes c.detach-top.ensures.last
 
 pub returns-clause-rooted : goal.returns-clause-rooted
 returns-clause-rooted g c = subst (λ (z : ℕ). IsTree c.unlink.new.self z) (sym c.top.view_is)
@@ -29,5 +30,6 @@ returns-clause-rooted g c = subst (λ (z : ℕ). IsTree c.unlink.new.self z) (sy
     c.unlink.ensures.leaves c.unlink.ensures.changes)
 
 pub returns-clause-takes : goal.returns-clause-takes
-returns-clause-takes g c = unlinked_takes c.detach-top.new.arena c.unlink.new.self c.detach-top.result c.args.id c.unlink.result c.detach-top.ensures.apart c.unlink.ensures.sound c.unlink.ensures.value
+returns-clause-takes g c = unlinked_takes c.detach-top.new.arena c.unlink.new.self c.detach-top.result c.args.id c.unlink.result
+    c.detach-top.ensures.apart c.unlink.ensures.sound c.unlink.ensures.value
     c.unlink.ensures.leaves c.unlink.ensures.changes c.args.arena.now c.detach-top.ensures.leaves c.detach-top.ensures.leaf_values
