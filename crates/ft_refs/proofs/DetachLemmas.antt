@@ -85,11 +85,13 @@ module _ (s0 s1 s2 s3 : Slab Slot) (es : List Ends) (e : Ends) (f2 l3 : Option �
         where
           nexts : (p : Option ℕ) → live_on s0 o' p ≡ 1 → next_slot s3 (ends_at es o').first p ≡ next_slot s0 (ends_at es o').first p
           nexts None h = refl
-          nexts (Some x) h = pv.nexts e.first (Some x) ∙ nx.others (Some x) (elsewhere o' n x h before before_live) ∙ nexts_other s0 s1 r _ e.first u (Some x) (elsewhere o' n x h (Some r) here)
+          nexts (Some x) h = pv.nexts e.first (Some x) ∙ nx.others (Some x) (elsewhere o' n x h before before_live)
+              ∙ nexts_other s0 s1 r _ e.first u (Some x) (elsewhere o' n x h (Some r) here)
 
           prevs : (p : Option ℕ) → live_on s0 o' p ≡ 1 → prev_of s3 (ends_at es o').last p ≡ prev_of s0 (ends_at es o').last p
           prevs None h = refl
-          prevs (Some x) h = pv.others (Some x) (elsewhere o' n x h after after_live) ∙ nx.prevs e.last (Some x) ∙ prevs_other s0 s1 r _ e.last u (Some x) (elsewhere o' n x h (Some r) here)
+          prevs (Some x) h = pv.others (Some x) (elsewhere o' n x h after after_live) ∙ nx.prevs e.last (Some x)
+              ∙ prevs_other s0 s1 r _ e.last u (Some x) (elsewhere o' n x h (Some r) here)
 
           lives' : (p : Option ℕ) → live_on s3 o' p ≡ live_on s0 o' p
           lives' None = refl

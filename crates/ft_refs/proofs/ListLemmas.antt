@@ -28,13 +28,15 @@ entries_at s r = elim (cases_lt r (length s.slots)) [
 ]
 
 -- a write of one slot that keeps its place
-pub entries_kept : (s : Slab Slot) (r : ℕ) (old new : Slot) → get s r ≡ Some old → place_of_slot new ≡ place_of_slot old → entries_of (with_value s r new) ≡ entries_of s
+pub entries_kept : (s : Slab Slot) (r : ℕ) (old new : Slot) → get s r ≡ Some old → place_of_slot new ≡ place_of_slot old
+    → entries_of (with_value s r new) ≡ entries_of s
 entries_kept s r old new found same =
     let l : r < length s.slots = ContainsKey-within s r (rw found refl) in
     let here : get_or (entries_of s) r None ≡ Some (place_of_slot new) = entries_at s r ∙ ap (option_map place_of_slot) found ∙ ap Some (sym same) in
     map-set (option_map place_of_slot) s.slots r (Some new) ∙ subst (λ (e : Option (Option Place)). set (entries_of s) r e ≡ entries_of s) here (set-get_or (entries_of s) r None)
 
-pub sets_next : (s : Slab Slot) (first to : Option ℕ) (r : ℕ) (slot : Slot) → get s r ≡ Some slot → SetsNext s first (with_value s r record { place = slot.place; prev = slot.prev; next = to }) first (Some r) to
+pub sets_next : (s : Slab Slot) (first to : Option ℕ) (r : ℕ) (slot : Slot) → get s r ≡ Some slot
+    → SetsNext s first (with_value s r record { place = slot.place; prev = slot.prev; next = to }) first (Some r) to
 sets_next s first to r slot found =
     let new : Slot = record { place = slot.place; prev = slot.prev; next = to } in
     let u : Updates s (with_value s r new) r (Some new) = Updates-with_value s r new (rw found refl) in
@@ -51,7 +53,8 @@ sets_next s first to r slot found =
       entries = entries_kept s r slot new found refl;
     }
 
-pub sets_prev : (s : Slab Slot) (last to : Option ℕ) (r : ℕ) (slot : Slot) → get s r ≡ Some slot → SetsPrev s last (with_value s r record { place = slot.place; prev = to; next = slot.next }) last (Some r) to
+pub sets_prev : (s : Slab Slot) (last to : Option ℕ) (r : ℕ) (slot : Slot) → get s r ≡ Some slot
+    → SetsPrev s last (with_value s r record { place = slot.place; prev = to; next = slot.next }) last (Some r) to
 sets_prev s last to r slot found =
     let new : Slot = record { place = slot.place; prev = to; next = slot.next } in
     let u : Updates s (with_value s r new) r (Some new) = Updates-with_value s r new (rw found refl) in
@@ -137,7 +140,8 @@ seen_sound s es f =
       held = λ o r h. omega (arith, f.held o r h, length-map es (λ (e : Ends). list_from s e.first));
     }
   where
-    stands : (q : Option (Option Place)) (o : ℕ) → owner_of_place (place_of_entry q) ≡ Some o → q ≡ Some (Some record { owner = o; offset = offset_or (place_of_entry q) })
+    stands : (q : Option (Option Place)) (o : ℕ) → owner_of_place (place_of_entry q) ≡ Some o
+        → q ≡ Some (Some record { owner = o; offset = offset_or (place_of_entry q) })
     stands None o h = cc
     stands (Some None) o h = cc
     stands (Some (Some p)) o h = let e : p.owner ≡ o = cc in ap (λ z. Some (Some record { owner = z; offset = p.offset })) e
@@ -165,7 +169,8 @@ lists_longer s es es' owner m f =
       held = λ o r h. omega (arith, f.held o r h, m.longer);
     }
 
-pub list_longer : (s : Slab Slot) (es es' : List Ends) (owner : ℕ) → MakesRoom es es' owner → (o : ℕ) → references_of (shown_lists s es') o ≡ references_of (shown_lists s es) o
+pub list_longer : (s : Slab Slot) (es es' : List Ends) (owner : ℕ) → MakesRoom es es' owner → (o : ℕ)
+    → references_of (shown_lists s es') o ≡ references_of (shown_lists s es) o
 list_longer s es es' owner m o = list_at s es' o ∙ ap (λ (e : Ends). list_from s e.first) (m.same o) ∙ sym (list_at s es o)
 
 -- the references of a list keep their offsets
@@ -186,13 +191,15 @@ live_has_slot s o (Some x) h = filled (get s x) (ap (λ q. points (owner_of_plac
     filled (Some slot) h = refl
 
 -- what a change of one slot leaves of the others
-pub entries_other : (s s' : Slab Slot) (r : ℕ) (q : Option Slot) → Updates s s' r q → (x : ℕ) → x ≢ r → get_or (entries_of s') x None ≡ get_or (entries_of s) x None
+pub entries_other : (s s' : Slab Slot) (r : ℕ) (q : Option Slot) → Updates s s' r q → (x : ℕ) → x ≢ r
+    → get_or (entries_of s') x None ≡ get_or (entries_of s) x None
 entries_other s s' r q u x d = entries_at s' x ∙ ap (option_map place_of_slot) (u.others x d) ∙ sym (entries_at s x)
 
 pub entries_here : (s s' : Slab Slot) (r : ℕ) (q : Option Slot) → Updates s s' r q → get_or (entries_of s') r None ≡ option_map place_of_slot q
 entries_here s s' r q u = entries_at s' r ∙ ap (option_map place_of_slot) u.changed
 
-pub nexts_other : (s s' : Slab Slot) (r : ℕ) (q : Option Slot) (e : Option ℕ) → Updates s s' r q → (p : Option ℕ) → p ≢ Some r → next_slot s' e p ≡ next_slot s e p
+pub nexts_other : (s s' : Slab Slot) (r : ℕ) (q : Option Slot) (e : Option ℕ) → Updates s s' r q → (p : Option ℕ) → p ≢ Some r
+    → next_slot s' e p ≡ next_slot s e p
 nexts_other s s' r q e u None d = refl
 nexts_other s s' r q e u (Some x) d = ap next_of_slot (u.others x (λ z. d (ap Some z)))
 
@@ -205,7 +212,8 @@ lives_same s s' o h None = refl
 lives_same s s' o h (Some x) = h x
 
 -- a reference that is on no owner is made, changed or taken away
-module _ (s s' : Slab Slot) (es : List Ends) (r : ℕ) (q : Option Slot) (f : AreLists s es) (idle : owner_at s r ≡ None) (u : Updates s s' r q) (idle' : owner_of_place (place_of_entry (option_map place_of_slot q)) ≡ None) where
+module _ (s s' : Slab Slot) (es : List Ends) (r : ℕ) (q : Option Slot) (f : AreLists s es) (idle : owner_at s r ≡ None)
+    (u : Updates s s' r q) (idle' : owner_of_place (place_of_entry (option_map place_of_slot q)) ≡ None) where
   owners : (x : ℕ) → owner_at s' x ≡ owner_at s x
   owners x = elim (cases_eq x r) [
     | inl e ↦ ap (owner_at s') e ∙ ap (λ z. owner_of_place (place_of_entry z)) (entries_here s s' r q u) ∙ idle' ∙ sym idle ∙ ap (owner_at s) (sym e)
@@ -217,7 +225,9 @@ module _ (s s' : Slab Slot) (es : List Ends) (r : ℕ) (q : Option Slot) (f : Ar
 
   linked : (o : ℕ) → IsLinked (live_on s' o) (next_slot s' (ends_at es o).first) (prev_of s' (ends_at es o).last) (refs_from s (ends_at es o).first)
   linked o =
-      links_kept s s' o (ends_at es o) (λ p h. nexts_other s s' r q (ends_at es o).first u p (apart o p h)) (λ p h. prevs_other s s' r q (ends_at es o).last u p (apart o p h)) (lives_same s s' o (λ x. ap (λ z. points z o) (owners x))) (f.links o)
+      links_kept s s' o (ends_at es o) (λ p h. nexts_other s s' r q (ends_at es o).first u p (apart o p h))
+      (λ p h. prevs_other s s' r q (ends_at es o).last u p (apart o p h)) (lives_same s s' o (λ x. ap (λ z. points z o) (owners x)))
+      (f.links o)
 
   pub idle_lists : AreLists s' es
   idle_lists = record { links = λ o. links_from s' o (ends_at es o) _ (linked o); held = λ o x h. f.held o x (sym (owners x) ∙ h) }
@@ -251,16 +261,19 @@ pub idle_without : (v : RefLists) (r : ℕ) → IsRefs v → seen.owner_of v r �
 idle_without v r f h o = sym (without_absent (references_of v o) r (f.once o r ∙ ap (λ q. points q o) h))
 
 -- the slot of an attached reference, and its owner
-pub slot_at : (s : Slab Slot) (r : ℕ) (slot : Slot) (p : Place) → get s r ≡ Some slot → slot.place ≡ Some p → get s r ≡ Some record { place = Some record { owner = p.owner; offset = p.offset }; prev = slot.prev; next = slot.next }
+pub slot_at : (s : Slab Slot) (r : ℕ) (slot : Slot) (p : Place) → get s r ≡ Some slot → slot.place ≡ Some p
+    → get s r ≡ Some record { place = Some record { owner = p.owner; offset = p.offset }; prev = slot.prev; next = slot.next }
 slot_at s r slot p h q =
     let f : Option Place → Option Slot = λ z. Some record { place = z; prev = slot.prev; next = slot.next } in
     h ∙ ap f q
 
-pub owner_in : (s : Slab Slot) (es : List Ends) (r : ℕ) (slot : Slot) (p : Place) → AreLists s es → get s r ≡ Some slot → slot.place ≡ Some p → p.owner < length es
+pub owner_in : (s : Slab Slot) (es : List Ends) (r : ℕ) (slot : Slot) (p : Place) → AreLists s es → get s r ≡ Some slot
+    → slot.place ≡ Some p → p.owner < length es
 owner_in s es r slot p f h q = f.held p.owner r (ap (λ z. owner_of_place (place_of_entry z)) (entries_at s r ∙ ap (option_map place_of_slot) h) ∙ ap owner_of_place q)
 
 -- a fact of the value, read at the fields
-pub at_view : (P : RefLists → ℕ → Type 0) (s : Slab Slot) (es : List Ends) (v : RefLists) (i k : ℕ) → shown_lists s es ≡ v → i ≡ k → P v k → P (shown_lists s es) i
+pub at_view : (P : RefLists → ℕ → Type 0) (s : Slab Slot) (es : List Ends) (v : RefLists) (i k : ℕ) → shown_lists s es ≡ v → i ≡ k → P v k
+    → P (shown_lists s es) i
 at_view P s es v i k e q h = subst (λ (z : RefLists). P z i) (sym e) (subst (λ (j : ℕ). P v j) (sym q) h)
 
 pub held_within : (s : Slab Slot) (es : List Ends) (v : RefLists) (i k : ℕ) → shown_lists s es ≡ v → i ≡ k → k < length v.lists → i < length es
@@ -272,21 +285,27 @@ read_at es o e l h = sym (h ∙ get_or_default es o e no_ends l)
 
 -- what `first` and `next` answer
 pub first_is : (s : Slab Slot) (es : List Ends) (o : ℕ) (e : Ends) → AreLists s es → ends_at es o ≡ e → e.first ≡ first (ids_of (shown_lists s es) o)
-first_is s es o e f h = ap (λ (z : Ends). z.first) (sym h) ∙ IsWalk-first (next_slot s (ends_at es o).first) (ends_at es o).first (refs_from s (ends_at es o).first) (f.links o).walks ∙ ap first (sym (ids_at s es o))
+first_is s es o e f h = ap (λ (z : Ends). z.first) (sym h) ∙ IsWalk-first (next_slot s (ends_at es o).first) (ends_at es o).first
+    (refs_from s (ends_at es o).first) (f.links o).walks ∙ ap first (sym (ids_at s es o))
 
-pub next_is : (s : Slab Slot) (es : List Ends) (r : ℕ) (slot : Slot) (p : Place) → AreLists s es → get s r ≡ Some slot → slot.place ≡ Some p → slot.next ≡ seen.next_of (shown_lists s es) r
+pub next_is : (s : Slab Slot) (es : List Ends) (r : ℕ) (slot : Slot) (p : Place) → AreLists s es → get s r ≡ Some slot
+    → slot.place ≡ Some p → slot.next ≡ seen.next_of (shown_lists s es) r
 next_is s es r slot p f h q =
     let owner : owner_at s r ≡ Some p.owner = ap (λ z. owner_of_place (place_of_entry z)) (entries_at s r ∙ ap (option_map place_of_slot) h) ∙ ap owner_of_place q in
     let l = f.links p.owner in
     let once : times (refs_from s (ends_at es p.owner).first) r ≡ 1 = l.once r ∙ ap (λ z. points z p.owner) owner ∙ same_refl p.owner in
-    sym (ap next_of_slot h) ∙ IsWalk-after (next_slot s (ends_at es p.owner).first) (ends_at es p.owner).first (refs_from s (ends_at es p.owner).first) r l.walks (omega (arith, once)) ∙ ap (λ xs. after xs r) (sym (ids_at s es p.owner)) ∙ ap (option_and_then (λ o. after (ids_of (shown_lists s es) o) r)) (sym owner)
+    sym (ap next_of_slot h) ∙ IsWalk-after (next_slot s (ends_at es p.owner).first) (ends_at es p.owner).first
+    (refs_from s (ends_at es p.owner).first) r l.walks (omega (arith, once)) ∙ ap (λ xs. after xs r) (sym (ids_at s es p.owner))
+    ∙ ap (option_and_then (λ o. after (ids_of (shown_lists s es) o) r)) (sym owner)
 
 -- the lists after room was asked for
-pub lists_after_room : {X E : Type 0} (s : Slab Slot) (es es' : List Ends) (owner : ℕ) (r : Result X E) → IfOk r (λ _. MakesRoom es es' owner) → OnErr r (es' ≡ es) → AreLists s es → AreLists s es'
+pub lists_after_room : {X E : Type 0} (s : Slab Slot) (es es' : List Ends) (owner : ℕ) (r : Result X E)
+    → IfOk r (λ _. MakesRoom es es' owner) → OnErr r (es' ≡ es) → AreLists s es → AreLists s es'
 lists_after_room s es es' owner (Ok x) m n f = lists_longer s es es' owner m f
 lists_after_room s es es' owner (Err x) m n f = subst (λ (zs : List Ends). AreLists s zs) (sym n) f
 
-pub holds_after_room : {X E : Type 0} (s : Slab Slot) (es es' : List Ends) (owner : ℕ) (r : Result X E) → IfOk r (λ _. MakesRoom es es' owner) → IfOk r (λ _. seen.Holds (shown_lists s es) (shown_lists s es') owner)
+pub holds_after_room : {X E : Type 0} (s : Slab Slot) (es es' : List Ends) (owner : ℕ) (r : Result X E)
+    → IfOk r (λ _. MakesRoom es es' owner) → IfOk r (λ _. seen.Holds (shown_lists s es) (shown_lists s es') owner)
 holds_after_room s es es' owner (Ok x) m =
     record {
       held = omega (arith, m.held, length-map es' (λ (e : Ends). list_from s e.first));
@@ -297,7 +316,10 @@ holds_after_room s es es' owner (Ok x) m =
 holds_after_room s es es' owner (Err x) m = tt
 
 -- the lists after a detached reference was made in slots with room
-pub made_list : (s0 s1 s2 : Slab Slot) (es es' : List Ends) (owner r : ℕ) (q : Option Slot) → s1.slots ≡ s0.slots → AreLists s0 es → MakesRoom es es' owner → get s1 r ≡ None → Updates s1 s2 r q → owner_of_place (place_of_entry (option_map place_of_slot q)) ≡ None → (o : ℕ) → references_of (shown_lists s2 es') o ≡ references_of (shown_lists s0 es) o
+pub made_list : (s0 s1 s2 : Slab Slot) (es es' : List Ends) (owner r : ℕ) (q : Option Slot) → s1.slots ≡ s0.slots → AreLists s0 es
+    → MakesRoom es es' owner → get s1 r ≡ None → Updates s1 s2 r q → owner_of_place (place_of_entry (option_map place_of_slot q)) ≡ None
+    → (o : ℕ) → references_of (shown_lists s2 es') o ≡ references_of (shown_lists s0 es) o
 made_list s0 s1 s2 es es' owner r q same f m vacant u none o =
-    idle_list s1 s2 es' r q (lists_longer s1 es es' owner m (lists_same s0 s1 es same f)) (ap (λ z. owner_of_place (place_of_entry z)) (entries_at s1 r ∙ ap (option_map place_of_slot) vacant)) u none o
+    idle_list s1 s2 es' r q (lists_longer s1 es es' owner m (lists_same s0 s1 es same f))
+    (ap (λ z. owner_of_place (place_of_entry z)) (entries_at s1 r ∙ ap (option_map place_of_slot) vacant)) u none o
     ∙ list_longer s1 es es' owner m o ∙ ap (λ (v : RefLists). references_of v o) (shown_same s0 s1 es same)

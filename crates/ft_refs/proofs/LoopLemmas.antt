@@ -26,33 +26,39 @@ pub record Standing (v : RefLists) (from r off : ℕ) (done rest : List (ℕ × 
   pub not_done : times (ids done) r ≡ 0
   pub not_behind : times (ids behind) r ≡ 0
 
-pub standing : (v : RefLists) (from r : ℕ) (done rest : List (ℕ × ℕ)) → IsRefs v → references_of v from ≡ done ++ rest → first (ids rest) ≡ Some r → (off : ℕ) × Standing v from r off done rest
+pub standing : (v : RefLists) (from r : ℕ) (done rest : List (ℕ × ℕ)) → IsRefs v → references_of v from ≡ done ++ rest
+    → first (ids rest) ≡ Some r → (off : ℕ) × Standing v from r off done rest
 standing v from r done [] f l h = cc
 standing v from r done (x ∷ xs) f l h =
     let e : x.0 ≡ r = cc in
     let on : AreOn v from (x ∷ xs) = on_rest v from done (x ∷ xs) (subst (λ (zs : List (ℕ × ℕ)). AreOn v from zs) l (f.on from)) in
     let here : entry v r ≡ Some (Some record { owner = from; offset = x.1 }) = subst (λ (z : ℕ). entry v z ≡ Some (Some record { owner = from; offset = x.1 })) e on.0 in
-    let one : times (ids (done ++ x ∷ xs)) r ≡ 1 = ap (λ zs. times (ids zs) r) (sym l) ∙ f.once from r ∙ ap (λ q. points (owner_of_place (place_of_entry q)) from) here ∙ same_refl from in
+    let one : times (ids (done ++ x ∷ xs)) r ≡ 1 = ap (λ zs. times (ids zs) r) (sym l) ∙ f.once from r
+    ∙ ap (λ q. points (owner_of_place (place_of_entry q)) from) here ∙ same_refl from in
     let s : same x.0 r ≡ 1 = subst (λ (z : ℕ). same z r ≡ 1) (sym e) (same_refl r) in (
       x.1,
       record { behind = xs; is = ap (λ z. (z, x.1) ∷ xs) e; stands = here; not_done = omega (arith, times-ids done (x ∷ xs) r, one, s); not_behind = omega (arith, times-ids done (x ∷ xs) r, one, s) },
     )
 
-pub offset_some : (v : RefLists) (from r : ℕ) (done rest : List (ℕ × ℕ)) → IsRefs v → references_of v from ≡ done ++ rest → first (ids rest) ≡ Some r → IsSome (offset_of v r)
+pub offset_some : (v : RefLists) (from r : ℕ) (done rest : List (ℕ × ℕ)) → IsRefs v → references_of v from ≡ done ++ rest
+    → first (ids rest) ≡ Some r → IsSome (offset_of v r)
 offset_some v from r done rest f l h = let s = standing v from r done rest f l h in rw s.1.stands refl
 
-pub live_at : (v : RefLists) (from r : ℕ) (done rest : List (ℕ × ℕ)) → IsRefs v → references_of v from ≡ done ++ rest → first (ids rest) ≡ Some r → IsSome (entry v r)
+pub live_at : (v : RefLists) (from r : ℕ) (done rest : List (ℕ × ℕ)) → IsRefs v → references_of v from ≡ done ++ rest
+    → first (ids rest) ≡ Some r → IsSome (entry v r)
 live_at v from r done rest f l h = let s = standing v from r done rest f l h in rw s.1.stands refl
 
 -- the same with the offset that was read
-pub standing_at : (v : RefLists) (from r off : ℕ) (done rest : List (ℕ × ℕ)) → IsRefs v → references_of v from ≡ done ++ rest → first (ids rest) ≡ Some r → offset_of v r ≡ Some off → Standing v from r off done rest
+pub standing_at : (v : RefLists) (from r off : ℕ) (done rest : List (ℕ × ℕ)) → IsRefs v → references_of v from ≡ done ++ rest
+    → first (ids rest) ≡ Some r → offset_of v r ≡ Some off → Standing v from r off done rest
 standing_at v from r off done rest f l h o =
     let s = standing v from r done rest f l h in
     let q : Some s.0 ≡ Some off = sym (rw s.1.stands refl) ∙ o in
     let e : s.0 ≡ off = cc in
     subst (λ (z : ℕ). Standing v from r z done rest) e s.1
 
-without-append : (done behind : List (ℕ × ℕ)) (r off : ℕ) → times (ids done) r ≡ 0 → times (ids behind) r ≡ 0 → without_reference (done ++ (r, off) ∷ behind) r ≡ done ++ behind
+without-append : (done behind : List (ℕ × ℕ)) (r off : ℕ) → times (ids done) r ≡ 0 → times (ids behind) r ≡ 0
+    → without_reference (done ++ (r, off) ∷ behind) r ≡ done ++ behind
 without-append [] behind r off d b = grind (arith, common_steps, without_absent behind r b)
 without-append (x ∷ xs) behind r off d b = elim (cases_eq x.0 r) [
   | inl e ↦ absurd (omega (arith, same_refl x.0, ap (same x.0) e))
@@ -66,7 +72,8 @@ after-append (x ∷ xs) behind r off d = elim (cases_eq x.0 r) [
   | inr n ↦ grind (arith, common_steps, after-append xs behind r off)
 ]
 
-module _ (v : RefLists) (from r off : ℕ) (done rest : List (ℕ × ℕ)) (f : IsRefs v) (l : references_of v from ≡ done ++ rest) (s : Standing v from r off done rest) where
+module _ (v : RefLists) (from r off : ℕ) (done rest : List (ℕ × ℕ)) (f : IsRefs v) (l : references_of v from ≡ done ++ rest)
+    (s : Standing v from r off done rest) where
   whole : references_of v from ≡ done ++ (r, off) ∷ s.behind
   whole = l ∙ ap (λ zs. done ++ zs) s.is
 
@@ -77,14 +84,17 @@ module _ (v : RefLists) (from r off : ℕ) (done rest : List (ℕ × ℕ)) (f : 
   elsewhere o d = without_absent (references_of v o) r (f.once o r ∙ ap (λ q. points (owner_of_place (place_of_entry q)) o) s.stands ∙ same_other from o (λ e. d (sym e)))
 
   pub next_behind : next_of v r ≡ first (ids s.behind)
-  next_behind = ap (λ q. option_and_then (λ o. after (ids_of v o) r) (owner_of_place (place_of_entry q))) s.stands ∙ ap (λ zs. after (ids zs) r) whole ∙ after-append done s.behind r off s.not_done
+  next_behind = ap (λ q. option_and_then (λ o. after (ids_of v o) r) (owner_of_place (place_of_entry q))) s.stands
+      ∙ ap (λ zs. after (ids zs) r) whole ∙ after-append done s.behind r off s.not_done
 
 -- a change of each place
 abbrev pub each_place : (Place → Place) → Option (Option Place) → Option (Option Place)
 each_place g q = option_map (option_map g) q
 
 -- one reference went to another owner, where the change no more moves it
-pub refs_step : (g : Place → Place) (old v new : RefLists) (r : ℕ) (p q : Place) → entry v r ≡ Some (Some p) → ChangesOne v new r (Some (Some q)) → g p ≡ q → g q ≡ q → ((x : ℕ) → each_place g (entry v x) ≡ each_place g (entry old x)) → (x : ℕ) → each_place g (entry new x) ≡ each_place g (entry old x)
+pub refs_step : (g : Place → Place) (old v new : RefLists) (r : ℕ) (p q : Place) → entry v r ≡ Some (Some p)
+    → ChangesOne v new r (Some (Some q)) → g p ≡ q → g q ≡ q → ((x : ℕ) → each_place g (entry v x) ≡ each_place g (entry old x)) → (x : ℕ)
+    → each_place g (entry new x) ≡ each_place g (entry old x)
 refs_step g old v new r p q was c gp gq h x = elim (cases_eq x r) [
   | inl e ↦
       let k : each_place g (entry new r) ≡ each_place g (entry v r) = ap (each_place g) c.changed ∙ ap (λ z. Some (Some z)) (gq ∙ sym gp) ∙ sym (ap (each_place g) was) in
@@ -112,19 +122,24 @@ pub record Splices (old v : RefLists) (from to add : ℕ) : Type 0 where
   pub refs : (r : ℕ) → each_place (raised_place from to add) (entry v r) ≡ each_place (raised_place from to add) (entry old r)
   pub fits : AllBelow add (2 ^ 64) (references_of v from)
 
-module _ (old v new : RefLists) (from to add r off : ℕ) (f : IsRefs v) (h : first (ids_of v from) ≡ Some r) (o : offset_of v r ≡ Some off) (differ : to ≢ from) (k : Splices old v from to add) where
+module _ (old v new : RefLists) (from to add r off : ℕ) (f : IsRefs v) (h : first (ids_of v from) ≡ Some r) (o : offset_of v r ≡ Some off)
+    (differ : to ≢ from) (k : Splices old v from to add) where
   s : Standing v from r off [] (references_of v from)
   s = standing_at v from r off [] (references_of v from) f refl h o
 
   pub splice_fits : off + add < 2 ^ 64
   splice_fits = (subst (λ (zs : List (ℕ × ℕ)). AllBelow add (2 ^ 64) zs) s.is k.fits).0
 
-  module _ (list : references_of new to ≡ without_reference (references_of v to) r ++ (r, off + add) ∷ []) (others : (o : ℕ) → o ≢ to → references_of new o ≡ without_reference (references_of v o) r) (changes : ChangesOne v new r (Some (Some record { owner = to; offset = off + add }))) (same_held : length new.lists ≡ length v.lists) where
+  module _ (list : references_of new to ≡ without_reference (references_of v to) r ++ (r, off + add) ∷ [])
+      (others : (o : ℕ) → o ≢ to → references_of new o ≡ without_reference (references_of v o) r)
+      (changes : ChangesOne v new r (Some (Some record { owner = to; offset = off + add })))
+      (same_held : length new.lists ≡ length v.lists) where
     from_new : references_of new from ≡ s.behind
     from_new = others from (λ e. differ (sym e)) ∙ taken v from r off [] (references_of v from) f refl s
 
     pub splice_shorter : length (references_of new from) < length (references_of v from)
-    splice_shorter = let a : length (references_of v from) ≡ length ((r, off) ∷ s.behind) = ap length s.is in let b : length (references_of new from) ≡ length s.behind = ap length from_new in omega (arith, a, b)
+    splice_shorter = let a : length (references_of v from) ≡ length ((r, off) ∷ s.behind) = ap length s.is in
+        let b : length (references_of new from) ≡ length s.behind = ap length from_new in omega (arith, a, b)
 
     pub splice_step : Splices old new from to add
     splice_step =
@@ -218,7 +233,8 @@ count_at (x ∷ xs) behind r off h = elim (cases_eq x.0 r) [
 ]
 
 -- that is the rest
-pub count_is : (old v : RefLists) (from at to : ℕ) (ahead : Option ℕ) (k : Splits old v from at to ahead) → count_from ahead (references_of v from) ≡ length k.rest
+pub count_is : (old v : RefLists) (from at to : ℕ) (ahead : Option ℕ) (k : Splits old v from at to ahead)
+    → count_from ahead (references_of v from) ≡ length k.rest
 count_is old v from at to None k =
     let e : k.rest ≡ [] = empty k.rest (λ r q. let z : None ≡ Some r = sym k.starts ∙ q in cc) in
     count_none (references_of v from) ∙ sym (ap length e)
@@ -226,7 +242,8 @@ count_is old v from at to (Some r) k =
     let s = standing v from r k.done k.rest k.sound k.list k.starts in
     ap (count_from (Some r)) (k.list ∙ ap (λ zs. k.done ++ zs) s.1.is) ∙ count_at k.done s.1.behind r s.0 s.1.not_done ∙ sym (ap length s.1.is)
 
-module _ (old v : RefLists) (from at to r off : ℕ) (o : offset_of v r ≡ Some off) (k : Splits old v from at to (Some r)) (ahead : Option ℕ) (a : ahead ≡ next_of v r) where
+module _ (old v : RefLists) (from at to r off : ℕ) (o : offset_of v r ≡ Some off) (k : Splits old v from at to (Some r)) (ahead : Option ℕ)
+    (a : ahead ≡ next_of v r) where
   t : Standing v from r off k.done k.rest
   t = standing_at v from r off k.done k.rest k.sound k.list k.starts o
 
@@ -284,7 +301,8 @@ offset_in None = 0
 offset_in (Some None) = 0
 offset_in (Some (Some p)) = p.offset
 
-low_in : (v : RefLists) (from at r : ℕ) (p : Place) (xs : List (ℕ × ℕ)) → AreOn v from xs → AllLow at xs → 1 ≤ times (ids xs) r → entry v r ≡ Some (Some p) → p.offset < at
+low_in : (v : RefLists) (from at r : ℕ) (p : Place) (xs : List (ℕ × ℕ)) → AreOn v from xs → AllLow at xs → 1 ≤ times (ids xs) r
+    → entry v r ≡ Some (Some p) → p.offset < at
 low_in v from at r p [] on low i h = absurd (omega arith)
 low_in v from at r p (x ∷ xs) on low i h = elim (cases_eq x.0 r) [
   | inl e ↦
@@ -294,7 +312,8 @@ low_in v from at r p (x ∷ xs) on low i h = elim (cases_eq x.0 r) [
   | inr d ↦ low_in v from at r p xs on.1 low.1 (omega (arith, same_other x.0 r d)) h
 ]
 
-split_keeps : (from at to : ℕ) (q : Option (Option Place)) → ((p : Place) → q ≡ Some (Some p) → p.owner ≡ from → p.offset < at) → each_place (split_place from at to) q ≡ q
+split_keeps : (from at to : ℕ) (q : Option (Option Place)) → ((p : Place) → q ≡ Some (Some p) → p.owner ≡ from → p.offset < at)
+    → each_place (split_place from at to) q ≡ q
 split_keeps from at to None h = refl
 split_keeps from at to (Some None) h = refl
 split_keeps from at to (Some (Some p)) h = elim (cases_eq p.owner from) [

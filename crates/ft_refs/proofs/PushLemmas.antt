@@ -16,7 +16,8 @@ use Rattle.ft_refs.specs.Links.{next_of_slot, prev_of_slot, next_slot, prev_of, 
 use Rattle.ft_refs.proofs.ListLemmas.{linked_from, refs_is, links_from, links_kept, list_at, offsets_kept, live_has_slot, entries_other, entries_here, nexts_other, prevs_other}
 
 -- what is put after the last reference stands at the end
-insert_last : (next : Option ℕ → Option ℕ) (at : Option ℕ) (xs : List ℕ) (a r : ℕ) → IsWalk next at xs → next (Some a) ≡ None → times xs a ≡ 1 → insert_after xs a r ≡ xs ++ r ∷ []
+insert_last : (next : Option ℕ → Option ℕ) (at : Option ℕ) (xs : List ℕ) (a r : ℕ) → IsWalk next at xs → next (Some a) ≡ None
+    → times xs a ≡ 1 → insert_after xs a r ≡ xs ++ r ∷ []
 insert_last next at [] a r w h i = absurd (omega arith)
 insert_last next at (y ∷ ys) a r w h i = elim (cases_eq y a) [
   | inl e ↦ alone ys e w.1
@@ -27,7 +28,8 @@ insert_last next at (y ∷ ys) a r w h i = elim (cases_eq y a) [
     alone [] e v = subst (λ (z : ℕ). insert_after (z ∷ []) a r ≡ z ∷ [] ++ r ∷ []) (sym e) (insert_after_here [] a r (omega (arith, same_refl a)))
     alone (z ∷ zs) e v = let n : next (Some y) ≡ None = ap (λ k. next (Some k)) e ∙ h in cc (v.0, n)
 
-put_last : (next : Option ℕ → Option ℕ) (xs : List ℕ) (p : Option ℕ) (r : ℕ) → IsWalk next (next None) xs → next p ≡ None → IsIn xs p → put_after xs p r ≡ xs ++ r ∷ []
+put_last : (next : Option ℕ → Option ℕ) (xs : List ℕ) (p : Option ℕ) (r : ℕ) → IsWalk next (next None) xs → next p ≡ None → IsIn xs p
+    → put_after xs p r ≡ xs ++ r ∷ []
 put_last next [] None r w h i = refl
 put_last next (y ∷ ys) None r w h i = cc (w.0, h)
 put_last next xs (Some a) r w h i = insert_last next (next None) xs a r w h i
@@ -97,7 +99,8 @@ module _ (s0 s1 s2 : Slab Slot) (es : List Ends) (e : Ends) (f2 : Option ℕ) (r
       where
         nexts : (p : Option ℕ) → live_on s0 o' p ≡ 1 → next_slot s2 (ends_at es o').first p ≡ next_slot s0 (ends_at es o').first p
         nexts None h = refl
-        nexts (Some x) h = nx.others (Some x) (λ q. omega (arith, ap (live_on s0 o) q, last_live, points_other o' o (owner_at s0 x) n h)) ∙ nexts_other s0 s1 r _ e.first u (Some x) (apart o' (Some x) h)
+        nexts (Some x) h = nx.others (Some x) (λ q. omega (arith, ap (live_on s0 o) q, last_live, points_other o' o (owner_at s0 x) n h))
+            ∙ nexts_other s0 s1 r _ e.first u (Some x) (apart o' (Some x) h)
 
         prevs : (p : Option ℕ) → live_on s0 o' p ≡ 1 → prev_of s2 (ends_at es o').last p ≡ prev_of s0 (ends_at es o').last p
         prevs None h = refl
@@ -133,14 +136,17 @@ module _ (s0 s1 s2 : Slab Slot) (es : List Ends) (e : Ends) (f2 : Option ℕ) (r
 
     pub pushed_list : references_of (shown_lists s2 (set es o record { first = f2; last = Some r })) o ≡ references_of (shown_lists s0 es) o ++ (r, off) ∷ []
     pushed_list =
-        list_at s2 (set es o e2) o ∙ ap (λ (z : Ends). list_from s2 z.first) ends_here ∙ ap (map (with_offset s2)) (refs_is s2 o e2 _ linked) ∙ map-last (with_offset s2) (refs_from s0 e.first) r
+        list_at s2 (set es o e2) o ∙ ap (λ (z : Ends). list_from s2 z.first) ends_here
+        ∙ ap (map (with_offset s2)) (refs_is s2 o e2 _ linked) ∙ map-last (with_offset s2) (refs_from s0 e.first) r
         ∙ ap (λ z. map (with_offset s2) (refs_from s0 e.first) ++ (r, z) ∷ []) (ap (λ q. offset_or (place_of_entry q)) push_here)
-        ∙ ap (λ zs. zs ++ (r, off) ∷ []) (ap (λ (z : Ends). map (with_offset s2) (refs_from s0 z.first)) (sym is) ∙ offsets_kept s0 s2 (refs_from s0 (ends_at es o).first) (λ x i. push_other x (absent o x i)) ∙ sym (list_at s0 es o))
+        ∙ ap (λ zs. zs ++ (r, off) ∷ []) (ap (λ (z : Ends). map (with_offset s2) (refs_from s0 z.first)) (sym is)
+        ∙ offsets_kept s0 s2 (refs_from s0 (ends_at es o).first) (λ x i. push_other x (absent o x i)) ∙ sym (list_at s0 es o))
 
     pub pushed_other : (o' : ℕ) → o' ≢ o → references_of (shown_lists s2 (set es o record { first = f2; last = Some r })) o' ≡ references_of (shown_lists s0 es) o'
     pushed_other o' n =
         list_at s2 (set es o e2) o' ∙ ap (λ (z : Ends). list_from s2 z.first) (ends_other o' n) ∙ ap (map (with_offset s2)) (refs_is s2 o' (ends_at es o') _ (other o' n))
         ∙ offsets_kept s0 s2 (refs_from s0 (ends_at es o').first) (λ x i. push_other x (absent o' x i)) ∙ sym (list_at s0 es o')
 
-    pub pushed_changes : ChangesOne (shown_lists s0 es) (shown_lists s2 (set es o record { first = f2; last = Some r })) r (Some (Some record { owner = o; offset = off }))
+    pub pushed_changes : ChangesOne (shown_lists s0 es) (shown_lists s2 (set es o record { first = f2; last = Some r })) r
+        (Some (Some record { owner = o; offset = off }))
     pushed_changes = record { changed = push_here; others = push_other }

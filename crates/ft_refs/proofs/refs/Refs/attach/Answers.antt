@@ -16,7 +16,9 @@ returns-in_err-reserve-clause-sound c = seen_sound _ _ (invariant_of-self c)
 
 pub invariant_of-self-in_err-make_room : goal.invariant_of-self-in_err-make_room
 invariant_of-self-in_err-make_room c =
-    subst (λ (es : List Ends). AreLists c.reserve.new.self es) (sym c.in_err-make_room.ensures.refused) (lists_same c.self.inside.slots c.reserve.new.self c.self.inside.ends.items (ap (λ (z : Slab Slot). z.slots) c.reserve.ensures.rest_kept) c.self.invariant)
+    subst (λ (es : List Ends). AreLists c.reserve.new.self es) (sym c.in_err-make_room.ensures.refused)
+    (lists_same c.self.inside.slots c.reserve.new.self c.self.inside.ends.items
+    (ap (λ (z : Slab Slot). z.slots) c.reserve.ensures.rest_kept) c.self.invariant)
 
 pub returns-in_err-make_room-clause-sound : goal.returns-in_err-make_room-clause-sound
 returns-in_err-make_room-clause-sound c = seen_sound _ _ (invariant_of-self-in_err-make_room c)
@@ -24,7 +26,9 @@ returns-in_err-make_room-clause-sound c = seen_sound _ _ (invariant_of-self-in_e
 pub invariant_of-self-2 : goal.invariant_of-self-2
 invariant_of-self-2 c =
     idle_lists c.reserve.new.self c.insert_reserved.new.self c.make_room.new.ends.items c.insert_reserved.result _
-    (lists_longer c.reserve.new.self c.self.inside.ends.items c.make_room.new.ends.items c.args.owner c.in_ok-make_room.ensures.room (lists_same c.self.inside.slots c.reserve.new.self c.self.inside.ends.items (ap (λ (z : Slab Slot). z.slots) c.reserve.ensures.rest_kept) c.self.invariant))
+    (lists_longer c.reserve.new.self c.self.inside.ends.items c.make_room.new.ends.items c.args.owner c.in_ok-make_room.ensures.room
+    (lists_same c.self.inside.slots c.reserve.new.self c.self.inside.ends.items
+    (ap (λ (z : Slab Slot). z.slots) c.reserve.ensures.rest_kept) c.self.invariant))
     (ap (λ z. owner_of_place (place_of_entry z)) (entries_at c.reserve.new.self c.insert_reserved.result ∙ ap (option_map place_of_slot) c.insert_reserved.ensures.was_vacant))
     c.insert_reserved.ensures.updates refl
 

@@ -27,14 +27,17 @@ index_mut-requires-2 c = let e = ap (λ (p : Place). p.owner) c.place.view_is in
 
 pub set_next-requires : goal.set_next-requires
 set_next-requires c =
-    before_place c.self.inside.slots _ c.self.inside.slots c.self.inside.slots c.self.inside.ends.items c.index.result.now None None c.r.inside.0 c.in-Some.place.owner c.in-Some.place.offset c.index-slot.result.now.prev c.index-slot.result.now.next c.self.invariant
+    before_place c.self.inside.slots _ c.self.inside.slots c.self.inside.slots c.self.inside.ends.items c.index.result.now None None
+    c.r.inside.0 c.in-Some.place.owner c.in-Some.place.offset c.index-slot.result.now.prev c.index-slot.result.now.next c.self.invariant
     (read_at c.self.inside.ends.items c.in-Some.place.owner c.index.result.now (owner_in c.self.inside.slots c.self.inside.ends.items c.r.inside.0 c.index-slot.result.now c.in-Some.place c.self.invariant c.index-slot.ensures c.in-Some.is) (subst (λ (i : ℕ). c.index.result.now ≡ get_or c.self.inside.ends.items i c.index.result.now) (ap (λ (p : Place). p.owner) c.place.view_is) c.index.ensures))
     (slot_at c.self.inside.slots c.r.inside.0 c.index-slot.result.now c.in-Some.place c.index-slot.ensures c.in-Some.is)
     (Updates-with_value c.self.inside.slots c.r.inside.0 _ (rw c.index_mut.ensures.value refl))
 
 pub set_prev-requires : goal.set_prev-requires
 set_prev-requires c =
-    after_place c.self.inside.slots _ c.set_next.new.slots c.self.inside.slots c.self.inside.ends.items c.index.result.now c.set_next.new.first None c.r.inside.0 c.in-Some.place.owner c.in-Some.place.offset c.index-slot.result.now.prev c.index-slot.result.now.next c.self.invariant
+    after_place c.self.inside.slots _ c.set_next.new.slots c.self.inside.slots c.self.inside.ends.items c.index.result.now
+    c.set_next.new.first None c.r.inside.0 c.in-Some.place.owner c.in-Some.place.offset c.index-slot.result.now.prev
+    c.index-slot.result.now.next c.self.invariant
     (read_at c.self.inside.ends.items c.in-Some.place.owner c.index.result.now (owner_in c.self.inside.slots c.self.inside.ends.items c.r.inside.0 c.index-slot.result.now c.in-Some.place c.self.invariant c.index-slot.ensures c.in-Some.is) (subst (λ (i : ℕ). c.index.result.now ≡ get_or c.self.inside.ends.items i c.index.result.now) (ap (λ (p : Place). p.owner) c.place.view_is) c.index.ensures))
     (slot_at c.self.inside.slots c.r.inside.0 c.index-slot.result.now c.in-Some.place c.index-slot.ensures c.in-Some.is)
     (Updates-with_value c.self.inside.slots c.r.inside.0 _ (rw c.index_mut.ensures.value refl)) c.set_next.ensures

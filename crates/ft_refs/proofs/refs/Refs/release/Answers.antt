@@ -19,5 +19,6 @@ pub returns-clause-changes : goal.returns-clause-changes
 returns-clause-changes c =
     record {
       changed = rw (← c.r.view_is) (entries_here c.self.inside.slots c.remove.new.self c.r.inside.0 None c.remove.ensures.updates);
-      others = λ x d. entries_other c.self.inside.slots c.remove.new.self c.r.inside.0 None c.remove.ensures.updates x (λ e. d (e ∙ c.r.view_is)) ∙ ap (λ (v : RefLists). entry v x) c.self.view_is ∙ c.detach.ensures.changes.others x d;
+      others = λ x d. entries_other c.self.inside.slots c.remove.new.self c.r.inside.0 None c.remove.ensures.updates x
+          (λ e. d (e ∙ c.r.view_is)) ∙ ap (λ (v : RefLists). entry v x) c.self.view_is ∙ c.detach.ensures.changes.others x d;
     }

@@ -19,10 +19,13 @@ pub refs-preserved : goal.refs-preserved
 refs-preserved c = splice_step c.args.self.now c.refs.self c.put.new.self c.args.from c.args.to c.args.add c.in-Some.r c.unwrap-offset.result c.first.ensures.sound (sym c.first.ensures.value ∙ c.in-Some.is) (sym c.offset.ensures ∙ c.unwrap-offset.ensures) c.requires.differ c.refs.invariant c.put.ensures.list c.put.ensures.others c.put.ensures.changes c.put.ensures.same_held
 
 pub returns-clause-from : goal.returns-clause-from
-returns-clause-from c = splice_from c.args.self.now c.refs.self c.args.from c.args.to c.args.add c.first.ensures.sound (λ r e. c.in_default.not-Some r (c.first.ensures.value ∙ e)) c.refs.invariant
+returns-clause-from c = splice_from c.args.self.now c.refs.self c.args.from c.args.to c.args.add c.first.ensures.sound
+    (λ r e. c.in_default.not-Some r (c.first.ensures.value ∙ e)) c.refs.invariant
 
 pub returns-clause-to : goal.returns-clause-to
-returns-clause-to c = splice_to c.args.self.now c.refs.self c.args.from c.args.to c.args.add c.first.ensures.sound (λ r e. c.in_default.not-Some r (c.first.ensures.value ∙ e)) c.refs.invariant
+returns-clause-to c = splice_to c.args.self.now c.refs.self c.args.from c.args.to c.args.add c.first.ensures.sound
+    (λ r e. c.in_default.not-Some r (c.first.ensures.value ∙ e)) c.refs.invariant
 
 pub returns-clause-refs : goal.returns-clause-refs
-returns-clause-refs c = splice_refs c.args.self.now c.refs.self c.args.from c.args.to c.args.add c.first.ensures.sound (λ r e. c.in_default.not-Some r (c.first.ensures.value ∙ e)) c.refs.invariant
+returns-clause-refs c = splice_refs c.args.self.now c.refs.self c.args.from c.args.to c.args.add c.first.ensures.sound
+    (λ r e. c.in_default.not-Some r (c.first.ensures.value ∙ e)) c.refs.invariant
