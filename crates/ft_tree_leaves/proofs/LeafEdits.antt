@@ -29,7 +29,8 @@ module _ {L : Type 0} where
         omega (arith, ap (λ (ys : List (ℕ × L)). times_leaf ys z) kept, times-without-one xs id z (omega (arith, h, same_other x.0 id d)))
   ]
 
-  times-put_after : (xs : List (ℕ × L)) (at : ℕ) (new : ℕ × L) (z : ℕ) → times_leaf xs at ≡ 1 → times_leaf (put_leaf_after xs at new) z ≡ times_leaf xs z + same new.0 z
+  times-put_after : (xs : List (ℕ × L)) (at : ℕ) (new : ℕ × L) (z : ℕ) → times_leaf xs at ≡ 1
+      → times_leaf (put_leaf_after xs at new) z ≡ times_leaf xs z + same new.0 z
   times-put_after [] at new z h = absurd (omega arith)
   times-put_after (x ∷ xs) at new z h = elim (cases_eq x.0 at) [
     | inl e ↦
@@ -81,7 +82,8 @@ module _ {L : Type 0} where
       )
 
   -- and their lengths
-  pub length-map_by : (f : L → ℕ) (g : ℕ × L → L) → ((x : ℕ × L) → f (g x) ≡ f x.1) → (xs : List (ℕ × L)) → length_by f (map (λ x. (x.0, g x)) xs) ≡ length_by f xs
+  pub length-map_by : (f : L → ℕ) (g : ℕ × L → L) → ((x : ℕ × L) → f (g x) ≡ f x.1) → (xs : List (ℕ × L))
+      → length_by f (map (λ x. (x.0, g x)) xs) ≡ length_by f xs
   length-map_by f g h [] = refl
   length-map_by f g h (x ∷ xs) = omega (arith, h x, length-map_by f g h xs)
 

@@ -20,7 +20,8 @@ module _ {A U : Type 0} (seen : A → Bool) (f : U → A) where
   taken_unseen h (u ∷ us) (suc i) ys le = let less : i ≤ length us = omega arith in grind (arith, h u, taken_unseen h us i ys less)
 
 -- and before a place behind a list
-pub taken_past : {A : Type 0} (seen : A → Bool) (xs ys : List A) (i j : ℕ) → i ≡ length xs + j → len seen (take i (xs ++ ys)) ≡ len seen xs + len seen (take j ys)
+pub taken_past : {A : Type 0} (seen : A → Bool) (xs ys : List A) (i j : ℕ) → i ≡ length xs + j
+    → len seen (take i (xs ++ ys)) ≡ len seen xs + len seen (take j ys)
 taken_past seen [] ys i j e = let same : i ≡ j = omega arith in omega (arith, ap (λ k. len seen (take k ys)) same)
 taken_past seen (x ∷ xs) ys zero j e = absurd (omega arith)
 taken_past seen (x ∷ xs) ys (suc i) j e = let less : i ≡ length xs + j = omega arith in grind (arith, taken_past seen xs ys i j less)

@@ -14,7 +14,8 @@ module _ {A : Type 0} (ok : A → Bool) where
   abbrev number : ℕ × A → ℕ
   number x = x.0
 
-  first_by : (b : Bool) (n : ℕ) (x : A) (o : Option (ℕ × A)) (p : Option ℕ) → option_map number o ≡ p → option_map number (cond b (Some (n, x)) o) ≡ cond b (Some n) p
+  first_by : (b : Bool) (n : ℕ) (x : A) (o : Option (ℕ × A)) (p : Option ℕ) → option_map number o ≡ p
+      → option_map number (cond b (Some (n, x)) o) ≡ cond b (Some n) p
   first_by true n x o p e = refl
   first_by false n x o p e = e
 
@@ -52,7 +53,8 @@ module _ {A : Type 0} (ok : A → Bool) where
 
   module _ {U : Type 0} (f : U → A) where
     -- the first one behind a run that isn't ok
-    pub first-past : ((u : U) → ok (f u) ≡ false) → (us : List U) (n m : ℕ) (ys : List A) → m ≡ n + length us → first_from ok n (map f us ++ ys) ≡ first_from ok m ys
+    pub first-past : ((u : U) → ok (f u) ≡ false) → (us : List U) (n m : ℕ) (ys : List A) → m ≡ n + length us
+        → first_from ok n (map f us ++ ys) ≡ first_from ok m ys
     first-past h [] n m ys e = let same : n ≡ m = omega arith in ap (λ k. first_from ok k ys) same
     first-past h (u ∷ us) n m ys e = ap (λ b. cond b (Some n) (first_from ok (n + 1) (map f us ++ ys))) (h u) ∙ first-past h us (n + 1) m ys (omega arith)
 

@@ -36,7 +36,8 @@ some_left : (cs : List ℕ) (i : ℕ) (rest : List ℕ) → i < length cs → en
 some_left cs i rest low so_far = omega (arith, length-drop i cs, length-le-encodes (drop i cs), ap length so_far)
 
 -- what is left after a call of `next`, where fewer characters were passed than there are
-pub left_after_next : (X : Type 0) (cs : List ℕ) (i : ℕ) (rest left : List ℕ) (r : Option ℕ) → i < length cs → encodes (drop i cs) ≡ rest → MatchOption r ((length rest ≡ 0) × X) (λ c. rest ≡ encode c ++ left) → encodes (drop (i + 1) cs) ≡ left
+pub left_after_next : (X : Type 0) (cs : List ℕ) (i : ℕ) (rest left : List ℕ) (r : Option ℕ) → i < length cs → encodes (drop i cs) ≡ rest
+    → MatchOption r ((length rest ≡ 0) × X) (λ c. rest ≡ encode c ++ left) → encodes (drop (i + 1) cs) ≡ left
 left_after_next X cs i rest left None low so_far step = let some = some_left cs i rest low so_far in absurd (omega (arith, step.0))
 left_after_next X cs i rest left (Some c) low so_far step = left_behind cs i rest left c so_far step
 
@@ -47,11 +48,13 @@ pub record IsCutBehind (bs : List ℕ) (n place : ℕ) : Type 0 where
   pub rear : chars (drop place bs) ≡ drop n (chars bs)
 
 -- the text cut where the bytes of its first characters end
-cut_at_seam : (bs front rear : List ℕ) (n : ℕ) → scalars front ≡ true → scalars rear ≡ true → front ≡ take n (chars bs) → rear ≡ drop n (chars bs) → encodes front ++ encodes rear ≡ bs → IsCutBehind bs n (length (encodes front))
+cut_at_seam : (bs front rear : List ℕ) (n : ℕ) → scalars front ≡ true → scalars rear ≡ true → front ≡ take n (chars bs)
+    → rear ≡ drop n (chars bs) → encodes front ++ encodes rear ≡ bs → IsCutBehind bs n (length (encodes front))
 cut_at_seam bs front rear n of_front of_rear is_front is_rear whole =
     record {
       boundary = IsCharBoundary-at_seam bs (encodes front) (encodes rear) (sym whole) (rear, (of_rear, refl));
-      front = ap (λ xs. chars (take (length (encodes front)) xs)) (sym whole) ∙ ap chars (take-append_seam (encodes front) (encodes rear)) ∙ chars-encodes front of_front ∙ is_front;
+      front = ap (λ xs. chars (take (length (encodes front)) xs)) (sym whole) ∙ ap chars (take-append_seam (encodes front) (encodes rear))
+          ∙ chars-encodes front of_front ∙ is_front;
       rear = ap (λ xs. chars (drop (length (encodes front)) xs)) (sym whole) ∙ ap chars (drop-append_seam (encodes front) (encodes rear)) ∙ chars-encodes rear of_rear ∙ is_rear;
     }
 
