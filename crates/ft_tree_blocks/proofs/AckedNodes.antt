@@ -87,11 +87,13 @@ module _ {C : Type 0} (stamped : C → ℕ → ℕ → C) (k s c : ℕ) where
   times-acked (x ∷ xs) z = ap (λ n. cond (nat_eq x.0 z) 1 0 + n) (times-acked xs z)
 
   -- lists that are the same once they are acknowledged have the same nodes
-  pub same_times : (xs ys : List (ℕ × TreeLeaf C)) (z : ℕ) → map (acked_pair stamped k s c) xs ≡ map (acked_pair stamped k s c) ys → times_leaf xs z ≡ times_leaf ys z
+  pub same_times : (xs ys : List (ℕ × TreeLeaf C)) (z : ℕ) → map (acked_pair stamped k s c) xs ≡ map (acked_pair stamped k s c) ys
+      → times_leaf xs z ≡ times_leaf ys z
   same_times xs ys z h = sym (times-acked xs z) ∙ ap (λ us. times_leaf us z) h ∙ times-acked ys z
 
   -- all is done where no leaf has anything of the stage
-  pub all_done : (xs : List (ℕ × TreeLeaf C)) → ((i : ℕ) → times_leaf xs i ≤ 1) → ((z : ℕ) (v : TreeLeaf C) → value_at xs z ≡ Some v → is_touched_by k v ≡ false)
+  pub all_done : (xs : List (ℕ × TreeLeaf C)) → ((i : ℕ) → times_leaf xs i ≤ 1)
+      → ((z : ℕ) (v : TreeLeaf C) → value_at xs z ≡ Some v → is_touched_by k v ≡ false)
       → map (acked_pair stamped k s c) xs ≡ xs
   all_done [] once h = refl
   all_done (x ∷ xs) once h =

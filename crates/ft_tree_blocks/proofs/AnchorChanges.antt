@@ -2,10 +2,11 @@
 use Rattle.std.proofs.Common.{◌≡◌, ◌≢◌, ℕ, ◌≤◌, Bool, true, false, cond, nat_eq, List, [], ◌∷◌, not, Option, Some, None, is_some, option_map, subst, refl, sym, ◌∙◌, ap, inl, inr, arith}
 use Rattle.std.specs.Option.{option_map_or}
 use Rattle.std.proofs.lemmas.Bool.{cases_eq, cond-true, cond-false, eq-eqb, ne_eqb}
-use Rattle.ft_arena.specs.Ids.{first, points, same, times}
+use Rattle.ft_arena.specs.Ids.{first, points, times}
 use Rattle.ft_arena.proofs.IdLemmas.{same_other, same_refl}
 use Rattle.ft_base.specs.declared.stamps.Stamp.{Stamp}
 use Rattle.ft_block.specs.Leaves.{IsLeafIn}
+use Rattle.ft_block.proofs.PositionLemmas.{first_in}
 use Rattle.ft_tree_leaves.specs.declared.leaves.TreeLeaf.{TreeLeaf}
 use Rattle.ft_tree_leaves.specs.declared.references.Reference.{Reference}
 use Rattle.ft_tree_leaves.specs.References.{reference_at}
@@ -14,10 +15,6 @@ use Rattle.ft_refs.specs.RefLists.{IsRefs, RefLists, entry, ids_of, owner_of_pla
 use Rattle.ft_tree_blocks.specs.Anchors.{AnchorLists, AreAnchored, ChangesAnchor, is_acked_at, reference_on, references_on}
 use Rattle.ft_tree_blocks.specs.Slides.{AreSettledBut, is_on}
 use Rattle.ft_tree_blocks.proofs.AnchoredLeaves.{on_leaf, owner_live, reference_at-on}
-
-first_in : (xs : List ℕ) (r : ℕ) → first xs ≡ Some r → 1 ≤ times xs r
-first_in [] r e = (cc)
-first_in (x ∷ xs) r e = let same_number : x ≡ r = (cc) in omega (arith, ap (λ z. same z r) same_number, same_refl r)
 
 none_first : (xs : List ℕ) → first xs ≡ None → xs ≡ []
 none_first [] e = refl
@@ -67,7 +64,8 @@ module _ {C U : Type 0} (units : C → List U) (by : C → Option Stamp) (xs : L
           ∙ sym (cond-false (nat_eq x r) _ _ (ne_eqb x r d))
     ]
 
-  none_by : (id r : ℕ) (o : Option Place) → ((p : Place) → o ≡ Some p → p.owner ≢ id) → option_map_or (λ owner. nat_eq owner id) (owner_of_place o) false ≡ false
+  none_by : (id r : ℕ) (o : Option Place) → ((p : Place) → o ≡ Some p → p.owner ≢ id)
+      → option_map_or (λ owner. nat_eq owner id) (owner_of_place o) false ≡ false
   none_by id r None h = refl
   none_by id r (Some p) h = ne_eqb p.owner id (h p refl)
 

@@ -113,7 +113,8 @@ module _ {C U : Type 0} (units : C → List U) (by : C → Option Stamp) where
     entry_goes r flag (Some None) e = refl
     entry_goes r flag (Some (Some p)) e = ap (λ j. Some record { place = Some j; acked = flag }) (place_goes r p (ap place_of_entry e))
 
-    stands_on : (r : ℕ) (p : Place) (q : Option (Option Place)) → entry a.refs r ≡ q → place_of_entry (option_map (option_map g) q) ≡ Some p → IsOnLeaf units now p
+    stands_on : (r : ℕ) (p : Place) (q : Option (Option Place)) → entry a.refs r ≡ q
+        → place_of_entry (option_map (option_map g) q) ≡ Some p → IsOnLeaf units now p
     stands_on r p None e h = (cc)
     stands_on r p (Some None) e h = (cc)
     stands_on r p (Some (Some was)) e h =
@@ -134,7 +135,8 @@ module _ {C U : Type 0} (units : C → List U) (by : C → Option Stamp) where
       };
     }
 
-  goes_between : (xs ys now zs : List (ℕ × TreeLeaf C)) (p q : Place) (f : ℕ → ℕ) → xs ≡ ys → now ≡ zs → (OnLeaf size ys p → Goes size zs q (f (count_before size ys p)))
+  goes_between : (xs ys now zs : List (ℕ × TreeLeaf C)) (p q : Place) (f : ℕ → ℕ) → xs ≡ ys → now ≡ zs
+      → (OnLeaf size ys p → Goes size zs q (f (count_before size ys p)))
       → OnLeaf size xs p → Goes size now q (f (count_before size xs p))
   goes_between xs ys now zs p q f e d h on =
       subst (λ (ws : List (ℕ × TreeLeaf C)). Goes size ws q (f (count_before size xs p))) (sym d)
@@ -223,7 +225,8 @@ module _ {C U : Type 0} (units : C → List U) (by : C → Option Stamp) where
             let differ : id ≢ new =
             λ e. omega (arith, fresh, ap (λ (ys : List (ℕ × TreeLeaf C)). times_leaf ys new) s.whole, times-append left ((id, v) ∷ right) new, ap (λ k. same k new) e, same_refl new) in
             goes_on (split_place id at new) (λ j. j) xs (split_leaf front rear xs id new) a b moves
-            (λ r p e. goes_between xs (left ++ (id, v) ∷ right) (split_leaf front rear xs id new) (left ++ (id, front v) ∷ (new, rear v) ∷ right) p (split_place id at new p) (λ j. j) s.whole
+            (λ r p e. goes_between xs (left ++ (id, v) ∷ right) (split_leaf front rear xs id new)
+            (left ++ (id, front v) ∷ (new, rear v) ∷ right) p (split_place id at new p) (λ j. j) s.whole
             whole (goes_split size left right id new at v (front v) (rear v) low high s.left none differ p (elsewhere new p fresh (there r p e))) (there r p e))
             split_held
 
@@ -239,7 +242,8 @@ module _ {C U : Type 0} (units : C → List U) (by : C → Option Stamp) where
             let apart : times_leaf left next ≡ 0 = omega (arith, t.front, times-append left ((id, v) ∷ []) next) in
             let differ : id ≢ next = λ e. omega (arith, t.front, times-append left ((id, v) ∷ []) next, ap (λ k. same k next) e, same_refl next) in
             goes_on (raised_place next id (size v)) (λ j. j) xs (join_leaf join xs id) a b moves
-            (λ r p e. goes_between xs (left ++ (id, v) ∷ (next, w) ∷ t.rest) (join_leaf join xs id) (left ++ (id, join v w) ∷ t.rest) p (raised_place next id (size v) p) (λ j. j) t.whole
+            (λ r p e. goes_between xs (left ++ (id, v) ∷ (next, w) ∷ t.rest) (join_leaf join xs id) (left ++ (id, join v w) ∷ t.rest) p
+            (raised_place next id (size v) p) (λ j. j) t.whole
             joined (goes_joined size left t.rest id next v w (join v w) both t.apart apart differ p) (there r p e))
             (λ z h. moves.held z (anchored.held z (omega (
               arith,

@@ -42,13 +42,15 @@ module _ {C U : Type 0} (units : C → List U) (by : C → Option Stamp) where
       → Keeps f old now a b nodes
   kept_by f old now a b nodes g s = record { references = g.references; sound = record { anchored = g.anchored; settled = s } }
 
-  kept_as : (f : ℕ → ℕ) (old now ys : List (ℕ × TreeLeaf C)) (a b : AnchorLists) (nodes : List ℕ) → ys ≡ now → Keeps f old now a b nodes → Keeps f old ys a b nodes
+  kept_as : (f : ℕ → ℕ) (old now ys : List (ℕ × TreeLeaf C)) (a b : AnchorLists) (nodes : List ℕ) → ys ≡ now → Keeps f old now a b nodes
+      → Keeps f old ys a b nodes
   kept_as f old now ys a b nodes e k = subst (λ (zs : List (ℕ × TreeLeaf C)). Keeps f old zs a b nodes) (sym e) k
 
   module _ (xs : List (ℕ × TreeLeaf C)) (once : (i : ℕ) → times_leaf xs i ≤ 1) (a : AnchorLists) (nodes : List ℕ) (sound : IsSoundOn units xs a nodes)
       (now : List (ℕ × TreeLeaf C)) where
     -- a new leaf
-    pub kept_put : (at : Option ℕ) (id : ℕ) (x : TreeLeaf C) (b : AnchorLists) (more : List ℕ) → now ≡ put_leaf xs at (id, x) → IsPlaceIn xs at → times_leaf xs id ≡ 0
+    pub kept_put : (at : Option ℕ) (id : ℕ) (x : TreeLeaf C) (b : AnchorLists) (more : List ℕ) → now ≡ put_leaf xs at (id, x)
+        → IsPlaceIn xs at → times_leaf xs id ≡ 0
         → IsHeld b.refs id → MovesAnchors (λ p. p) a b → more ≡ nodes
         → Keeps (shifted_place (length (elements units by (up_to_place xs at))) (length (units x.content))) xs now a b more
     kept_put at id x b more e live fresh held moves same_nodes =
@@ -93,7 +95,8 @@ module _ {C U : Type 0} (units : C → List U) (by : C → Option Stamp) where
 
     module _ (id : ℕ) (v : TreeLeaf C) (value : value_at xs id ≡ Some v) where
       -- a leaf that is cut in two
-      pub kept_cut : (front rear : TreeLeaf C → TreeLeaf C) (at new : ℕ) (stands : Bool) (b : AnchorLists) (more : List ℕ) → now ≡ split_leaf front rear xs id new
+      pub kept_cut : (front rear : TreeLeaf C → TreeLeaf C) (at new : ℕ) (stands : Bool) (b : AnchorLists) (more : List ℕ)
+          → now ≡ split_leaf front rear xs id new
           → size units by (front v) ≡ at → at + size units by (rear v) ≡ size units by v → (front v).stamps ≡ v.stamps → (rear v).stamps ≡ v.stamps
           → times_leaf xs new ≡ 0 → IsHeld b.refs new → MovesAnchors (split_place id at new) a b → stands ≡ is_present is_acked v.stamps
           → NotesUnless stands b new nodes more → Keeps (λ j. j) xs now a b more

@@ -287,7 +287,8 @@ module _ {L : Type 0} (size : L → ℕ) where
       | inr some ↦ goes_first l ((id, v) ∷ m) ((id, a) ∷ (new, b) ∷ m) p some on
     ]
 
-    pub goes_split : new ≢ p.owner → OnLeaf (l ++ (id, v) ∷ m) p → Goes (l ++ (id, a) ∷ (new, b) ∷ m) (split_place id at new p) (count_before (l ++ (id, v) ∷ m) p)
+    pub goes_split : new ≢ p.owner → OnLeaf (l ++ (id, v) ∷ m) p
+        → Goes (l ++ (id, a) ∷ (new, b) ∷ m) (split_place id at new p) (count_before (l ++ (id, v) ∷ m) p)
     goes_split e on = elim (cases_eq p.owner id) [
       | inl q ↦ cut_here q on
       | inr d ↦ goes_at _ (split_place id at new p) p _ (split_other id at new p d) (cut_elsewhere (λ q. d (sym q)) e on)

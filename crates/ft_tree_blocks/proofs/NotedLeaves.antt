@@ -38,7 +38,8 @@ pub record NotesSome (a : AnchorLists) (nodes rest : List ℕ) (old now : List �
 pub some_first : (a : AnchorLists) (nodes old : List ℕ) → NotesSome a nodes nodes old old
 some_first a nodes old = record { still = λ z h. h; listed = λ r p e h. omega (arith, h) }
 
-pub some_next : (a : AnchorLists) (nodes rest old now new : List ℕ) (id : ℕ) → NotesSome a nodes (id ∷ rest) old now → Notes a id now new → NotesSome a nodes rest old new
+pub some_next : (a : AnchorLists) (nodes rest old now new : List ℕ) (id : ℕ) → NotesSome a nodes (id ∷ rest) old now → Notes a id now new
+    → NotesSome a nodes rest old new
 some_next a nodes rest old now new id s n = record {
   still = λ z h. n.still z (s.still z h);
   listed = λ r p e h. elim (cases_eq p.owner id) [

@@ -122,7 +122,8 @@ module _ (f : ℕ → ℕ) where
       let first : p.0 ≤ q.0 = low 0 q (omega arith) in
       (omega (arith, first, e, all.0), all_climb p qs (λ i d lt. low (suc i) d (omega arith)) e all.1)
 
-  pairs-climb : (ps : List (ℕ × ℕ)) → IsNonDecreasingBy (λ (p : ℕ × ℕ). p.0) ps → AllByRecursion (λ (q : ℕ × ℕ). q.0 ≡ f q.1) ps → ClimbBy (map (λ (q : ℕ × ℕ). q.1) ps)
+  pairs-climb : (ps : List (ℕ × ℕ)) → IsNonDecreasingBy (λ (p : ℕ × ℕ). p.0) ps → AllByRecursion (λ (q : ℕ × ℕ). q.0 ≡ f q.1) ps
+      → ClimbBy (map (λ (q : ℕ × ℕ). q.1) ps)
   pairs-climb [] up all = tt
   pairs-climb (p ∷ ps) up all = (
     all_climb p ps (λ i d lt. up 0 (suc i) d (omega arith) (omega arith)) all.0 all.1,
@@ -141,7 +142,8 @@ all_first : {A : Type 0} (P Q : A → Type 0) (xs : List A) → AllByRecursion (
 all_first P Q [] all = tt
 all_first P Q (x ∷ xs) all = (all.0.0, all_first P Q xs all.1)
 
-all_second : (P : ℕ → Type 0) (Q : ℕ × ℕ → Type 0) (ps : List (ℕ × ℕ)) → AllByRecursion (λ (q : ℕ × ℕ). Q q × P q.1) ps → AllByRecursion P (map (λ (q : ℕ × ℕ). q.1) ps)
+all_second : (P : ℕ → Type 0) (Q : ℕ × ℕ → Type 0) (ps : List (ℕ × ℕ)) → AllByRecursion (λ (q : ℕ × ℕ). Q q × P q.1) ps
+    → AllByRecursion P (map (λ (q : ℕ × ℕ). q.1) ps)
 all_second P Q [] all = tt
 all_second P Q (p ∷ ps) all = (all.0.1, all_second P Q ps all.1)
 
@@ -180,7 +182,8 @@ module _ {C U : Type 0} (units : C → List U) where
   left-here : (x : ℕ × TreeLeaf C) (xs : List (ℕ × TreeLeaf C)) (z : ℕ) → x.0 ≡ z → elements_left units (x ∷ xs) z ≡ 0
   left-here x xs z e = ap (λ b. length_by (leaf_length units AllElements) (cond b [] (x ∷ left_of xs z))) (eq-eqb x.0 z e)
 
-  left-later : (x : ℕ × TreeLeaf C) (xs : List (ℕ × TreeLeaf C)) (z : ℕ) → x.0 ≢ z → elements_left units (x ∷ xs) z ≡ length (units x.1.content) + elements_left units xs z
+  left-later : (x : ℕ × TreeLeaf C) (xs : List (ℕ × TreeLeaf C)) (z : ℕ) → x.0 ≢ z
+      → elements_left units (x ∷ xs) z ≡ length (units x.1.content) + elements_left units xs z
   left-later x xs z d = ap (λ b. length_by (leaf_length units AllElements) (cond b [] (x ∷ left_of xs z))) (ne_eqb x.0 z d)
 
   places-differ : (xs : List (ℕ × TreeLeaf C)) → All (λ x. 1 ≤ length (units x.1.content)) xs → (a b : ℕ) → IsLeafIn xs a → IsLeafIn xs b
@@ -249,7 +252,8 @@ module _ {C U : Type 0} (units : C → List U) where
     here_by true x ys z same none = or_left (nat_eq x.0 z) (holds (ids ys) z) same
     here_by false x ys z same none = none
 
-    later_by : (b : Bool) (x : ℕ × TreeLeaf C) (ys : List (ℕ × TreeLeaf C)) (z : ℕ) → nat_eq x.0 z ≡ false → holds (ids (cond b (x ∷ ys) ys)) z ≡ holds (ids ys) z
+    later_by : (b : Bool) (x : ℕ × TreeLeaf C) (ys : List (ℕ × TreeLeaf C)) (z : ℕ) → nat_eq x.0 z ≡ false
+        → holds (ids (cond b (x ∷ ys) ys)) z ≡ holds (ids ys) z
     later_by true x ys z d = ap (λ p. p || holds (ids ys) z) d
     later_by false x ys z d = refl
 
@@ -273,9 +277,11 @@ and_second false true h = h refl
 and_second false false h = refl
 
 -- what is found at the nodes that are listed, by rising places and each once, is all there is
-pub touched-in_order : {C U : Type 0} (units : C → List U) (k : ℕ) (xs : List (ℕ × TreeLeaf C)) (ns : List ℕ) (ps : List (ℕ × ℕ)) → ((i : ℕ) → times_leaf xs i ≤ 1)
+pub touched-in_order : {C U : Type 0} (units : C → List U) (k : ℕ) (xs : List (ℕ × TreeLeaf C)) (ns : List ℕ) (ps : List (ℕ × ℕ))
+    → ((i : ℕ) → times_leaf xs i ≤ 1)
     → All (λ x. 1 ≤ length (units x.1.content)) xs → ((z : ℕ) → holds ns z ≡ true → IsLeafIn xs z)
-    → ((z : ℕ) → is_wanted_at Anything xs k z ≡ true → holds ns z ≡ true) → IsPermutation (touched_places units xs k ns) ps → IsNonDecreasingBy (λ (p : ℕ × ℕ). p.0) ps
+    → ((z : ℕ) → is_wanted_at Anything xs k z ≡ true → holds ns z ≡ true) → IsPermutation (touched_places units xs k ns) ps
+    → IsNonDecreasingBy (λ (p : ℕ × ℕ). p.0) ps
     → unrepeated None (map (λ (p : ℕ × ℕ). p.1) ps) ≡ touched_nodes k xs
 touched-in_order units k xs ns ps once some live covers moved up =
     let f : ℕ → ℕ = elements_left units xs in
@@ -299,7 +305,8 @@ touched-in_order units k xs ns ps once some live covers moved up =
     (λ z. unrepeated-held None nodes z ∙ held z ∙ kept z ∙ and_second (holds ns z) (test z) (covers z) ∙ sym (touched-held units k xs once z))
 
 -- one node more
-module _ {C U : Type 0} (units : C → List U) (xs : List (ℕ × TreeLeaf C)) (k : ℕ) (ns : List ℕ) (i n : ℕ) (less : i < length ns) (is_next : n ≡ get_or ns i n) where
+module _ {C U : Type 0} (units : C → List U) (xs : List (ℕ × TreeLeaf C)) (k : ℕ) (ns : List ℕ) (i n : ℕ) (less : i < length ns)
+    (is_next : n ≡ get_or ns i n) where
   abbrev places_by : Bool → List (ℕ × ℕ)
   places_by b =
       map (λ m. (elements_left units xs m, m))

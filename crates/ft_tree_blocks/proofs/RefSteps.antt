@@ -95,7 +95,8 @@ module _ {C U : Type 0} (units : C → List U) (by : C → Option Stamp) where
     module _ (stamped : C → ℕ → ℕ → C) (h : (x : C) (s c : ℕ) → units (stamped x s c) ≡ units x) (k s c : ℕ) (ids : List ℕ) (more : List ℕ)
         (have : (z : ℕ) (x : TreeLeaf C) → value_at xs z ≡ Some x → is_touched_by k x ≡ true → holds ids z ≡ true) (notes : NotesAll a ids nodes more)
         (e : now ≡ map (acked_pair stamped k s c) xs) where
-      touched_or_not : (r : ℕ) (p : Place) → place_of_reference a.refs r ≡ Some p → (x : TreeLeaf C) → value_at xs p.owner ≡ Some x → (b : Bool) → is_touched_by k x ≡ b
+      touched_or_not : (r : ℕ) (p : Place) → place_of_reference a.refs r ≡ Some p → (x : TreeLeaf C) → value_at xs p.owner ≡ Some x
+          → (b : Bool) → is_touched_by k x ≡ b
           → (is_unremoved_at now p.owner ≡ is_unremoved_at xs p.owner) ⊎ (1 ≤ times more p.owner)
       touched_or_not r p q x value true t = inr (notes.listed r p q (holds-times ids p.owner (have p.owner x value t)))
       touched_or_not r p q x value false t =
@@ -157,7 +158,8 @@ module _ {C U : Type 0} (units : C → List U) (by : C → Option Stamp) (xs : L
   pub reference_place-on : reference_place (references_on units by xs a) r ≡ option_map (place_on units by xs) (place_of_reference a.refs r)
   reference_place-on = ap (option_and_then (λ (x : Reference). x.place)) (reference_at-on units by xs a r) ∙ shown_by (entry a.refs r) (is_acked_at a r)
 
-  pub changed_twice : (q p : Option (Option Place)) (f h : Bool) (b c : AnchorLists) → ChangesAnchor r q f a b → ChangesAnchor r p h b c → ChangesAnchor r p h a c
+  pub changed_twice : (q p : Option (Option Place)) (f h : Bool) (b c : AnchorLists) → ChangesAnchor r q f a b → ChangesAnchor r p h b c
+      → ChangesAnchor r p h a c
   changed_twice q p f h b c first then = record {
     places = record { changed = then.places.changed; others = λ x d. then.places.others x d ∙ first.places.others x d };
     flag = then.flag;

@@ -229,7 +229,8 @@ module _ {C U : Type 0} (units : C → List U) (by : C → Option Stamp) (test :
         ap (λ k. Some k) same ∙ ap (λ o. option_or o (last_from ok 0 (elements units by (left_of xs id)))) (found ∙ ap first_behind there) ∙ sym (settled_off i on h)
 
     -- else to the last one before, if there is one
-    pub settled_before : (i : ℕ) (to from : Option ℕ) (last : Option ℕ) → IsSomeAnd (value_at xs id) (λ w. i < length (units w.content)) → allows test v.stamps ≡ false
+    pub settled_before : (i : ℕ) (to from : Option ℕ) (last : Option ℕ) → IsSomeAnd (value_at xs id) (λ w. i < length (units w.content))
+        → allows test v.stamps ≡ false
         → to ≡ next → None ≡ first_behind to → IsBefore xs id from → last ≡ last_before from
         → last ≡ settled_place ok (elements units by xs) (leaf_start units by xs id + i)
     settled_before i to from last on h there none prev is_last =

@@ -97,7 +97,8 @@ module _ {C U : Type 0} (units : C → List U) (by : C → Option Stamp) where
   went_by to true was p h = inl h
   went_by to false was p h = let same : was ≡ p = (cc) in inr (same, refl)
 
-  went_entry : (id : ℕ) (to : Option Place) (flag : Bool) (p : Place) (q : Option (Option Place)) → place_of_entry (option_map (sent_place flag id to) q) ≡ Some p
+  went_entry : (id : ℕ) (to : Option Place) (flag : Bool) (p : Place) (q : Option (Option Place))
+      → place_of_entry (option_map (sent_place flag id to) q) ≡ Some p
       → (to ≡ Some p) ⊎ ((place_of_entry q ≡ Some p) × ((flag && nat_eq p.owner id) ≡ false))
   went_entry id to flag p None h = (cc)
   went_entry id to flag p (Some None) h = (cc)
@@ -209,7 +210,8 @@ module _ {C U : Type 0} (units : C → List U) (by : C → Option Stamp) where
       on_it : (r : ℕ) (p : Place) → is_on a id r ≡ true → place_of_reference a.refs r ≡ Some p → nat_eq p.owner id ≡ true
       on_it r p c e = sym (ap (λ (o : Option Place). option_map_or (λ owner. nat_eq owner id) (owner_of_place o) false) e) ∙ c
 
-      settled_then : (r : ℕ) (p : Place) → is_on a id r ≡ true → place_of_reference b.refs r ≡ Some p → is_acked_at b r ≡ true → is_unremoved_at xs p.owner ≡ true
+      settled_then : (r : ℕ) (p : Place) → is_on a id r ≡ true → place_of_reference b.refs r ≡ Some p → is_acked_at b r ≡ true
+          → is_unremoved_at xs p.owner ≡ true
       settled_then r p c e f = elim (went r p e) [
         | inl there ↦ (on p there).1
         | inr kept ↦

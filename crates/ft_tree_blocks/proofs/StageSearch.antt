@@ -53,7 +53,8 @@ listed_drop (suc n) (x ∷ xs) j z l = or_right (nat_eq x.stage j && holds x.nod
 module _ {C : Type 0} (w : Wanted) (xs : List (ℕ × TreeLeaf C)) (k : ℕ) (s : NodesOfStage) (rest : List NodesOfStage)
     (listed : (j z : ℕ) → k < j → is_wanted_at w xs j z ≡ true → is_listed (s ∷ rest) j z ≡ true) where
   -- a list without a leaf that will do
-  passed : (nat_lt k s.stage && list_any (is_wanted_at w xs s.stage) s.nodes) ≡ false → (j z : ℕ) → k < j → is_wanted_at w xs j z ≡ true → is_listed rest j z ≡ true
+  passed : (nat_lt k s.stage && list_any (is_wanted_at w xs s.stage) s.nodes) ≡ false → (j z : ℕ) → k < j → is_wanted_at w xs j z ≡ true
+      → is_listed rest j z ≡ true
   passed test j z lt t = elim (or_cases (nat_eq s.stage j && holds s.nodes z) (is_listed rest j z) (listed j z lt t)) [
     | inl here ↦
         let both = and_parts (nat_eq s.stage j) (holds s.nodes z) here in

@@ -33,7 +33,8 @@ module _ {L : Type 0} where
   is_valued xs id live = let v = live_value xs id live in is_some (value_at xs id) v.0 v.1
 
   -- a change
-  pub value-change : (f : L → L) (xs : List (ℕ × L)) (id z : ℕ) → value_at (change_leaf f xs id) z ≡ option_map (λ v. cond (nat_eq z id) (f v) v) (value_at xs z)
+  pub value-change : (f : L → L) (xs : List (ℕ × L)) (id z : ℕ)
+      → value_at (change_leaf f xs id) z ≡ option_map (λ v. cond (nat_eq z id) (f v) v) (value_at xs z)
   value-change f [] id z = refl
   value-change f (x ∷ xs) id z = grind (arith, nat_tests, value-change f xs id z)
 
@@ -77,7 +78,8 @@ module _ {L : Type 0} where
   value-split f r [] id new z d = refl
   value-split f r (x ∷ xs) id new z d = grind (arith, nat_tests, d, value-split f r xs id new z d)
 
-  pub rear-split : (f r : L → L) (xs : List (ℕ × L)) (id new : ℕ) → times_leaf xs new ≡ 0 → value_at (split_leaf f r xs id new) new ≡ option_map r (value_at xs id)
+  pub rear-split : (f r : L → L) (xs : List (ℕ × L)) (id new : ℕ) → times_leaf xs new ≡ 0
+      → value_at (split_leaf f r xs id new) new ≡ option_map r (value_at xs id)
   rear-split f r [] id new fresh = refl
   rear-split f r (x ∷ xs) id new fresh = grind (arith, nat_tests, fresh, rear-split f r xs id new)
 
@@ -94,7 +96,8 @@ module _ {L : Type 0} where
   gone-without [] id = refl
   gone-without (x ∷ xs) id = grind (arith, nat_tests, gone-without xs id)
 
-  put_back : (xs : List (ℕ × L)) (id : ℕ) (at : Option ℕ) (v : L) → times_leaf xs id ≡ 0 → IsLeafIn (put_leaf xs at (id, v)) id → value_at (put_leaf xs at (id, v)) id ≡ Some v
+  put_back : (xs : List (ℕ × L)) (id : ℕ) (at : Option ℕ) (v : L) → times_leaf xs id ≡ 0 → IsLeafIn (put_leaf xs at (id, v)) id
+      → value_at (put_leaf xs at (id, v)) id ≡ Some v
   put_back xs id at v none live =
       let w = live_value (put_leaf xs at (id, v)) id live in
       w.1 ∙ ap (λ u. Some u) (new_put xs at id v w.0 none w.1)

@@ -335,7 +335,8 @@ pub record Takes (k : ℕ) (xs ys : List NodesOfStage) (ns : List ℕ) : Type 0 
   pub others : (j z : ℕ) → j ≢ k → is_listed ys j z ≡ is_listed xs j z
   pub rising : AreRising ys
 
-all_taken_by : (m : ℕ) (b : Bool) (x : NodesOfStage) (xs ys : List NodesOfStage) → AllByRecursion (λ t. m < t.stage) (x ∷ xs) → AllByRecursion (λ t. m < t.stage) ys
+all_taken_by : (m : ℕ) (b : Bool) (x : NodesOfStage) (xs ys : List NodesOfStage) → AllByRecursion (λ t. m < t.stage) (x ∷ xs)
+    → AllByRecursion (λ t. m < t.stage) ys
     → AllByRecursion (λ t. m < t.stage) (cond b (x ∷ ys) xs)
 all_taken_by m true x xs ys h hy = (h.0, hy)
 all_taken_by m false x xs ys h hy = h.1
@@ -472,7 +473,8 @@ insert-is k id i xs ys new e test is_new is =
     is ∙ ap (λ j. insert xs j new) e ∙ ap (insert xs (stages_below k xs)) is_new
     ∙ insert-noted k id xs (subst (λ j. is_list_of k (slice_get xs j) ≡ false) e test)
 
-pub take-found : (k i : ℕ) (xs ys : List NodesOfStage) (x : NodesOfStage) (ns : List ℕ) → AreRising xs → i ≡ stages_below k xs → is_list_of k (slice_get xs i) ≡ true
+pub take-found : (k i : ℕ) (xs ys : List NodesOfStage) (x : NodesOfStage) (ns : List ℕ) → AreRising xs → i ≡ stages_below k xs
+    → is_list_of k (slice_get xs i) ≡ true
     → x ≡ get_or xs i x → ns ≡ x.nodes → ys ≡ remove xs i → Takes k xs ys ns
 take-found k i xs ys x ns h e test is is_ns is_ys =
     let s = found k (slice_get xs i) test in

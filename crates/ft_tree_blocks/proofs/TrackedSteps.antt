@@ -281,7 +281,8 @@ settled_stamps k (t ∷ ts) h =
     let n = neither (not (is_acked t)) (list_any (λ u. not (is_acked u)) ts) h in
     ap (λ b. b || list_any (is_of_stage k) ts) (settled_stamp k t n.0) ∙ settled_stamps k ts n.1
 
-pub untouched : {C : Type 0} (x : TreeLeaf C) → not (is_acked x.stamps.ins) ≡ false → list_any (λ t. not (is_acked t)) x.stamps.dels ≡ false → x.overlay.pending ≡ []
+pub untouched : {C : Type 0} (x : TreeLeaf C) → not (is_acked x.stamps.ins) ≡ false
+    → list_any (λ t. not (is_acked t)) x.stamps.dels ≡ false → x.overlay.pending ≡ []
     → (k : ℕ) → is_touched_by k x ≡ false
 untouched x ins dels none k =
     ap (λ b. b || (list_any (is_of_stage k) x.stamps.dels || list_any (λ p. nat_eq p.0 k) x.overlay.pending)) (settled_stamp k x.stamps.ins ins)

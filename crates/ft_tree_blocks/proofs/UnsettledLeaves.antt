@@ -105,7 +105,8 @@ module _ {C U : Type 0} (units : C → List U) (by : C → Option Stamp) where
         ])
 
     -- leaves that keep their stamps
-    pub settled_mapped : (g : ℕ × TreeLeaf C → TreeLeaf C) → ((x : ℕ × TreeLeaf C) → (g x).stamps ≡ x.1.stamps) → AreSettledBut (map (λ x. (x.0, g x)) xs) nodes a
+    pub settled_mapped : (g : ℕ × TreeLeaf C → TreeLeaf C) → ((x : ℕ × TreeLeaf C) → (g x).stamps ≡ x.1.stamps)
+        → AreSettledBut (map (λ x. (x.0, g x)) xs) nodes a
     settled_mapped g same_stamps =
         settled_same (map (λ x. (x.0, g x)) xs) (λ z live. told-map unremoved_leaf g z (λ x q. ap (is_present is_acked) (same_stamps x)) xs)
 
@@ -130,7 +131,8 @@ module _ {C U : Type 0} (units : C → List U) (by : C → Option Stamp) where
 
       -- a leaf that is cut in two
       pub settled_cut : (front rear : TreeLeaf C → TreeLeaf C) (at new : ℕ) (b : AnchorLists) (more : List ℕ) → times_leaf xs new ≡ 0
-          → (front v).stamps ≡ v.stamps → (rear v).stamps ≡ v.stamps → MovesAnchors (split_place id at new) a b → ((z : ℕ) → 1 ≤ times nodes z → 1 ≤ times more z)
+          → (front v).stamps ≡ v.stamps → (rear v).stamps ≡ v.stamps → MovesAnchors (split_place id at new) a b
+          → ((z : ℕ) → 1 ≤ times nodes z → 1 ≤ times more z)
           → (unremoved_leaf v ≡ false → (r : ℕ) (p : Place) → place_of_reference b.refs r ≡ Some p → p.owner ≡ new → 1 ≤ times more new)
           → AreSettledBut (split_leaf front rear xs id new) more b
       settled_cut front rear at new b more fresh front_stamps rear_stamps moves kept noted =

@@ -93,7 +93,6 @@ impl<C: Content> LeafBlocks<C> {
         requires { IsTrue self.now.usable }
         ensures { result.now ≡ list_of self.now }
     {
-        let _ = &self.touched;
         &self.blocks
     }
 

@@ -24,7 +24,8 @@ pub loop-ahead-smaller-then-acked-r : goal.loop-ahead-smaller-then-acked-r
 loop-ahead-smaller-then-acked-r c =
     let k = subst (Sends c.args.acked.now c.args.from c.args.to.now c.args.refs.now c.loop-ahead.refs) c.in-Some.is c.loop-ahead.invariant in
     let flag : get_or c.args.acked.now c.in-Some.r false ≡ true = ap (λ (z : ℕ). get_or c.args.acked.now z false) (sym c.r.view_is) ∙ c.if-acked-r.true in
-    subst (λ (z : Option ℕ). count_from c.next-ahead.result (references_of c.send.new.refs c.args.from) < count_from z (references_of c.loop-ahead.refs c.args.from)) (sym c.in-Some.is)
+    subst (λ (z : Option ℕ). count_from c.next-ahead.result (references_of c.send.new.refs c.args.from)
+    < count_from z (references_of c.loop-ahead.refs c.args.from)) (sym c.in-Some.is)
     (sent_shorter c.args.acked.now c.args.from c.args.to.now c.args.refs.now c.loop-ahead.refs c.in-Some.r k c.next-ahead.result c.next-ahead.ensures
     c.send.new.refs flag c.requires.differ c.send.ensures.sound c.send.ensures.others c.send.ensures.changes c.send.ensures.same_held)
 
@@ -39,7 +40,8 @@ pub loop-ahead-smaller : goal.loop-ahead-smaller
 loop-ahead-smaller c =
     let k = subst (Sends c.args.acked.now c.args.from c.args.to.now c.args.refs.now c.loop-ahead.refs) c.in-Some.is c.loop-ahead.invariant in
     let flag : get_or c.args.acked.now c.in-Some.r false ≡ false = ap (λ (z : ℕ). get_or c.args.acked.now z false) (sym c.r.view_is) ∙ c.if-acked-r.false in
-    subst (λ (z : Option ℕ). count_from c.next-ahead.result (references_of c.loop-ahead.refs c.args.from) < count_from z (references_of c.loop-ahead.refs c.args.from)) (sym c.in-Some.is)
+    subst (λ (z : Option ℕ). count_from c.next-ahead.result (references_of c.loop-ahead.refs c.args.from)
+    < count_from z (references_of c.loop-ahead.refs c.args.from)) (sym c.in-Some.is)
     (past_shorter c.args.acked.now c.args.from c.args.to.now c.args.refs.now c.loop-ahead.refs c.in-Some.r k c.next-ahead.result c.next-ahead.ensures flag)
 
 pub loop-ahead-preserved : goal.loop-ahead-preserved
