@@ -33,7 +33,8 @@ module _ {C U : Type 0} (units : C → List U) (by : C → Option Stamp) where
   IsGiven view xs p None = ⊥
   IsGiven view xs p (Some found) = FoundFrom view xs p found
 
-  within_by : (b : Bool) (view : LenView) (x : TreeLeaf C) (ys : List (TreeElement U)) (p : ℕ) → sees_in view x.stamps ≡ b → 0 < p → p ≤ cond b (length (units x.content)) 0
+  within_by : (b : Bool) (view : LenView) (x : TreeLeaf C) (ys : List (TreeElement U)) (p : ℕ) → sees_in view x.stamps ≡ b → 0 < p
+      → p ≤ cond b (length (units x.content)) 0
       → (place (seen_in view) p (leaf_elements units by x ++ ys) ≡ p) × (p ≤ length (units x.content))
   within_by true view x ys p h some le =
       (place-within (seen_in view) (element_with x.stamps (by x.content) x.overlay) (λ u. h) (units x.content) p ys le, le)
