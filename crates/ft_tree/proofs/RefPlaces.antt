@@ -28,7 +28,8 @@ unshifted : (i n : ℕ) (o : Option Reference) → ((j : ℕ) → option_and_the
 unshifted i n None h = refl
 unshifted i n (Some x) h = ap Some (same_place x.place x.acked h)
   where
-    same_place : (p : Option ℕ) (acked : Bool) → ((j : ℕ) → p ≡ Some j → j < i) → with_place (shifted_place i n) (record { place = p; acked = acked }) ≡ record { place = p; acked = acked }
+    same_place : (p : Option ℕ) (acked : Bool) → ((j : ℕ) → p ≡ Some j → j < i)
+        → with_place (shifted_place i n) (record { place = p; acked = acked }) ≡ record { place = p; acked = acked }
     same_place None acked h = refl
     same_place (Some j) acked h =
         ap (λ (k : ℕ). record { place = Some k; acked = acked }) (cond-false (nat_le i j) (j + n) j (lt-leb i j (h j refl)))

@@ -81,7 +81,8 @@ module _ {C U : Type 0} (units : C → List U) (by : C → Option Stamp) (a b : 
     sweep = subst (IsPlaceIn b.blocks.leaves) (sym sweep) (place_kept a.blocks.leaves b.blocks.leaves a.sweep nodes sound.sweep);
   }
 
-  place_same : ((id : ℕ) → times_leaf b.blocks.leaves id ≡ times_leaf a.blocks.leaves id) → (o : Option ℕ) → IsPlaceIn a.blocks.leaves o → IsPlaceIn b.blocks.leaves o
+  place_same : ((id : ℕ) → times_leaf b.blocks.leaves id ≡ times_leaf a.blocks.leaves id) → (o : Option ℕ) → IsPlaceIn a.blocks.leaves o
+      → IsPlaceIn b.blocks.leaves o
   place_same times None h = tt
   place_same times (Some id) h = omega (arith, times id)
 
@@ -105,7 +106,8 @@ module _ {C U : Type 0} (units : C → List U) (by : C → Option Stamp) (a b : 
     sweep = subst (IsPlaceIn b.blocks.leaves) (sym sweep) (sweep_there a.blocks.leaves b.blocks.leaves id a.sweep once gone.others sound.sweep);
   }
 
-module _ {C U : Type 0} (units : C → List U) (by : C → Option Stamp) (a : Inside C U) (now : TrackedLeaves C) (rest : now ≡ record a.blocks { refs = now.refs }) where
+module _ {C U : Type 0} (units : C → List U) (by : C → Option Stamp) (a : Inside C U) (now : TrackedLeaves C)
+    (rest : now ≡ record a.blocks { refs = now.refs }) where
   -- where nothing but references changed
   pub refs_sound : IsSound units by a → IsSound units by (record a { blocks = now })
   refs_sound sound = record {
