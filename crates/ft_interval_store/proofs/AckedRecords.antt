@@ -24,7 +24,8 @@ map-four f g h k (x ∷ xs) = ap (λ ys. f (g (h (k x))) ∷ ys) (map-four f g h
 
 module _ (tree : TreeState TextContent) where
   pub acked-shown : HasNoRemoval tree → (i : Interval ℕ) (j : Interval Place)
-      → ShowsInterval tree 0 (settled_interval (text_elements tree) 0 (with_mapped_ends (places_of_ends tree.refs) i)) j → record_at tree j ≡ acked_record tree i
+      → ShowsInterval tree 0 (settled_interval (text_elements tree) 0 (with_mapped_ends (places_of_ends tree.refs) i)) j
+      → record_at tree j ≡ acked_record tree i
   unfolding acked_record
   acked-shown still i j h =
       let xs = text_elements tree in

@@ -116,7 +116,8 @@ module _ {U : Type 0} (xs : List (TreeElement U)) where
     pub gathered-shown : filter test (map (shown_record xs) (shown_from xs 0 ts is)) ≡ filter test (map (shown_record xs) (shown_from xs 0 ts from))
     gathered-shown =
         filter-map test (shown_record xs) (shown_from xs 0 ts is)
-        ∙ ap (map (shown_record xs)) (filtered-alike passes (shown_from xs 0 ts is) (shown_from xs 0 ts from) (rise-shown_from 0 ts is p.rising) (rise-shown_from 0 ts from rise) alike)
+        ∙ ap (map (shown_record xs)) (filtered-alike passes (shown_from xs 0 ts is) (shown_from xs 0 ts from)
+        (rise-shown_from 0 ts is p.rising) (rise-shown_from 0 ts from rise) alike)
         ∙ sym (filter-map test (shown_record xs) (shown_from xs 0 ts from))
 
   -- the interval of a name at stage 0
@@ -141,7 +142,8 @@ any-append f (x ∷ xs) y = step (f x) (any-append f xs y)
     step false e = e
 
 -- the same intervals are a part by any test that passes less
-pub part-less : (from is : List (Interval ℕ)) (more less : Name → Bool) → ((n : Name) → less n ≡ true → more n ≡ true) → IsPartOf from is more → IsPartOf from is less
+pub part-less : (from is : List (Interval ℕ)) (more less : Name → Bool) → ((n : Name) → less n ≡ true → more n ≡ true)
+    → IsPartOf from is more → IsPartOf from is less
 part-less from is more less h p = record { part = p.part; there = λ n e. p.there n (h n e); rising = p.rising }
 
 pub none-part : (from : List (Interval ℕ)) (ts : List Operation) → IsPartOf from [] (λ n. is_on_any n [])

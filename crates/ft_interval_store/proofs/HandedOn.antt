@@ -158,7 +158,8 @@ module _ {U : Type 0} (xs : List (TreeElement U)) where
               let some = some-times r (ends_of_intervals now) h in
               kept.live r (one-there r (ends_with ends is) (omega (arith, whole r, some, shares r)))
 
-          gone-by : (r : ℕ) (a b : Bool) → holds_end r unused ≡ a → holds_end r lost ≡ b → 1 ≤ len (is_reference r) (both_ends unused) + len (is_reference r) (both_ends lost)
+          gone-by : (r : ℕ) (a b : Bool) → holds_end r unused ≡ a → holds_end r lost ≡ b
+              → 1 ≤ len (is_reference r) (both_ends unused) + len (is_reference r) (both_ends lost)
               → reference_at after r ≡ None
           gone-by r a true e f l = ends-lost r ∙ ap (λ b. cond b None (reference_at next r)) f
           gone-by r true false e f l =
@@ -218,7 +219,8 @@ module _ {U : Type 0} (xs : List (TreeElement U)) where
               settles r ∙ ap (λ b. cond b (option_map settled_reference (reference_at before r)) (reference_at before r))
               (sym (held r ends) ∙ none-there r (both_ends ends) none)
 
-          end-settled : (e : Option ℕ) → ((r : ℕ) → is_reference r e ≡ true → holds_end r ends ≡ true) → place_of_end mid e ≡ slid_end xs (place_of_end before e)
+          end-settled : (e : Option ℕ) → ((r : ℕ) → is_reference r e ≡ true → holds_end r ends ≡ true)
+              → place_of_end mid e ≡ slid_end xs (place_of_end before e)
           end-settled None h = refl
           end-settled (Some r) h =
               ap (option_and_then (λ (x : Reference). x.place))

@@ -92,7 +92,8 @@ pub any_operations : (r : ℕ) (c : CollectionsState) → list_any (is_reference
 any_operations r c h = list_any-append (is_reference r) (ends_of_intervals c.acked) (ends_of_operations c.pending)
     ∙ right (list_any (is_reference r) (ends_of_intervals c.acked)) (list_any (is_reference r) (ends_of_operations c.pending)) h
 
-all_intervals : (refs : References) (is : List (Interval ℕ)) → ((r : ℕ) → list_any (is_reference r) (ends_of_intervals is) ≡ true → IsSome (reference_at refs r))
+all_intervals : (refs : References) (is : List (Interval ℕ))
+    → ((r : ℕ) → list_any (is_reference r) (ends_of_intervals is) ≡ true → IsSome (reference_at refs r))
     → AreLiveIntervals refs is
 all_intervals refs [] h = All-nil (λ (i : Interval ℕ). AreLiveEnds refs i.ends)
 all_intervals refs (i ∷ is) h =

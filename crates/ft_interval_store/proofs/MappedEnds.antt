@@ -43,7 +43,8 @@ module _ (g : EndPair ℕ → EndPair ℕ) where
   changed_by Equal y f h ys zs us e k = ap (λ i. i ∷ mapped ys) e
   changed_by Greater y f h ys zs us e k = ap (λ vs. with_mapped_ends g y ∷ vs) k
 
-  changed-mapped : (n : Name) (f h : Interval ℕ → Interval ℕ) → ((i : Interval ℕ) → with_mapped_ends g (f i) ≡ h (with_mapped_ends g i)) → (ys : List (Interval ℕ))
+  changed-mapped : (n : Name) (f h : Interval ℕ → Interval ℕ) → ((i : Interval ℕ) → with_mapped_ends g (f i) ≡ h (with_mapped_ends g i))
+      → (ys : List (Interval ℕ))
       → mapped (with_changed n f ys) ≡ with_changed n h (mapped ys)
   changed-mapped n f h e [] = refl
   changed-mapped n f h e (y ∷ ys) =

@@ -61,7 +61,8 @@ module _ {T : Type 0} where
   place-less : (n : Name) (y : Interval T) (ys : List (Interval T)) → name_cmp n (name_of y) ≡ Less → place_of_name n (y ∷ ys) ≡ Err 0
   place-less n y ys h = grind arith
 
-  place-greater : (n : Name) (y : Interval T) (ys : List (Interval T)) → name_cmp n (name_of y) ≡ Greater → place_of_name n (y ∷ ys) ≡ next_place (place_of_name n ys)
+  place-greater : (n : Name) (y : Interval T) (ys : List (Interval T)) → name_cmp n (name_of y) ≡ Greater
+      → place_of_name n (y ∷ ys) ≡ next_place (place_of_name n ys)
   place-greater n y ys h = grind arith
 
   place-left : (n : Name) (xs ys : List (Interval T)) → IsBehind n ys → place_of_name n (xs ++ ys) ≡ place_of_name n xs
@@ -99,7 +100,8 @@ module _ {T : Type 0} where
   page-rises (c ∷ ps) zero d l r = rise-left c.items (from_pages ps) r
   page-rises (c ∷ ps) (suc j) d l r = page-rises ps j d (omega arith) (rise-right c.items (from_pages ps) r)
 
-  page-names : (a : Name) (ps : List (Vec (Interval T))) (j : ℕ) (d : Vec (Interval T)) → j < length ps → IsBeforeNames a (from_pages ps) → IsBeforeNames a (get_or ps j d).items
+  page-names : (a : Name) (ps : List (Vec (Interval T))) (j : ℕ) (d : Vec (Interval T)) → j < length ps → IsBeforeNames a (from_pages ps)
+      → IsBeforeNames a (get_or ps j d).items
   page-names a [] j d l b = absurd (omega arith)
   page-names a (c ∷ ps) zero d l b = before-left a c.items (from_pages ps) b
   page-names a (c ∷ ps) (suc j) d l b = page-names a ps j d (omega arith) (before-right a c.items (from_pages ps) b)
@@ -110,7 +112,8 @@ module _ {T : Type 0} where
   by-first n a [] b h = absurd cc
   by-first n a (y ∷ ys) b h = ap is_le (le-before a (name_of y) n b.0 h)
 
-  first-by : (n : Name) (xs : List (Interval T)) (ps : List (Vec (Interval T))) (j : ℕ) (d : Vec (Interval T)) → 0 < length xs → NamesRise (xs ++ from_pages ps) → j < length ps
+  first-by : (n : Name) (xs : List (Interval T)) (ps : List (Vec (Interval T))) (j : ℕ) (d : Vec (Interval T)) → 0 < length xs
+      → NamesRise (xs ++ from_pages ps) → j < length ps
       → begins_by n (get_or ps j d).items ≡ true → begins_by n xs ≡ true
   first-by n [] ps j d f r l h = absurd (omega arith)
   first-by n (x ∷ xs) ps j d f r l h =
@@ -119,7 +122,8 @@ module _ {T : Type 0} where
   abbrev IsFilled : Vec (Interval T) → Type 0
   IsFilled c = 0 < length c.items
 
-  pub partitioned : (n : Name) (ps : List (Vec (Interval T))) → AreFilled ps → NamesRise (from_pages ps) → IsPartitionedBy (λ (c : Vec (Interval T)). begins_by n c.items) ps
+  pub partitioned : (n : Name) (ps : List (Vec (Interval T))) → AreFilled ps → NamesRise (from_pages ps)
+      → IsPartitionedBy (λ (c : Vec (Interval T)). begins_by n c.items) ps
   partitioned n [] f r i j d le l h = absurd (omega arith)
   partitioned n (c ∷ ps) f r zero zero d le l h = h
   partitioned n (c ∷ ps) f r zero (suc j) d le l h = first-by n c.items ps j d (All-head IsFilled c ps f) r (omega arith) h
@@ -133,12 +137,14 @@ module _ {T : Type 0} where
   head-behind n [] ys f h = absurd (omega arith)
   head-behind n (x ∷ xs) ys f h = name_cmp-turned (name_of x) n (not-le (name_cmp (name_of x) n) h)
 
-  all-behind : (n : Name) (ps : List (Vec (Interval T))) → AreFilled ps → ((c : Vec (Interval T)) → 0 < length ps → begins_by n (get_or ps zero c).items ≡ false)
+  all-behind : (n : Name) (ps : List (Vec (Interval T))) → AreFilled ps
+      → ((c : Vec (Interval T)) → 0 < length ps → begins_by n (get_or ps zero c).items ≡ false)
       → IsBehind n (from_pages ps)
   all-behind n [] f h = tt
   all-behind n (c ∷ ps) f h = head-behind n c.items (from_pages ps) (All-head IsFilled c ps f) (h c (omega arith))
 
-  all-before : (n : Name) (xs : List (Interval T)) (y : Interval T) (ys : List (Interval T)) → NamesRise (xs ++ y ∷ ys) → is_le (name_cmp (name_of y) n) ≡ true → AreBefore n xs
+  all-before : (n : Name) (xs : List (Interval T)) (y : Interval T) (ys : List (Interval T)) → NamesRise (xs ++ y ∷ ys)
+      → is_le (name_cmp (name_of y) n) ≡ true → AreBefore n xs
   all-before n [] y ys r le = tt
   all-before n (x ∷ xs) y ys r le =
       (name_cmp-back (name_of x) n (le-before (name_of x) (name_of y) n (before-right (name_of x) xs (y ∷ ys) r.0).0 le), all-before n xs y ys r.1 le)
@@ -156,7 +162,8 @@ module _ {T : Type 0} where
       → place_of_name n (from_pages ps) ≡ shifted (count_before j ps) (place_of_name n (get_or ps j d).items)
   place-by n [] j d f r cut = absurd (omega (arith, cut.within))
   place-by n (c ∷ ps) zero d f r cut =
-      place-left n c.items (from_pages ps) (all-behind n ps (All-tail IsFilled c ps f) (λ e l. cut.behind (suc zero) e (omega arith) (omega (arith, l)))) ∙ shifted-zero (place_of_name n c.items)
+      place-left n c.items (from_pages ps) (all-behind n ps (All-tail IsFilled c ps f)
+      (λ e l. cut.behind (suc zero) e (omega arith) (omega (arith, l)))) ∙ shifted-zero (place_of_name n c.items)
   place-by n (c ∷ []) (suc j) d f r cut = absurd (omega (arith, cut.within))
   place-by n (c ∷ e ∷ es) (suc j) d f r cut =
       let rest : List (Vec (Interval T)) = e ∷ es in
@@ -171,7 +178,8 @@ module _ {T : Type 0} where
       ∙ shifted-shifted (length c.items) (count_before j rest) (place_of_name n (get_or rest j d).items)
 
   -- what is found in that page stands so much further on in the list
-  pub found-by : (n : Name) (ps : List (Vec (Interval T))) (k : ℕ) (d : Vec (Interval T)) (r : Result ℕ ℕ) → (k ≡ 0 → ⊥) → AreFilled ps → NamesRise (from_pages ps) → IsCutBy n ps k
+  pub found-by : (n : Name) (ps : List (Vec (Interval T))) (k : ℕ) (d : Vec (Interval T)) (r : Result ℕ ℕ) → (k ≡ 0 → ⊥) → AreFilled ps
+      → NamesRise (from_pages ps) → IsCutBy n ps k
       → r ≡ place_of_name n (get_or ps (k - 1) d).items → shifted (count_before (k - 1) ps) r ≡ place_of_name n (from_pages ps)
   found-by n ps zero d r some f rise cut e = absurd (some refl)
   found-by n ps (suc j) d r some f rise cut e =

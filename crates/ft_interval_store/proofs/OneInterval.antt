@@ -90,7 +90,8 @@ module _ {T : Type 0} where
   IsBeforeNames-map a f [] k b = tt
   IsBeforeNames-map a f (y ∷ ys) k b = (subst (λ m. name_cmp a m ≡ Less) (sym (k y)) b.0, IsBeforeNames-map a f ys k b.1)
 
-  pub NamesRise-map : (f : Interval T → Interval T) (ys : List (Interval T)) → ((i : Interval T) → name_of (f i) ≡ name_of i) → NamesRise ys → NamesRise (map f ys)
+  pub NamesRise-map : (f : Interval T → Interval T) (ys : List (Interval T)) → ((i : Interval T) → name_of (f i) ≡ name_of i)
+      → NamesRise ys → NamesRise (map f ys)
   NamesRise-map f [] k r = tt
   NamesRise-map f (y ∷ ys) k r =
       (subst (λ m. IsBeforeNames m (map f ys)) (sym (k y)) (IsBeforeNames-map (name_of y) f ys k r.0), NamesRise-map f ys k r.1)

@@ -69,7 +69,8 @@ module _ {T : Type 0} where
           (k ∙ sym (ap (λ (o : Option (Interval T)). ends_in (after_own addition ends o)) there))
           (u ∙ sym (ap (λ (o : Option (Interval T)). cond (is_some o) ends no_ends) there)) l
 
-      pub ends-add-new : interval_of (label, id) is ≡ None → after.kept ≡ ends → after.unused ≡ no_ends → after.lost ≡ no_ends → IsEndsAfter addition ends is new after
+      pub ends-add-new : interval_of (label, id) is ≡ None → after.kept ≡ ends → after.unused ≡ no_ends → after.lost ≡ no_ends
+          → IsEndsAfter addition ends is new after
       ends-add-new none k u l =
           by-parts addition ends is new rise e (label, id) (λ n h. same_name n (label, id) h) after
           (k ∙ sym (ap (λ (o : Option (Interval T)). ends_in (after_own addition ends o)) none))
@@ -81,7 +82,8 @@ module _ {T : Type 0} where
       abbrev change : TextOp
       change = IntervalChange label id given props
 
-      pub ends-change-there : (i : Interval T) → interval_of (label, id) is ≡ Some i → after ≡ ends_changed given ends i.ends → IsEndsAfter change ends is new after
+      pub ends-change-there : (i : Interval T) → interval_of (label, id) is ≡ Some i → after ≡ ends_changed given ends i.ends
+          → IsEndsAfter change ends is new after
       ends-change-there i there a =
           by-parts change ends is new rise e (label, id) (λ n h. same_name n (label, id) h) after
           (ap (λ (x : EndsAfter T). x.kept) a ∙ kept given ∙ sym (ap (λ (o : Option (Interval T)). ends_in (after_own change ends o)) there))

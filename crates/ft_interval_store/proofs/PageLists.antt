@@ -70,7 +70,8 @@ module _ {T : Type 0} where
   without (suc k) (x ∷ ps) l = ap (λ xs. x.items ++ xs) (without k ps (omega arith)) ∙ sym (append_assoc x.items (front k ps) (back k ps))
 
   -- with two pages instead
-  two : (k : ℕ) (ps : List (Vec T)) (c e : Vec T) → k < length ps → from_pages (insert (set ps k c) (suc k) e) ≡ front k ps ++ (c.items ++ (e.items ++ back k ps))
+  two : (k : ℕ) (ps : List (Vec T)) (c e : Vec T) → k < length ps
+      → from_pages (insert (set ps k c) (suc k) e) ≡ front k ps ++ (c.items ++ (e.items ++ back k ps))
   two k [] c e l = absurd (omega arith)
   two zero (x ∷ ps) c e l = refl
   two (suc k) (x ∷ ps) c e l = ap (λ xs. x.items ++ xs) (two k ps c e (omega arith)) ∙ sym (append_assoc x.items (front k ps) (c.items ++ (e.items ++ back k ps)))
@@ -161,7 +162,8 @@ module _ {T : Type 0} where
   emptied k ps c l e =
       ap from_pages (set-over k ps c l) ∙ without k ps l ∙ sym (other k ps c l ∙ ap (λ ys. front k ps ++ (ys ++ back k ps)) e)
 
-  pub cut : (k : ℕ) (ps : List (Vec T)) (c e d : Vec T) (n : ℕ) → k < length ps → c.items ≡ take n (get_or ps k d).items → e.items ≡ drop n (get_or ps k d).items
+  pub cut : (k : ℕ) (ps : List (Vec T)) (c e d : Vec T) (n : ℕ) → k < length ps → c.items ≡ take n (get_or ps k d).items
+      → e.items ≡ drop n (get_or ps k d).items
       → from_pages (insert (set ps k c) (k + 1) e) ≡ from_pages ps
   cut k ps c e d n l t b =
       let page = (get_or ps k d).items in
@@ -182,7 +184,8 @@ module _ {T : Type 0} where
   filled-remove zero (c ∷ ps) l all = All-tail IsFilled c ps all
   filled-remove (suc k) (c ∷ ps) l all = All-cons IsFilled c (remove ps k) (All-head IsFilled c ps all) (filled-remove k ps (omega arith) (All-tail IsFilled c ps all))
 
-  pub filled-cut : (k : ℕ) (ps : List (Vec T)) (c e : Vec T) → k < length ps → 0 < length c.items → 0 < length e.items → AreFilled ps → AreFilled (insert (set ps k c) (k + 1) e)
+  pub filled-cut : (k : ℕ) (ps : List (Vec T)) (c e : Vec T) → k < length ps → 0 < length c.items → 0 < length e.items → AreFilled ps
+      → AreFilled (insert (set ps k c) (k + 1) e)
   filled-cut k ps c e l f h all = filled-insert (k + 1) (set ps k c) e (omega (arith, length-set ps k c)) h (All-set IsFilled ps k c f all)
 
   -- ---- all elements, page by page

@@ -65,7 +65,8 @@ module _ {T : Type 0} where
   put-same : (x y : Interval T) (ys : List (Interval T)) → name_cmp (name_of x) (name_of y) ≡ Equal → put_rising interval_cmp x (y ∷ ys) ≡ x ∷ ys
   put-same x y ys h = grind arith
 
-  put-greater : (x y : Interval T) (ys : List (Interval T)) → name_cmp (name_of x) (name_of y) ≡ Greater → put_rising interval_cmp x (y ∷ ys) ≡ y ∷ put_rising interval_cmp x ys
+  put-greater : (x y : Interval T) (ys : List (Interval T)) → name_cmp (name_of x) (name_of y) ≡ Greater
+      → put_rising interval_cmp x (y ∷ ys) ≡ y ∷ put_rising interval_cmp x ys
   put-greater x y ys h = grind arith
 
   without-less : (n : Name) (y : Interval T) (ys : List (Interval T)) → name_cmp n (name_of y) ≡ Less → without_name n (y ∷ ys) ≡ y ∷ ys
@@ -142,7 +143,8 @@ module _ {T : Type 0} where
 
   -- ---- the names still rise
 
-  IsBeforeNames-put : (a : Name) (x : Interval T) (ys : List (Interval T)) → name_cmp a (name_of x) ≡ Less → IsBeforeNames a ys → IsBeforeNames a (put_rising interval_cmp x ys)
+  IsBeforeNames-put : (a : Name) (x : Interval T) (ys : List (Interval T)) → name_cmp a (name_of x) ≡ Less → IsBeforeNames a ys
+      → IsBeforeNames a (put_rising interval_cmp x ys)
   IsBeforeNames-put a x [] h b = (h, tt)
   IsBeforeNames-put a x (y ∷ ys) h b =
       let P : List (Interval T) → Type 0 = λ zs. IsBeforeNames a zs in
@@ -224,7 +226,8 @@ module _ {T : Type 0} where
   at-before n (x ∷ xs) (suc i) d b l = at-before n xs i d b.1 (omega arith)
 
   -- a name that is found by comparing stands at its place
-  place-equal : (n : Name) (xs : List (Interval T)) (i : ℕ) (d : Interval T) → NamesRise xs → i < length xs → order_at n xs i d ≡ Equal → place_of_name n xs ≡ Ok i
+  place-equal : (n : Name) (xs : List (Interval T)) (i : ℕ) (d : Interval T) → NamesRise xs → i < length xs → order_at n xs i d ≡ Equal
+      → place_of_name n xs ≡ Ok i
   place-equal n [] i d r l h = absurd (omega arith)
   place-equal n (x ∷ xs) zero d r l h = grind (arith, tied_back name_cmp-total (name_of x) n h)
   place-equal n (x ∷ xs) (suc i) d r l h =

@@ -262,7 +262,8 @@ at-place k (x ∷ left) t right j e r =
 
 -- ---- the place of a stage
 
-stage-at : (k : ℕ) (ts : List Operation) (d : Operation) → position_or_len (is_at_stage k) ts < length ts → (get_or ts (position_or_len (is_at_stage k) ts) d).stage ≡ k
+stage-at : (k : ℕ) (ts : List Operation) (d : Operation) → position_or_len (is_at_stage k) ts < length ts
+    → (get_or ts (position_or_len (is_at_stage k) ts) d).stage ≡ k
 stage-at k [] d l = absurd (omega (arith, l))
 stage-at k (t ∷ ts) d l = by (nat_eq t.stage k) refl l (stage-at k ts d)
   where
@@ -295,7 +296,8 @@ some-within k [] h = absurd cc
 some-within k (t ∷ ts) h = by (nat_eq t.stage k) h (some-within k ts)
   where
     by : (b : Bool) → IsSome (cond b (Some t) (operation_at k ts))
-        → (IsSome (operation_at k ts) → position_or_len (is_at_stage k) ts < length ts) → cond (not b) (1 + position_or_len (is_at_stage k) ts) 0 < length (t ∷ ts)
+        → (IsSome (operation_at k ts) → position_or_len (is_at_stage k) ts < length ts)
+        → cond (not b) (1 + position_or_len (is_at_stage k) ts) 0 < length (t ∷ ts)
     by true h f = omega arith
     by false h f = (let l = f h in omega (arith, l))
 
@@ -390,7 +392,8 @@ module _ {is : List (Interval ℕ)} {ps : List Operation} {i : ℕ} {d : Operati
           subst (λ x. KeepsReferences now x before after) new-is (subst (λ x. KeepsReferences x (settled is front own back places again before mid) before after) cut-now
           (settled-references is front own back places again before mid cut-order cut-live added after dropped))
 
-      pub settle-places : (f : EndPair ℕ → EndPair ℕ) → places ≡ f (places_of_ends before own.ends) → placed after with-new ≡ with_ends_at k f (placed before now)
+      pub settle-places : (f : EndPair ℕ → EndPair ℕ) → places ≡ f (places_of_ends before own.ends)
+          → placed after with-new ≡ with_ends_at k f (placed before now)
       settle-places f p =
           sym (ap (λ x. placed after x) new-is)
           ∙ settled-places is front own back places again before mid cut-order cut-live added after dropped k f at-stage-k p

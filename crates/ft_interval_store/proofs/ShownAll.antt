@@ -109,7 +109,8 @@ module _ (tree : TreeState TextContent) (k : ℕ) where
       subst (λ is. ShowsAll tree k is (js ++ us)) (sym all) (zip-append (ShowsInterval tree k) (map f (map g front)) js (map f (map g p.items)) us h s)
 
   -- a page shows as many
-  pub filled-shown : (f g : Interval ℕ → Interval ℕ) (is : List (Interval ℕ)) (js : List (Interval Place)) → ShowsAll tree k (map f (map g is)) js → 0 < length is → 0 < length js
+  pub filled-shown : (f g : Interval ℕ → Interval ℕ) (is : List (Interval ℕ)) (js : List (Interval Place))
+      → ShowsAll tree k (map f (map g is)) js → 0 < length is → 0 < length js
   filled-shown f g is js h some =
       omega (arith, length-map is g, length-map (map g is) f, length-zip (ShowsInterval tree k) (map f (map g is)) js h, some)
 
@@ -121,7 +122,8 @@ module _ (tree : TreeState TextContent) (k : ℕ) where
 
   -- ---- an operation
 
-  there-shown : (n : Name) (is : List (Interval ℕ)) (js : List (Interval Place)) → ShowsAll tree k is js → is_some (interval_of n js) ≡ is_some (interval_of n is)
+  there-shown : (n : Name) (is : List (Interval ℕ)) (js : List (Interval Place)) → ShowsAll tree k is js
+      → is_some (interval_of n js) ≡ is_some (interval_of n is)
   there-shown n [] [] h = refl
   there-shown n [] (j ∷ js) h = absurd h
   there-shown n (i ∷ is) [] h = absurd h
@@ -140,7 +142,8 @@ module _ (tree : TreeState TextContent) (k : ℕ) where
   abbrev made : {T : Type 0} → Ordering → List (Interval T) → List (Interval T) → List (Interval T) → List (Interval T)
   made {T} o a b c = elim o as (λ _. List (Interval T)) [ Less ↦ a | Equal ↦ b | Greater ↦ c ]
 
-  made-shown : (o p : Ordering) (a b c : List (Interval ℕ)) (d e f : List (Interval Place)) → p ≡ o → ShowsAll tree k a d → ShowsAll tree k b e → ShowsAll tree k c f
+  made-shown : (o p : Ordering) (a b c : List (Interval ℕ)) (d e f : List (Interval Place)) → p ≡ o → ShowsAll tree k a d
+      → ShowsAll tree k b e → ShowsAll tree k c f
       → ShowsAll tree k (made o a b c) (made p d e f)
   made-shown o p a b c d e f same x y z = subst (λ q. ShowsAll tree k (made o a b c) (made q d e f)) (sym same) (by o)
     where
@@ -171,7 +174,8 @@ module _ (tree : TreeState TextContent) (k : ℕ) where
       (j ∷ js) (g j ∷ js) (j ∷ with_changed n g js) (same-order n i j h.0)
       h (s i j h.0, h.1) (h.0, changed-shown n f g s is js h.1)
 
-  without-shown : (n : Name) (is : List (Interval ℕ)) (js : List (Interval Place)) → ShowsAll tree k is js → ShowsAll tree k (without_name n is) (without_name n js)
+  without-shown : (n : Name) (is : List (Interval ℕ)) (js : List (Interval Place)) → ShowsAll tree k is js
+      → ShowsAll tree k (without_name n is) (without_name n js)
   without-shown n [] [] h = tt
   without-shown n [] (j ∷ js) h = absurd h
   without-shown n (i ∷ is) [] h = absurd h
@@ -187,7 +191,8 @@ module _ (tree : TreeState TextContent) (k : ℕ) where
   given-shown (Some g) e d props n i j s = record { label = s.label; id = s.id; props = ap (λ p. apply p props) s.props; ends = n }
 
   -- the same operation keeps them side by side
-  pub after-shown : (op : TextOp) (e : EndPair ℕ) (d : EndPair Place) → StandAt tree k e d → (is : List (Interval ℕ)) (js : List (Interval Place)) → ShowsAll tree k is js
+  pub after-shown : (op : TextOp) (e : EndPair ℕ) (d : EndPair Place) → StandAt tree k e d
+      → (is : List (Interval ℕ)) (js : List (Interval Place)) → ShowsAll tree k is js
       → ShowsAll tree k (after_operation op e is) (after_operation op d js)
   after-shown (One o) e d n is js h = h
   after-shown (Group o) e d n is js h = h
@@ -240,7 +245,8 @@ module _ (tree : TreeState TextContent) (k m : ℕ) where
   pub rise-carried : (is js : List (Interval Place)) → AllZip (IsCarriedInterval tree k m) is js → NamesRise is → NamesRise js
   rise-carried is js h r = rise-alike (IsCarriedInterval tree k m) carried-name is js h r
 
-  pub carried-one : (i : Interval ℕ) (j x : Interval Place) → ShowsInterval tree k i j → IsCarriedInterval tree k m j x → ShowsInterval tree m (carried_interval elements_of k m i) x
+  pub carried-one : (i : Interval ℕ) (j x : Interval Place) → ShowsInterval tree k i j → IsCarriedInterval tree k m j x
+      → ShowsInterval tree m (carried_interval elements_of k m i) x
   carried-one i j x s c = record {
     label = c.label ∙ s.label;
     id = c.id ∙ s.id;

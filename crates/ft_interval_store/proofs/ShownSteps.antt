@@ -50,7 +50,8 @@ module _ (ts : List Operation) (i : ℕ) (t : Operation) (within : i < length ts
       )
 
 -- behind the last one
-pub last-shown : {U : Type 0} (xs : List (TreeElement U)) (refs : References) (n : Name) (k i : ℕ) (ts : List Operation) (o : Option (Interval ℕ)) → drop i ts ≡ []
+pub last-shown : {U : Type 0} (xs : List (TreeElement U)) (refs : References) (n : Name) (k i : ℕ) (ts : List Operation)
+    (o : Option (Interval ℕ)) → drop i ts ≡ []
     → option_map (carried_interval xs k last) o ≡ shown_one_from xs n k (placed_operations refs (drop i ts)) o
 last-shown xs refs n k i ts o none = sym (ap (λ us. shown_one_from xs n k (placed_operations refs us) o) none)
 

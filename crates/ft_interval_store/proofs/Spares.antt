@@ -23,7 +23,8 @@ module _ (r : ℕ) where
   times_first : (i : Interval ℕ) (is : List (Interval ℕ)) → times_in (i ∷ is) ≡ times_of i.ends + times_in is
   times_first i is = len-append (is_reference r) (both_ends i.ends) (ends_of_intervals is)
 
-  times-put : (x : Interval ℕ) (ys : List (Interval ℕ)) → interval_of (name_of x) ys ≡ None → times_in (put_rising interval_cmp x ys) ≡ times_of x.ends + times_in ys
+  times-put : (x : Interval ℕ) (ys : List (Interval ℕ)) → interval_of (name_of x) ys ≡ None
+      → times_in (put_rising interval_cmp x ys) ≡ times_of x.ends + times_in ys
   times-put x [] h = times_first x []
   times-put x (y ∷ ys) h =
       by_order (name_cmp (name_of x) (name_of y))
@@ -54,7 +55,8 @@ module _ (r : ℕ) where
       let was = times_first y ys in
       omega (arith, new, was, times-changed n f ys i rest)))
 
-  times-without : (n : Name) (ys : List (Interval ℕ)) (i : Interval ℕ) → interval_of n ys ≡ Some i → times_in (without_name n ys) + times_of i.ends ≡ times_in ys
+  times-without : (n : Name) (ys : List (Interval ℕ)) (i : Interval ℕ) → interval_of n ys ≡ Some i
+      → times_in (without_name n ys) + times_of i.ends ≡ times_in ys
   times-without n [] i h = absurd cc
   times-without n (y ∷ ys) i h =
       by_order (name_cmp n (name_of y))

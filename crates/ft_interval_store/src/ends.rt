@@ -10,6 +10,7 @@ ghost use Rattle.ft_interval_store.specs.Ends.{AreAddedEnds, AreDistinctEnds, Ar
 ghost use Rattle.ft_interval_store.specs.State.{text_elements};
 
 use crate::intervals::EndPair;
+use crate::numbers::add_number;
 use ft_base::OutOfMemory;
 use ft_block::LenView;
 use ft_op::Ends;
@@ -63,13 +64,7 @@ fn add_end(
     let Ok(p) = u64::try_from(position) else {
         return Ok(None);
     };
-    match tree.add_ref(p, view) {
-        Ok(r) => Ok(Some(r)),
-        Err(_) => {
-            tree.spoil();
-            Err(OutOfMemory)
-        }
-    }
+    add_number(tree, Some(p), view)
 }
 
 /// Puts pending references on the elements at the given ends, if some are given.

@@ -123,10 +123,10 @@ pub fn add_numbers(
     })
 }
 
-// Puts a pending reference on the element that the view sees at this number, if there is one.
-//
-// Returns `OutOfMemory` where there is no room for it, or no element, and then the tree may be used no more.
-fn add_number(
+/// Puts a pending reference on the element that the view sees at this number, if there is one.
+///
+/// Returns `OutOfMemory` where there is no room for it, or no element, and then the tree may be used no more.
+pub(crate) fn add_number(
     tree: &mut Tree<TextContent>,
     number: Option<u64>,
     view: LenView,

@@ -27,7 +27,8 @@ returns-in_ok-put c = λ is before h p.
     let there : interval_of n c.args.acked.now ≡ Some c.in-Some.i.now = sym c.get.ensures ∙ ap option_copied c.in-Some.is in
     let found = from-at xs tree.refs c.args.acked.now n ∙ ap (λ o. option_map (settled_interval xs 0) (option_map (with_mapped_ends (places_of_ends tree.refs)) o)) there in (
       put_rising interval_cmp x is,
-      subst (λ (js : List (Interval Place)). ShowsAll tree 0 (put_rising interval_cmp x is) js) (sym c.in_ok-put.ensures.ok) (put-shown tree 0 x c.in_ok-placed.field-0 is c.args.all.now c.in_ok-placed.ensures h),
+      subst (λ (js : List (Interval Place)). ShowsAll tree 0 (put_rising interval_cmp x is) js) (sym c.in_ok-put.ensures.ok)
+          (put-shown tree 0 x c.in_ok-placed.field-0 is c.args.all.now c.in_ok-placed.ensures h),
       part-with from is before n p x found,
     )
 

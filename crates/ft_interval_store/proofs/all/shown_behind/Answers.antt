@@ -25,7 +25,8 @@ take_next-requires-clause-live c =
 
 pub take_next-requires-clause-on_leaf : goal.take_next-requires-clause-on_leaf
 take_next-requires-clause-on_leaf c =
-    places-shown c.args.tree.now c.loop-t.stage (c.loop-t.invariant.shows c.requires.shown.0 c.requires.shown.1).0 c.loop-t.all (c.loop-t.invariant.shows c.requires.shown.0 c.requires.shown.1).1
+    places-shown c.args.tree.now c.loop-t.stage (c.loop-t.invariant.shows c.requires.shown.0 c.requires.shown.1).0 c.loop-t.all
+    (c.loop-t.invariant.shows c.requires.shown.0 c.requires.shown.1).1
 
 pub take_next-requires-clause-rises : goal.take_next-requires-clause-rises
 take_next-requires-clause-rises c =
@@ -52,7 +53,8 @@ loop-t-preserved c =
 
 pub carry_all-requires-clause-on_leaf : goal.carry_all-requires-clause-on_leaf
 carry_all-requires-clause-on_leaf c =
-    places-shown c.args.tree.now c.loop-t.stage (c.loop-t.invariant.shows c.requires.shown.0 c.requires.shown.1).0 c.loop-t.all (c.loop-t.invariant.shows c.requires.shown.0 c.requires.shown.1).1
+    places-shown c.args.tree.now c.loop-t.stage (c.loop-t.invariant.shows c.requires.shown.0 c.requires.shown.1).0 c.loop-t.all
+    (c.loop-t.invariant.shows c.requires.shown.0 c.requires.shown.1).1
 
 pub records-requires-clause-on_leaf : goal.records-requires-clause-on_leaf
 records-requires-clause-on_leaf c =

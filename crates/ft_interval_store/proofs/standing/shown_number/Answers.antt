@@ -21,4 +21,5 @@ returns c =
     let tree = c.args.tree.now in
     let xs = text_elements tree in
     let at = (c.carried_end.ensures (settled_end xs 0 (place_of_end tree.refs (Some c.args.r))) c.settled_end-place.ensures).is in
-    to_z-of_z w64 c.number.result (search rules) ∙ shown-number xs tree.refs c.args.r (end_place tree c.carried_end.result) c.number.result (c.number.ensures ∙ ap number_or_none c.last_number.ensures) at
+    to_z-of_z w64 c.number.result (search rules) ∙ shown-number xs tree.refs c.args.r (end_place tree c.carried_end.result) c.number.result
+    (c.number.ensures ∙ ap number_or_none c.last_number.ensures) at

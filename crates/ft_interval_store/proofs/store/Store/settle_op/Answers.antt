@@ -44,7 +44,8 @@ drop_ends-requires-clause-live c =
     let f = map_ends (settled_end xs k) in
     let own = get_or ps c.in-Some.i c.index.result.now in
     let places = f (places_of_ends before own.ends) in
-    let numbers = subst (λ (t : Operation). AreNumbers xs k (f (places_of_ends before t.ends)) c.settled_numbers-numbers.result) c.index.ensures c.settled_numbers-numbers.ensures in
+    let numbers = subst (λ (t : Operation). AreNumbers xs k (f (places_of_ends before t.ends)) c.settled_numbers-numbers.result)
+    c.index.ensures c.settled_numbers-numbers.ensures in
     let again = c.in_ok-again.again in
     let mid = c.add_numbers.new.tree.refs in
     let added = c.in_ok-again.ensures.ends places numbers in
@@ -105,7 +106,8 @@ returns-clause-op c =
     let f = map_ends (settled_end xs k) in
     let own = get_or ps c.in-Some.i c.index.result.now in
     let places = f (places_of_ends before own.ends) in
-    let numbers = subst (λ (t : Operation). AreNumbers xs k (f (places_of_ends before t.ends)) c.settled_numbers-numbers.result) c.index.ensures c.settled_numbers-numbers.ensures in
+    let numbers = subst (λ (t : Operation). AreNumbers xs k (f (places_of_ends before t.ends)) c.settled_numbers-numbers.result)
+    c.index.ensures c.settled_numbers-numbers.ensures in
     let with = λ (t : Operation). (let x : Operation = record t { ends = c.in_ok-again.again } in x) in
     let was = settle-own stands c.index_mut.result.now c.index_mut.ensures.value in
     let written = with c.index_mut.result.now in
@@ -126,7 +128,8 @@ returns-clause-settled c =
     let f = map_ends (settled_end xs k) in
     let own = get_or ps c.in-Some.i c.index.result.now in
     let places = f (places_of_ends before own.ends) in
-    let numbers = subst (λ (t : Operation). AreNumbers xs k (f (places_of_ends before t.ends)) c.settled_numbers-numbers.result) c.index.ensures c.settled_numbers-numbers.ensures in
+    let numbers = subst (λ (t : Operation). AreNumbers xs k (f (places_of_ends before t.ends)) c.settled_numbers-numbers.result)
+    c.index.ensures c.settled_numbers-numbers.ensures in
     let again = c.in_ok-again.again in
     let mid = c.add_numbers.new.tree.refs in
     let added = c.in_ok-again.ensures.ends places numbers in
@@ -150,7 +153,8 @@ returns-clause-refs c =
     let f = map_ends (settled_end xs k) in
     let own = get_or ps c.in-Some.i c.index.result.now in
     let places = f (places_of_ends before own.ends) in
-    let numbers = subst (λ (t : Operation). AreNumbers xs k (f (places_of_ends before t.ends)) c.settled_numbers-numbers.result) c.index.ensures c.settled_numbers-numbers.ensures in
+    let numbers = subst (λ (t : Operation). AreNumbers xs k (f (places_of_ends before t.ends)) c.settled_numbers-numbers.result)
+    c.index.ensures c.settled_numbers-numbers.ensures in
     let again = c.in_ok-again.again in
     let mid = c.add_numbers.new.tree.refs in
     let added = c.in_ok-again.ensures.ends places numbers in

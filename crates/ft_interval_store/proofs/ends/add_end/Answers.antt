@@ -1,0 +1,5 @@
+use Rattle.std.proofs.Common.{◌≡◌, pos, rules}
+use Rattle.ft_interval_store.proofs.ends.add_end.Goals as goal
+
+pub returns-clause-end : goal.returns-clause-end
+returns-clause-end c = let at : c.args.position ≡ pos c.in-Ok.p = search rules in rw at c.add_number.ensures.end
