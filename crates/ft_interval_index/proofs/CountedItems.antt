@@ -85,7 +85,8 @@ module _ (n : ℕ) (refs : References) (acked : List (Interval ℕ)) (label : Ch
       let ends = sym p.ends ∙ ap (λ i. ends_of_name (label, i) acked) same ∙ o.ends in
       d (some-is (ap (λ (q : EndPair ℕ). q.start) ends))
 
-  apart-from : (y : Item) (o : IsItemOf (λ id. ends_of_name (label, id) acked) x y.key y) (ys : List Item) → AreOwn ys → times y.key ys ≡ 0 → IsApart (label, o.id) (names ys)
+  apart-from : (y : Item) (o : IsItemOf (λ id. ends_of_name (label, id) acked) x y.key y) (ys : List Item) → AreOwn ys → times y.key ys ≡ 0
+      → IsApart (label, o.id) (names ys)
   apart-from y o [] h t = tt
   apart-from y o (z ∷ zs) h t =
       let p = l.only z.key z h.0 in
@@ -99,7 +100,8 @@ module _ (n : ℕ) (refs : References) (acked : List (Interval ℕ)) (label : Ch
       differ : z.key ≢ y.key
       differ e = (let one : times y.key (z ∷ zs) ≡ suc (times y.key zs) = ap (λ c. one_more_if c (times y.key zs)) (eq-eqb z.key y.key e) in absurd (omega (arith, one, t)))
 
-      step : (c : Bool) (p : IsItemOf (λ id. ends_of_name (label, id) acked) x z.key z) → IsApart (label, o.id) (names zs) → IsApart (label, o.id) (name_if label c (Some p.id) (names zs))
+      step : (c : Bool) (p : IsItemOf (λ id. ends_of_name (label, id) acked) x z.key z) → IsApart (label, o.id) (names zs)
+          → IsApart (label, o.id) (name_if label c (Some p.id) (names zs))
       step true p rest = (other-name y z o p differ, rest)
       step false p rest = rest
 
@@ -117,7 +119,8 @@ module _ (n : ℕ) (refs : References) (acked : List (Interval ℕ)) (label : Ch
       none : times y.key ys ≡ 0
       none = (let one : times y.key (y ∷ ys) ≡ suc (times y.key ys) = ap (λ c. one_more_if c (times y.key ys)) (eq-eqb y.key y.key refl) in let most = t y.key in omega (arith, one, most))
 
-      step : (c : Bool) (o : IsItemOf (λ id. ends_of_name (label, id) acked) x y.key y) → AreApart (names ys) → AreApart (name_if label c (Some o.id) (names ys))
+      step : (c : Bool) (o : IsItemOf (λ id. ends_of_name (label, id) acked) x y.key y) → AreApart (names ys)
+          → AreApart (name_if label c (Some o.id) (names ys))
       step true o rest = (apart-from y o ys h.1 none, rest)
       step false o rest = rest
 
@@ -148,7 +151,8 @@ module _ (n : ℕ) (refs : References) (acked : List (Interval ℕ)) (label : Ch
         omega (arith, most, same)
 
 module _ {U : Type 0} (xs : List (TreeElement U)) where
-  number-from-zero : (c : ℕ) (p q : Option ℕ) → is_some p ≡ is_some q → int_le (pos c) (number_at xs last q) ≡ true → int_le (pos 0) (number_at xs last p) ≡ true
+  number-from-zero : (c : ℕ) (p q : Option ℕ) → is_some p ≡ is_some q → int_le (pos c) (number_at xs last q) ≡ true
+      → int_le (pos 0) (number_at xs last p) ≡ true
   number-from-zero c None None h e = absurd (true-false e (not-le (pos c) (pos-above c)))
   number-from-zero c None (Some j) h e = (cc)
   number-from-zero c (Some i) q h e = zero-le _
@@ -177,7 +181,8 @@ module _ {U : Type 0} (xs : List (TreeElement U)) where
 
     -- ---- each is shown within the range, or an operation is on it
 
-    found-counted : (y : Item) (o : IsItemOf (λ id. ends_of_name (label, id) acked) x y.key y) → item_at y.key (list_in x).items ≡ Some y → meets_range place a b y ≡ true
+    found-counted : (y : Item) (o : IsItemOf (λ id. ends_of_name (label, id) acked) x y.key y) → item_at y.key (list_in x).items ≡ Some y
+        → meets_range place a b y ≡ true
         → IsCounted (filter passes shown) ts (label, o.id)
     unfolding shown_end
     found-counted y o own m = by (is_on_any (label, o.id) ts) refl
@@ -196,17 +201,20 @@ module _ {U : Type 0} (xs : List (TreeElement U)) where
             let parts = both (int_le (place y.start) (pos b)) (int_le (pos a) (place y.end)) m in
             let key : y.start ≡ y.key = ap (λ (z : Item). z.start) o.item in
             let pass = passes-it i (found-name (label, o.id) acked i w.there)
-            (ap (λ p. int_le (number_at xs last (shown_end xs (place_of_end refs p))) (pos b)) (ap (λ (p : EndPair ℕ). p.start) ends) ∙ ap (λ k. int_le (place k) (pos b)) (sym key) ∙ parts.0)
+            (ap (λ p. int_le (number_at xs last (shown_end xs (place_of_end refs p))) (pos b)) (ap (λ (p : EndPair ℕ). p.start) ends)
+            ∙ ap (λ k. int_le (place k) (pos b)) (sym key) ∙ parts.0)
             (ap (λ p. int_le (pos a) (number_at xs last (shown_end xs (place_of_end refs p)))) (ap (λ (p : EndPair ℕ). p.end) ends) ∙ parts.1)
             (number-from-zero a (shown_end xs (place_of_end refs i.ends.start)) (shown_end xs (reference_place refs y.end)) (side ends key) parts.1) in
-            ap (λ u. is_some u) (interval_of-filter passes (label, o.id) shown (rise-shown_from xs 0 ts from rise-from) ∙ ap (kept passes) is ∙ ap (λ c. cond c (Some (carried_interval xs 0 last at)) None) pass)
+            ap (λ u. is_some u) (interval_of-filter passes (label, o.id) shown (rise-shown_from xs 0 ts from rise-from)
+            ∙ ap (kept passes) is ∙ ap (λ c. cond c (Some (carried_interval xs 0 last at)) None) pass)
             )
           where
             ends-in : Option (Interval ℕ) → EndPair ℕ
             ends-in u = elim u as (λ _. EndPair ℕ) [ None ↦ record { start = None; end = None } | Some j ↦ j.ends ]
 
             rise-from : NamesRise from
-            rise-from = NamesRise-map (settled_interval xs 0) (placed_intervals refs acked) (λ i. refl) (NamesRise-map (with_mapped_ends (places_of_ends refs)) acked (λ i. refl) rise)
+            rise-from = NamesRise-map (settled_interval xs 0) (placed_intervals refs acked) (λ i. refl)
+                (NamesRise-map (with_mapped_ends (places_of_ends refs)) acked (λ i. refl) rise)
 
             side : {e : EndPair ℕ} → e ≡ record { start = Some y.key; end = Some y.end } → y.start ≡ y.key
                 → is_some (shown_end xs (place_of_end refs e.start)) ≡ is_some (shown_end xs (reference_place refs y.end))
@@ -232,4 +240,5 @@ module _ {U : Type 0} (xs : List (TreeElement U)) where
         (NamesRise-map (with_mapped_ends (places_of_ends refs)) acked (λ i. refl) rise)))) in
         let count : length (filter (meets label a b) (map (shown_record xs) shown)) ≡ length (filter passes shown) =
         ap (λ (rs : List IntervalRec). length rs) (filter-map (meets label a b) (shown_record xs) shown) ∙ length-map (filter passes shown) (shown_record xs) in
-        more-room (length (keys_meeting place a b (list_in x).items)) (length (filter passes shown)) (length (filter (meets label a b) (map (shown_record xs) shown))) (length ts) most count
+        more-room (length (keys_meeting place a b (list_in x).items)) (length (filter passes shown))
+        (length (filter (meets label a b) (map (shown_record xs) shown))) (length ts) most count

@@ -93,7 +93,8 @@ less-intervals n is ts (m ∷ ms) r d h = (one h.0, less-intervals n is ts ms r 
     one (inl e) = inl (ap (λ o. is_some o) same ∙ e)
     one (inr e) = inr e
 
-less-operations : (n : Name) (is : List (Interval ℕ)) (ts : List Operation) (ms : List Name) → IsApart n ms → AreCounted is ts ms → AreCounted is (without_one n ts) ms
+less-operations : (n : Name) (is : List (Interval ℕ)) (ts : List Operation) (ms : List Name) → IsApart n ms → AreCounted is ts ms
+    → AreCounted is (without_one n ts) ms
 less-operations n is ts [] d h = tt
 less-operations n is ts (m ∷ ms) d h = (one h.0, less-operations n is ts ms d.1 h.1)
   where
@@ -101,12 +102,14 @@ less-operations n is ts (m ∷ ms) d h = (one h.0, less-operations n is ts ms d.
     one (inl e) = inl e
     one (inr e) = inr (still-on n m ts d.0 e)
 
-pub counted : (ns : List Name) (is : List (Interval ℕ)) (ts : List Operation) → NamesRise is → AreApart ns → AreCounted is ts ns → length ns ≤ length is + length ts
+pub counted : (ns : List Name) (is : List (Interval ℕ)) (ts : List Operation) → NamesRise is → AreApart ns → AreCounted is ts ns
+    → length ns ≤ length is + length ts
 counted [] is ts r d h = omega arith
 counted (n ∷ ns) is ts r d h = one h.0 (λ js us s g. counted ns js us s d.1 g)
   where
     by : (o : Option (Interval ℕ)) → interval_of n is ≡ o → is_some o ≡ true
-        → ((js : List (Interval ℕ)) (us : List Operation) → NamesRise js → AreCounted js us ns → length ns ≤ length js + length us) → suc (length ns) ≤ length is + length ts
+        → ((js : List (Interval ℕ)) (us : List Operation) → NamesRise js → AreCounted js us ns → length ns ≤ length js + length us)
+        → suc (length ns) ≤ length is + length ts
     by None e f rest = (cc)
     by (Some i) e f rest =
         let len = shorter n is i e in
@@ -114,7 +117,8 @@ counted (n ∷ ns) is ts r d h = one h.0 (λ js us s g. counted ns js us s d.1 g
         omega (arith, len, more)
 
     one : IsCounted is ts n
-        → ((js : List (Interval ℕ)) (us : List Operation) → NamesRise js → AreCounted js us ns → length ns ≤ length js + length us) → suc (length ns) ≤ length is + length ts
+        → ((js : List (Interval ℕ)) (us : List Operation) → NamesRise js → AreCounted js us ns → length ns ≤ length js + length us)
+        → suc (length ns) ≤ length is + length ts
     one (inl e) rest = by (interval_of n is) refl e rest
     one (inr e) rest =
         let len = fewer n ts e in

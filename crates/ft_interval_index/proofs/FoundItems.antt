@@ -58,7 +58,8 @@ module _ (place : ℕ → ℤ) (a b : ℕ) where
       later true g = or_right (test x.key) (list_any test (keys_meeting place a b ys)) g
       later false g = g
 
-      step : (c : Bool) → nat_eq x.key key ≡ c → cond c (Some x) (item_at key ys) ≡ Some y → (item_at key ys ≡ Some y → list_any test (keys_meeting place a b ys) ≡ true)
+      step : (c : Bool) → nat_eq x.key key ≡ c → cond c (Some x) (item_at key ys) ≡ Some y
+          → (item_at key ys ≡ Some y → list_any test (keys_meeting place a b ys) ≡ true)
           → list_any test (keys_meeting place a b (x ∷ ys)) ≡ true
       step true e g rest =
           let same : x ≡ y = (cc) in
@@ -107,7 +108,8 @@ module _ {U : Type 0} (xs : List (TreeElement U)) where
       let at : k + (m - k) ≡ m = omega (arith, h) in
       sym (ap (λ j. carried_end xs k j end) (sym sum) ∙ carried-sum xs (m - k) (last - m) k end ∙ ap (λ j. carried_end xs j (last - m) (carried_end xs k (m - k) end)) at)
 
-  pub unnamed-shown : (n : Name) (k : ℕ) (ts : List Operation) (i : Interval ℕ) → k ≤ last → is_on_any n ts ≡ false → StagesRise k ts → All (λ (t : Operation). t.stage ≤ last) ts
+  pub unnamed-shown : (n : Name) (k : ℕ) (ts : List Operation) (i : Interval ℕ) → k ≤ last → is_on_any n ts ≡ false → StagesRise k ts
+      → All (λ (t : Operation). t.stage ≤ last) ts
       → shown_one_from xs n k ts (Some i) ≡ Some (carried_interval xs k last i)
   unnamed-shown n k [] i l h r f = refl
   unnamed-shown n k (t ∷ ts) i l h r f =
@@ -132,7 +134,8 @@ module _ {U : Type 0} (xs : List (TreeElement U)) where
   unfolding shown_end
   shown-none = carried-none xs 0 (last - 0)
 
-  attached-by : (refs : References) (c : ℤ) → negsuc 0 <ℤ c → (end : Option ℕ) → int_le c (number_at xs last (shown_end xs (place_of_end refs end))) ≡ true → IsAttachedEnd refs end
+  attached-by : (refs : References) (c : ℤ) → negsuc 0 <ℤ c → (end : Option ℕ)
+      → int_le c (number_at xs last (shown_end xs (place_of_end refs end))) ≡ true → IsAttachedEnd refs end
   attached-by refs c above None h = absurd (true-false h (ap (λ p. int_le c (number_at xs last p)) shown-none ∙ not-le c above))
   attached-by refs c above (Some s) h = by (reference_place refs s) refl
     where

@@ -93,7 +93,8 @@ pub on-placed : (refs : References) (n : Name) (ts : List Operation) → is_on_a
 on-placed refs n [] = refl
 on-placed refs n (t ∷ ts) = ap (λ b. is_on n t.op || b) (on-placed refs n ts)
 
-pub fits-placed : (refs : References) (ts : List Operation) → All (λ (t : Operation). t.stage ≤ last) ts → All (λ (t : Operation). t.stage ≤ last) (placed_operations refs ts)
+pub fits-placed : (refs : References) (ts : List Operation) → All (λ (t : Operation). t.stage ≤ last) ts
+    → All (λ (t : Operation). t.stage ≤ last) (placed_operations refs ts)
 fits-placed refs [] h = All-nil (λ (t : Operation). t.stage ≤ last)
 fits-placed refs (t ∷ ts) h =
     let P : Operation → Type 0 = λ u. u.stage ≤ last in

@@ -47,7 +47,8 @@ from-attached refs ends s e h = by ends.start ends.end refl refl h
     by (Some x) None p q g = absurd (none-some g)
     by (Some x) (Some y) p q g = step (is_some (reference_place refs x)) (is_some (reference_place refs y)) refl refl g
       where
-        step : (i j : Bool) → is_some (reference_place refs x) ≡ i → is_some (reference_place refs y) ≡ j → cond {A = Option (ℕ × ℕ)} i (cond {A = Option (ℕ × ℕ)} j (Some (x, y)) None) None ≡ Some (s, e)
+        step : (i j : Bool) → is_some (reference_place refs x) ≡ i → is_some (reference_place refs y) ≡ j
+            → cond {A = Option (ℕ × ℕ)} i (cond {A = Option (ℕ × ℕ)} j (Some (x, y)) None) None ≡ Some (s, e)
             → AreAttached refs ends s e
         step true true i j k =
             let same = some-is k in
@@ -289,7 +290,8 @@ module _ (n : ℕ) (refs : References) (id : Characters) (is : Characters → Bo
 
 module _ (n m : ℕ) (refs after : References) (has : Characters → EndPair ℕ) (x : Option LabelIndex) (E : ℕ → Type 0)
     (known : (id : Characters) (r : ℕ) → ((has id).start ≡ Some r) ⊎ ((has id).end ≡ Some r) → E r)
-    (rises : (r s : ℕ) → E r → E s → IsWithin n (reference_place refs s) → IsAtMost (reference_place refs r) (reference_place refs s) → IsAtMost (reference_place after r) (reference_place after s))
+    (rises : (r s : ℕ) → E r → E s → IsWithin n (reference_place refs s) → IsAtMost (reference_place refs r) (reference_place refs s)
+    → IsAtMost (reference_place after r) (reference_place after s))
     (inside : (r : ℕ) → E r → IsWithin n (reference_place refs r) → IsWithin m (reference_place after r))
     (together : (r s : ℕ) → E r → E s → IsWithin n (reference_place refs r) → IsWithin n (reference_place refs s)
     → is_some (reference_place refs r) ≡ is_some (reference_place refs s) → is_some (reference_place after r) ≡ is_some (reference_place after s))
@@ -350,10 +352,12 @@ module _ (n m : ℕ) (refs after : References) (has : Characters → EndPair ℕ
 
 -- the same where all places change by f
 pub moved-listed : (n m : ℕ) (f : Option ℕ → Option ℕ) → KeepsEndOrder n m f → (refs after : References) (has : Characters → EndPair ℕ) (x : Option LabelIndex)
-    → ((id : Characters) (r : ℕ) → ((has id).start ≡ Some r) ⊎ ((has id).end ≡ Some r) → reference_place after r ≡ f (reference_place refs r)) → IsListed n refs has x → IsListed m after has x
+    → ((id : Characters) (r : ℕ) → ((has id).start ≡ Some r) ⊎ ((has id).end ≡ Some r) → reference_place after r
+    ≡ f (reference_place refs r)) → IsListed n refs has x → IsListed m after has x
 moved-listed n m f o refs after has x moved l =
     kept-listed n m refs after has x (λ r. reference_place after r ≡ f (reference_place refs r)) moved
-    (λ r s e g w h. subst (λ u. IsAtMost u (reference_place after s)) (sym e) (subst (λ u. IsAtMost (f (reference_place refs r)) u) (sym g) (o.rises (reference_place refs r) (reference_place refs s) w h)))
+    (λ r s e g w h. subst (λ u. IsAtMost u (reference_place after s)) (sym e)
+    (subst (λ u. IsAtMost (f (reference_place refs r)) u) (sym g) (o.rises (reference_place refs r) (reference_place refs s) w h)))
     (λ r e w. subst (IsWithin m) (sym e) (o.within (reference_place refs r) w))
     (λ r s e g w v h. ap (λ u. is_some u) e ∙ o.together (reference_place refs r) (reference_place refs s) w v h ∙ sym (ap (λ u. is_some u) g))
     (λ r e h. e ∙ ap f h ∙ o.detached) l

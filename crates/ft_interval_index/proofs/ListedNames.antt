@@ -68,7 +68,8 @@ module _ (label id : Characters) (is : List (Interval ℕ)) where
   gone : but (label, id) ≡ no_ends
   gone = ap (λ b. cond b no_ends (all (label, id))) it-is
 
-  module _ (n : ℕ) (refs : References) (old new : List LabelIndex) (once : (l : Characters) → StartOnce (λ j. all (l, j))) (others : KeepsOtherLabels label old new) where
+  module _ (n : ℕ) (refs : References) (old new : List LabelIndex) (once : (l : Characters) → StartOnce (λ j. all (l, j)))
+      (others : KeepsOtherLabels label old new) where
     -- ---- out
 
     out-here : AreListed n refs all old → Unlists refs (all (label, id)) (index_of label old) (index_of label new)
@@ -103,9 +104,11 @@ module _ (label id : Characters) (is : List (Interval ℕ)) where
             (unattached-listed n refs id is_it (λ j. but (label, j)) (λ j. all (label, j)) differ-in (index_of label old) (h label) (once label) gone e)
         by (Some p) e t =
             let a = from-attached refs (all (label, id)) p.0 p.1 e in
-            put-listed n refs id is_it (λ j. but (label, j)) (λ j. all (label, j)) differ-in (index_of label old) (h label) (once label) gone p.0 p.1 a (index_of label new) (w p.0 p.1 a) t
+            put-listed n refs id is_it (λ j. but (label, j)) (λ j. all (label, j)) differ-in (index_of label old) (h label) (once label)
+            gone p.0 p.1 a (index_of label new) (w p.0 p.1 a) t
 
-    pub enlisted : AreListed n refs but old → Enlists refs id (all (label, id)) (index_of label old) (index_of label new) → AreNamedEndsWithin n refs (label, id) is
+    pub enlisted : AreListed n refs but old → Enlists refs id (all (label, id)) (index_of label old) (index_of label new)
+        → AreNamedEndsWithin n refs (label, id) is
         → AreListed n refs all new
     enlisted h u w l = by (is_eq (text_cmp l label)) refl
       where
@@ -150,12 +153,14 @@ pub enlists-none : (refs : References) (id : Characters) (ends : EndPair ℕ) (x
 enlists-none refs id ends x none =
     subst (λ (o : Option (ℕ × ℕ)). elim o as (λ _. Type 0) [ None ↦ x ≡ x | Some p ↦ PutsItem refs id p.0 p.1 x x ]) (sym none) refl
 
-pub enlists-by : (refs : References) (id : Characters) (ends : EndPair ℕ) (p : ℕ × ℕ) (x y : Option LabelIndex) → attached_ends refs ends ≡ Some p → PutsItem refs id p.0 p.1 x y
+pub enlists-by : (refs : References) (id : Characters) (ends : EndPair ℕ) (p : ℕ × ℕ) (x y : Option LabelIndex)
+    → attached_ends refs ends ≡ Some p → PutsItem refs id p.0 p.1 x y
     → Enlists refs id ends x y
 enlists-by refs id ends p x y at t =
     subst (λ (o : Option (ℕ × ℕ)). elim o as (λ _. Type 0) [ None ↦ y ≡ x | Some p ↦ PutsItem refs id p.0 p.1 x y ]) (sym at) t
 
-pub puts-from : (refs : References) (id : Characters) (s e : ℕ) (old mid new : Option LabelIndex) → IsSameIndex old mid → PutsItem refs id s e mid new → PutsItem refs id s e old new
+pub puts-from : (refs : References) (id : Characters) (s e : ℕ) (old mid new : Option LabelIndex) → IsSameIndex old mid
+    → PutsItem refs id s e mid new → PutsItem refs id s e old new
 puts-from refs id s e old mid new same p = record {
   items = p.items ∙ ap (λ (x : ItemList). put_item (list_place refs) (item_for s e) x.items) same.list;
   order = p.order;
@@ -180,8 +185,10 @@ live-without refs c live m n = by (is_eq (name_cmp n m)) (live-ends-of refs c li
     by false h = h
 
 -- an item more is known where its ends are live and within
-pub known-more : (tree : TreeState TextContent) (n : ℕ) (ends : EndPair ℕ) (s e : ℕ) (xs : List Item) → IsTrue tree.usable → n ≤ 9223372036854775808 → AreLiveEnds tree.refs ends
-    → AreAttached tree.refs ends s e → IsWithin n (reference_place tree.refs s) × IsWithin n (reference_place tree.refs e) → AreKnown (IsPlaced tree) xs → AreKnown (IsPlaced tree) (item_for s e ∷ xs)
+pub known-more : (tree : TreeState TextContent) (n : ℕ) (ends : EndPair ℕ) (s e : ℕ) (xs : List Item) → IsTrue tree.usable
+    → n ≤ 9223372036854775808 → AreLiveEnds tree.refs ends
+    → AreAttached tree.refs ends s e → IsWithin n (reference_place tree.refs s) × IsWithin n (reference_place tree.refs e)
+    → AreKnown (IsPlaced tree) xs → AreKnown (IsPlaced tree) (item_for s e ∷ xs)
 known-more tree n ends s e xs usable few live a w k =
     let first : IsReferenceIn tree.refs s = subst (IsLiveEnd tree.refs) a.start live.0 in
     let second : IsReferenceIn tree.refs e = subst (IsLiveEnd tree.refs) a.end live.1 in

@@ -61,12 +61,14 @@ module _ (tree : TreeState TextContent) (c : CollectionsState) (label : Characte
       → filter (meets label a b) (map (shown_record xs) (shown_from xs 0 ts is)) ≡ answers
   found-own fits is p =
       gathered-shown xs ts from is (λ n. is_on_any n c.pending || is_met place a b n x) p
-      (NamesRise-map (settled_interval xs 0) (placed_intervals tree.refs c.acked) (λ i. refl) (NamesRise-map (with_mapped_ends (places_of_ends tree.refs)) c.acked (λ i. refl) names))
+      (NamesRise-map (settled_interval xs 0) (placed_intervals tree.refs c.acked) (λ i. refl)
+      (NamesRise-map (with_mapped_ends (places_of_ends tree.refs)) c.acked (λ i. refl) names))
       (λ n h. on-placed tree.refs n c.pending ∙ first-false (is_on_any n c.pending) (is_met place a b n x) h) (meets label a b)
       (λ m h. unwanted xs (length xs) tree.refs c.acked ts label a b x names (placed-rise tree.refs 0 c.pending order.rising) (fits-placed tree.refs c.pending fits) of-label l m
       (ap (λ (o : Bool). o || is_met place a b m x) (on-placed tree.refs m c.pending) ∙ h))
 
-  pub found-all : (y : Option LabelIndex) → y ≡ x → AreFitting → (is : List (Interval ℕ)) → IsPartOf from is (λ n. is_on_any n c.pending || is_met place a b n y)
+  pub found-all : (y : Option LabelIndex) → y ≡ x → AreFitting → (is : List (Interval ℕ))
+      → IsPartOf from is (λ n. is_on_any n c.pending || is_met place a b n y)
       → filter (meets label a b) (map (shown_record xs) (shown_from xs 0 ts is)) ≡ answers
   found-all y at fits is p = found-own fits is (subst (λ (o : Option LabelIndex). IsPartOf from is (λ n. is_on_any n c.pending || is_met place a b n o)) at p)
 
@@ -85,7 +87,8 @@ module _ (tree : TreeState TextContent) (c : CollectionsState) (label : Characte
   ]
 
   -- and few nodes are read for it
-  pub few-steps : (y : Option LabelIndex) → y ≡ x → (new old : ℕ) → Reads new old y → new ≤ old + 9 * ((list_in x).depth + 1) * (length answers + length c.pending + 1)
+  pub few-steps : (y : Option LabelIndex) → y ≡ x → (new old : ℕ) → Reads new old y
+      → new ≤ old + 9 * ((list_in x).depth + 1) * (length answers + length c.pending + 1)
   few-steps y at new old h = few-own new old (subst (Reads new old) at h)
 
 -- ---- no more items than intervals

@@ -55,7 +55,8 @@ module _ {A : Type 0} (ok : A → Bool) where
   here : (i n : ℕ) (last : Option ℕ) (x : A) (xs : List A) → n ≡ i → settled_from ok i last n (x ∷ xs) ≡ option_or (first_from ok n (x ∷ xs)) last
   here i n last x xs e = cond-true (nat_eq n i) _ _ (eq-eqb n i e)
 
-  later : (i n : ℕ) (last : Option ℕ) (x : A) (xs : List A) → n ≢ i → settled_from ok i last n (x ∷ xs) ≡ settled_from ok i (cond (ok x) (Some n) last) (n + 1) xs
+  later : (i n : ℕ) (last : Option ℕ) (x : A) (xs : List A) → n ≢ i
+      → settled_from ok i last n (x ∷ xs) ≡ settled_from ok i (cond (ok x) (Some n) last) (n + 1) xs
   later i n last x xs d = cond-false (nat_eq n i) _ _ (ne_eqb n i d)
 
   first-least : (n : ℕ) (xs : List A) (j : ℕ) → first_from ok n xs ≡ Some j → n ≤ j
@@ -94,7 +95,8 @@ module _ {A : Type 0} (ok : A → Bool) where
         (settled-least j (n + 1) (Some n) xs (omega arith) (omega (arith, l, d)) (omega (arith, s))))
   ]
     where
-      step : (b : Bool) → IsAtMost (option_or (first_from ok (n + 1) xs) last) (settled_from ok j last (n + 1) xs) → IsAtMost (Some n) (settled_from ok j (Some n) (n + 1) xs)
+      step : (b : Bool) → IsAtMost (option_or (first_from ok (n + 1) xs) last) (settled_from ok j last (n + 1) xs)
+          → IsAtMost (Some n) (settled_from ok j (Some n) (n + 1) xs)
           → IsAtMost (option_or (cond b (Some n) (first_from ok (n + 1) xs)) last) (settled_from ok j (cond b (Some n) last) (n + 1) xs)
       step true rest next = next
       step false rest next = rest
@@ -138,4 +140,5 @@ module _ {A : Type 0} (ok : A → Bool) where
   pub settle-within : (xs : List A) (a : Option ℕ) → IsWithin (length xs) (settle xs a)
   settle-within xs None = tt
   settle-within xs (Some i) =
-      subst (λ r. IsWithin (length xs) r) (sym (settled_place-from ok i xs)) (within-more (0 + length xs) (length xs) (settled_from ok i None 0 xs) (omega arith) (settled-stays-within i 0 None xs tt))
+      subst (λ r. IsWithin (length xs) r) (sym (settled_place-from ok i xs))
+      (within-more (0 + length xs) (length xs) (settled_from ok i None 0 xs) (omega arith) (settled-stays-within i 0 None xs tt))

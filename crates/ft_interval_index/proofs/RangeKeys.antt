@@ -54,7 +54,8 @@ module _ (a b : ℕ) (low high s e : ℤ) (least : negsuc 0 ≤ℤ s) (top : s �
     | inr fits ↦ let p = r.fits fits in ap (λ q. q && not (int_lt e low)) (start-same p.1) ∙ ap (λ q. int_le s (pos b) && q) (end-same p.0)
   ]
 
-module _ (place : ℕ → ℤ) (a b : ℕ) (low high : ℤ) (r : IsRange a b low high) (least : (k : ℕ) → negsuc 0 ≤ℤ place k) (most : (k : ℕ) → place k ≤ℤ pos 9223372036854775807) where
+module _ (place : ℕ → ℤ) (a b : ℕ) (low high : ℤ) (r : IsRange a b low high) (least : (k : ℕ) → negsuc 0 ≤ℤ place k)
+    (most : (k : ℕ) → place k ≤ℤ pos 9223372036854775807) where
   pub keys-same : (ys : List Item) → keys_within place low high ys ≡ keys_meeting place a b ys
   keys-same [] = refl
   keys-same (y ∷ ys) =

@@ -24,7 +24,8 @@ start-kept n (x ∷ is) i s h e =
     (λ o. (let never : None ≡ Some i = sym (at-less n x is o) ∙ h in absurd (cc)))
     (λ o. (let same : Some x ≡ Some i = sym (at-equal n x is o) ∙ h in let is_x : x ≡ i = (cc) in
     let here : is_reference s x.ends.start ≡ true = self s x.ends.start (ap (λ (z : Interval ℕ). z.ends.start) is_x ∙ e) in
-    let one : len (is_reference s) (both_ends x.ends) ≡ one_more_if true (len (is_reference s) (x.ends.end ∷ [])) = ap (λ b. one_more_if b (len (is_reference s) (x.ends.end ∷ []))) here in
+    let one : len (is_reference s) (both_ends x.ends) ≡ one_more_if true (len (is_reference s) (x.ends.end ∷ [])) =
+    ap (λ b. one_more_if b (len (is_reference s) (x.ends.end ∷ []))) here in
     omega (arith, both, one)))
     (λ o. (let more = start-kept n is i s (sym (at-greater n x is o) ∙ h) e in omega (arith, both, more)))
 
@@ -68,7 +69,8 @@ has-start is n s h = by (interval_of n is) refl h
     by None e g = (let never : None ≡ Some s = g in absurd (cc))
     by (Some i) e g = record { interval = i; there = e; start = g }
 
-pub starts-once : (c : CollectionsState) → IsInOrder c → (n m : Name) (s : ℕ) → (ends_of_name n c.acked).start ≡ Some s → (ends_of_name m c.acked).start ≡ Some s → n ≡ m
+pub starts-once : (c : CollectionsState) → IsInOrder c → (n m : Name) (s : ℕ) → (ends_of_name n c.acked).start ≡ Some s
+    → (ends_of_name m c.acked).start ≡ Some s → n ≡ m
 starts-once c o n m s h k =
     let a = has-start c.acked n s h in
     let b = has-start c.acked m s k in

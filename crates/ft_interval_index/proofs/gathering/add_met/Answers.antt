@@ -9,4 +9,5 @@ pub returns-clause-part : goal.returns-clause-part
 returns-clause-part g c =
     let tree = c.args.tree.now in
     let from = map (settled_interval (text_elements tree) 0) (placed_intervals tree.refs c.args.store.now.acked) in
-    subst (λ (keys : List ℕ). Gathers tree from (λ n. is_found n c.args.index.now keys) c.args.all c.add_found.new.all) (c.as_slice.ensures.value ∙ c.in_ok-keys.ensures.keys) c.in_ok-add_found.ensures
+    subst (λ (keys : List ℕ). Gathers tree from (λ n. is_found n c.args.index.now keys) c.args.all c.add_found.new.all)
+    (c.as_slice.ensures.value ∙ c.in_ok-keys.ensures.keys) c.in_ok-add_found.ensures

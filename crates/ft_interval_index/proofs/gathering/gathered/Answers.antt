@@ -31,8 +31,10 @@ returns-in-Some-clause-part g c =
     let place = shown_place (text_elements tree) tree.refs in
     let from = map (settled_interval (text_elements tree) 0) (placed_intervals tree.refs c.args.store.now.acked) in
     let w = c.in_ok-all.ensures.part in
-    let Part = λ (x : Option LabelIndex) (all : List (Interval Place)). (is : List (Interval ℕ)) × ShowsAll tree 0 is all × IsPartOf from is (λ n. is_on_any n ts || is_met place c.args.a c.args.b n x) in
-    IfOk-weaker c.add_met.result _ _ (λ all h. subst (λ (x : Option LabelIndex). Part x all) (sym (ap option_copied c.in-Some.is)) (h w.0 (λ n. is_on_any n ts) w.1 w.2)) c.add_met.ensures.part
+    let Part = λ (x : Option LabelIndex) (all : List (Interval Place)). (is : List (Interval ℕ)) × ShowsAll tree 0 is all
+    × IsPartOf from is (λ n. is_on_any n ts || is_met place c.args.a c.args.b n x) in
+    IfOk-weaker c.add_met.result _ _ (λ all h. subst (λ (x : Option LabelIndex). Part x all) (sym (ap option_copied c.in-Some.is))
+    (h w.0 (λ n. is_on_any n ts) w.1 w.2)) c.add_met.ensures.part
 
 pub returns-in-Some-clause-fits : goal.returns-in-Some-clause-fits
 returns-in-Some-clause-fits g c = IfOk-weaker c.add_met.result _ _ (λ all h. c.in_ok-all.ensures.fits) c.add_met.ensures.part
@@ -41,7 +43,8 @@ pub returns-in-Some-clause-cost : goal.returns-in-Some-clause-cost
 returns-in-Some-clause-cost g c =
     let tree = c.args.tree.now in
     let place = shown_place (text_elements tree) tree.refs in
-    let Few = λ (x : Option LabelIndex). c.add_met.new.steps ≤ c.args.steps.now + 9 * ((list_in x).depth + 1) * (length (keys_meeting place c.args.a c.args.b (list_in x).items) + 1) in
+    let Few = λ (x : Option LabelIndex). c.add_met.new.steps ≤ c.args.steps.now + 9 * ((list_in x).depth + 1)
+    * (length (keys_meeting place c.args.a c.args.b (list_in x).items) + 1) in
     inr (c.in_ok-all.ensures.fits, subst Few (sym (ap option_copied c.in-Some.is)) c.add_met.ensures.cost)
 
 pub returns-in-None-clause-part : goal.returns-in-None-clause-part

@@ -17,7 +17,8 @@ pub add_item-requires-clause-known : goal.add_item-requires-clause-known
 add_item-requires-clause-known c =
     let label = c.args.label.now in
     let xs = c.place_for.new.indexes.items in
-    let list = sym c.in_ok-i.ensures.same.list ∙ ap list_in (label-found label xs c.in_ok-i.i c.in_ok-i.ensures.at c.index_mut.result.now) ∙ ap (λ (y : LabelIndex). y.index) (sym c.index_mut.ensures.value) in
+    let list = sym c.in_ok-i.ensures.same.list ∙ ap list_in (label-found label xs c.in_ok-i.i c.in_ok-i.ensures.at c.index_mut.result.now)
+    ∙ ap (λ (y : LabelIndex). y.index) (sym c.index_mut.ensures.value) in
     let here = from-attached c.args.tree.now.refs c.args.ends c.in-Some.start c.in-Some.end (sym c.both_attached.ensures ∙ c.in-Some.is) in
     subst (λ (x : ItemList). AreKnown (IsPlaced c.args.tree.now) (item_for c.in-Some.start c.in-Some.end ∷ x.items)) list (c.requires.known c.in-Some.start c.in-Some.end here)
 
@@ -25,14 +26,16 @@ pub add_item-requires-clause-order : goal.add_item-requires-clause-order
 add_item-requires-clause-order c =
     let label = c.args.label.now in
     let xs = c.place_for.new.indexes.items in
-    let list = sym c.in_ok-i.ensures.same.list ∙ ap list_in (label-found label xs c.in_ok-i.i c.in_ok-i.ensures.at c.index_mut.result.now) ∙ ap (λ (y : LabelIndex). y.index) (sym c.index_mut.ensures.value) in
+    let list = sym c.in_ok-i.ensures.same.list ∙ ap list_in (label-found label xs c.in_ok-i.i c.in_ok-i.ensures.at c.index_mut.result.now)
+    ∙ ap (λ (y : LabelIndex). y.index) (sym c.index_mut.ensures.value) in
     subst (λ (x : ItemList). IsInOrder (list_place c.args.tree.now.refs) x) list c.requires.order
 
 pub add_item-requires-clause-fresh : goal.add_item-requires-clause-fresh
 add_item-requires-clause-fresh c =
     let label = c.args.label.now in
     let xs = c.place_for.new.indexes.items in
-    let list = sym c.in_ok-i.ensures.same.list ∙ ap list_in (label-found label xs c.in_ok-i.i c.in_ok-i.ensures.at c.index_mut.result.now) ∙ ap (λ (y : LabelIndex). y.index) (sym c.index_mut.ensures.value) in
+    let list = sym c.in_ok-i.ensures.same.list ∙ ap list_in (label-found label xs c.in_ok-i.i c.in_ok-i.ensures.at c.index_mut.result.now)
+    ∙ ap (λ (y : LabelIndex). y.index) (sym c.index_mut.ensures.value) in
     let here = from-attached c.args.tree.now.refs c.args.ends c.in-Some.start c.in-Some.end (sym c.both_attached.ensures ∙ c.in-Some.is) in
     sym (ap (λ (x : ItemList). has_key c.in-Some.start x.items) list) ∙ c.requires.fresh c.in-Some.start c.in-Some.end here
 
@@ -59,4 +62,5 @@ returns-clause-others c =
     let xs = c.place_for.new.indexes.items in
     let d = c.index_mut.result.now in
     on_ok_weaker c.add_item.result (λ p. others-then label c.args.indexes.now.items xs (set xs c.in_ok-i.i c.add_item.new.x) c.in_ok-i.ensures.others
-    (others-written label xs c.in_ok-i.i c.in_ok-i.ensures.at d c.add_item.new.x (c.add_item.ensures.label ∙ ap (λ (y : LabelIndex). y.label) c.index_mut.ensures.value))) c.add_item.ensures.puts
+    (others-written label xs c.in_ok-i.i c.in_ok-i.ensures.at d c.add_item.new.x
+    (c.add_item.ensures.label ∙ ap (λ (y : LabelIndex). y.label) c.index_mut.ensures.value))) c.add_item.ensures.puts

@@ -58,4 +58,5 @@ returns-clause-others c =
     let xs = c.args.indexes.now.items in
     let p : LabelIndex → Bool = λ (x : LabelIndex). is_eq (text_cmp label x.label) in
     let at : position p xs ≡ Some c.in-Some-label_place.i = ap (position p) (sym c.deref.ensures.value) ∙ sym c.label_place.ensures ∙ c.in-Some-label_place.is in
-    others-written label xs c.in-Some-label_place.i at c.index_mut.result.now c.take_item.new.x (c.take_item.ensures.label ∙ ap (λ (y : LabelIndex). y.label) c.index_mut.ensures.value)
+    others-written label xs c.in-Some-label_place.i at c.index_mut.result.now c.take_item.new.x
+    (c.take_item.ensures.label ∙ ap (λ (y : LabelIndex). y.label) c.index_mut.ensures.value)

@@ -10,7 +10,8 @@ use Rattle.ft_interval_index.proofs.listing.enlist_named.Goals as goal
 
 pub enlist-requires-clause-live : goal.enlist-requires-clause-live
 enlist-requires-clause-live c =
-    subst (λ (e : EndPair ℕ). AreLiveEnds c.args.tree.now.refs e) (sym c.requires.ends) (live-ends-of c.args.tree.now.refs c.args.store.now c.requires.live (c.args.label.now, c.args.id.now))
+    subst (λ (e : EndPair ℕ). AreLiveEnds c.args.tree.now.refs e) (sym c.requires.ends)
+    (live-ends-of c.args.tree.now.refs c.args.store.now c.requires.live (c.args.label.now, c.args.id.now))
 
 pub enlist-requires-clause-known : goal.enlist-requires-clause-known
 enlist-requires-clause-known c = λ s e a.
@@ -32,7 +33,8 @@ enlist-requires-clause-fresh c = λ s e a.
     let tree = c.args.tree.now in
     let label = c.args.label.now in
     fresh-name label c.args.id.now c.args.store.now.acked (length (text_elements tree)) tree.refs (index_of label c.args.indexes.now.items)
-    (starts-once-in c.args.store.now c.first_stage-first.ensures.order label) (c.requires.listed label) s e (subst (λ (p : EndPair ℕ). AreAttached tree.refs p s e) c.requires.ends a)
+    (starts-once-in c.args.store.now c.first_stage-first.ensures.order label) (c.requires.listed label) s e
+    (subst (λ (p : EndPair ℕ). AreAttached tree.refs p s e) c.requires.ends a)
 
 pub returns : goal.returns
 returns c =
@@ -41,5 +43,6 @@ returns c =
     let is = c.args.store.now.acked in
     both-ok c.enlist.result _ _ _ (λ h o. enlisted label c.args.id.now is (length (text_elements tree)) tree.refs c.args.indexes.now.items c.enlist.new.indexes.items
     (starts-once-in c.args.store.now c.first_stage-first.ensures.order) o c.requires.listed
-    (subst (λ (e : EndPair ℕ). Enlists tree.refs c.args.id.now e (index_of label c.args.indexes.now.items) (index_of label c.enlist.new.indexes.items)) c.requires.ends h) c.requires.within)
+    (subst (λ (e : EndPair ℕ). Enlists tree.refs c.args.id.now e (index_of label c.args.indexes.now.items)
+    (index_of label c.enlist.new.indexes.items)) c.requires.ends h) c.requires.within)
     c.enlist.ensures.label c.enlist.ensures.others
