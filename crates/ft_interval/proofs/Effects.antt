@@ -71,7 +71,8 @@ module _ (tree new : TreeState TextContent) (c d : CollectionsState) (op : TextO
 
 -- the ends of its interval are what it told, or where it changed nothing those from before
 pub own-applied : (tree new : TreeState TextContent) (c d : CollectionsState) (op : TextOp) (now : Option (EndPair ℕ)) (had : EndPair ℕ)
-    → IfSome now (AreOwnEnds op d.acked) → (is_some now ≡ false → (d ≡ c) × (new ≡ tree)) → AreOwnEnds op c.acked had → AreOwnEnds op d.acked (unwrap_or now had)
+    → IfSome now (AreOwnEnds op d.acked) → (is_some now ≡ false → (d ≡ c) × (new ≡ tree)) → AreOwnEnds op c.acked had
+    → AreOwnEnds op d.acked (unwrap_or now had)
 own-applied tree new c d op None had told misfit own = subst (λ (x : CollectionsState). AreOwnEnds op x.acked had) (sym (misfit refl).0) own
 own-applied tree new c d op (Some ends) had told misfit own = told
 
@@ -87,7 +88,8 @@ module _ (op : TextOp) (g : EndPair ℕ → EndPair ℕ) (before after : Referen
   abbrev with_pending : List Operation → CollectionsState
   with_pending ts = record { acked = acked; pending = ts }
 
-  takes-of : (ts : List Operation) → first_operation ts ≡ Some op → IsAfterFirst ts acked d.acked → placed after d ≡ with_first_acked g (placed before (with_pending ts))
+  takes-of : (ts : List Operation) → first_operation ts ≡ Some op → IsAfterFirst ts acked d.acked
+      → placed after d ≡ with_first_acked g (placed before (with_pending ts))
       → TakesFirst op g before after acked d.acked
   takes-of [] h a e = absurd a
   takes-of (t ∷ ts) h a e =

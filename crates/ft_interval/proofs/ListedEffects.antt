@@ -31,7 +31,8 @@ pub record HasEnd (side : EndPair ℕ → Option ℕ) (is : List (Interval ℕ))
   pub there : interval_of m is ≡ Some interval
   pub end : side interval.ends ≡ Some r
 
-pub has-end : (side : EndPair ℕ → Option ℕ) → side no_ends ≡ None → (is : List (Interval ℕ)) (m : Name) (r : ℕ) → side (ends_of_name m is) ≡ Some r → HasEnd side is m r
+pub has-end : (side : EndPair ℕ → Option ℕ) → side no_ends ≡ None → (is : List (Interval ℕ)) (m : Name) (r : ℕ)
+    → side (ends_of_name m is) ≡ Some r → HasEnd side is m r
 has-end side none is m r h = by (interval_of m is) refl h
   where
     by : (o : Option (Interval ℕ)) → interval_of m is ≡ o → side (ends_in o) ≡ Some r → HasEnd side is m r
@@ -76,7 +77,8 @@ module _ {U : Type 0} (xs : List (TreeElement U)) (before after : References) (o
       ap (λ b. cond b (after_own op given (option_map at_before (interval_of m old))) (option_map at_before (interval_of m old))) h ∙ ap (option_map at_before) e in
       ap (λ (j : Interval ℕ). j.ends) (some-is (sym left ∙ placed-at m ∙ right))
 
-  end-stays : (m : Name) (r : ℕ) → ((ends_but op old m).start ≡ Some r) ⊎ ((ends_but op old m).end ≡ Some r) → reference_place after r ≡ reference_place before r
+  end-stays : (m : Name) (r : ℕ) → ((ends_but op old m).start ≡ Some r) ⊎ ((ends_but op old m).end ≡ Some r)
+      → reference_place after r ≡ reference_place before r
   end-stays m r h = by (is_on m op) refl
     where
       of : (side : EndPair ℕ → Option ℕ) → (b : Bool) → is_on m op ≡ b → side (ends_but op old m) ≡ Some r → side (cond b no_ends (ends_of_name m old)) ≡ Some r
@@ -184,7 +186,8 @@ module _ {U : Type 0} (xs : List (TreeElement U)) (before after : References) (o
       by (inr g) = old-ones g.0 g.1 g.2
 
 -- where no operation took effect its interval's ends are as they were
-pub ends-listed : (n : ℕ) (refs : References) (op : TextOp) (is : List (Interval ℕ)) (idx : List LabelIndex) → AreListed n refs (λ m. ends_of_name m is) idx → AreEndsWithin n refs op is
+pub ends-listed : (n : ℕ) (refs : References) (op : TextOp) (is : List (Interval ℕ)) (idx : List LabelIndex)
+    → AreListed n refs (λ m. ends_of_name m is) idx → AreEndsWithin n refs op is
 ends-listed n refs op is idx h m on s e a =
     let found = (h m.0).listed m.1 s e (to-attached refs (ends_of_name m is) s e a) in
     (h m.0).within s (item_for s e) found.0

@@ -29,7 +29,8 @@ module _ (before after : References) (is : List (Interval ℕ)) (eq : placed_int
       ∙ interval_of-map m (with_mapped_ends (places_of_ends before)) is (λ j. refl) in
       ap (λ (j : Interval ℕ). j.ends) (some-is (sym (ap (option_map (with_mapped_ends (places_of_ends after))) e) ∙ placed ∙ ap (option_map (with_mapped_ends (places_of_ends before))) e))
 
-  end-stays : (m : Name) (r : ℕ) → ((ends_of_name m is).start ≡ Some r) ⊎ ((ends_of_name m is).end ≡ Some r) → reference_place after r ≡ reference_place before r
+  end-stays : (m : Name) (r : ℕ) → ((ends_of_name m is).start ≡ Some r) ⊎ ((ends_of_name m is).end ≡ Some r)
+      → reference_place after r ≡ reference_place before r
   end-stays m r h = elim h [
     | inl g ↦ let w = has-end (λ (p : EndPair ℕ). p.start) refl is m r g in
         sym (ap (place_of_end after) w.end) ∙ ap (λ (p : EndPair ℕ). p.start) (places-stay m w.interval w.there) ∙ ap (place_of_end before) w.end

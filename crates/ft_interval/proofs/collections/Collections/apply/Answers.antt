@@ -23,15 +23,18 @@ enlist_changed-requires-clause-live c =
     let s = subst (λ (x : IndexedState). StandsOn c.args.tree.now x) (sym c.self.view_is) c.requires.stands in
     let xs = text_elements c.args.tree.now in
     let places = places_of_given (seen_in (At c.args.at)) xs (ends_of c.args.op.now) in
-    live-applied c.args.tree.now c.apply.new.tree c.self.inside.store c.apply.new.self c.args.op.now c.self.inside.indexes.items c.unlist_changed.new.indexes.items c.first_stage-first.ensures.names
-    c.in_ok-now.ensures.rest s.listed c.unlist_changed.ensures (is_some c.in_ok-now.now) places c.in_ok-now.ensures.effect c.in_ok-now.ensures.after c.in_ok-now.ensures.misfit c.in_ok-now.ensures.refs s.live
+    live-applied c.args.tree.now c.apply.new.tree c.self.inside.store c.apply.new.self c.args.op.now c.self.inside.indexes.items
+    c.unlist_changed.new.indexes.items c.first_stage-first.ensures.names
+    c.in_ok-now.ensures.rest s.listed c.unlist_changed.ensures (is_some c.in_ok-now.now) places c.in_ok-now.ensures.effect
+    c.in_ok-now.ensures.after c.in_ok-now.ensures.misfit c.in_ok-now.ensures.refs s.live
 
 pub enlist_changed-requires-clause-listed : goal.enlist_changed-requires-clause-listed
 enlist_changed-requires-clause-listed c =
     let s = subst (λ (x : IndexedState). StandsOn c.args.tree.now x) (sym c.self.view_is) c.requires.stands in
     let xs = text_elements c.args.tree.now in
     let places = places_of_given (seen_in (At c.args.at)) xs (ends_of c.args.op.now) in
-    out-applied c.args.tree.now c.apply.new.tree c.self.inside.store c.apply.new.self c.args.op.now c.self.inside.indexes.items c.unlist_changed.new.indexes.items c.first_stage-first.ensures.names
+    out-applied c.args.tree.now c.apply.new.tree c.self.inside.store c.apply.new.self c.args.op.now c.self.inside.indexes.items
+    c.unlist_changed.new.indexes.items c.first_stage-first.ensures.names
     c.in_ok-now.ensures.rest s.listed c.unlist_changed.ensures (is_some c.in_ok-now.now) places c.in_ok-now.ensures.effect c.in_ok-now.ensures.after c.in_ok-now.ensures.misfit
 
 pub enlist_changed-requires-clause-within : goal.enlist_changed-requires-clause-within
@@ -39,7 +42,8 @@ enlist_changed-requires-clause-within c =
     let s = subst (λ (x : IndexedState). StandsOn c.args.tree.now x) (sym c.self.view_is) c.requires.stands in
     let xs = text_elements c.args.tree.now in
     let places = places_of_given (seen_in (At c.args.at)) xs (ends_of c.args.op.now) in
-    within-applied c.args.tree.now c.apply.new.tree c.self.inside.store c.apply.new.self c.args.op.now c.self.inside.indexes.items c.unlist_changed.new.indexes.items c.first_stage-first.ensures.names
+    within-applied c.args.tree.now c.apply.new.tree c.self.inside.store c.apply.new.self c.args.op.now c.self.inside.indexes.items
+    c.unlist_changed.new.indexes.items c.first_stage-first.ensures.names
     c.in_ok-now.ensures.rest s.listed c.unlist_changed.ensures (is_some c.in_ok-now.now) places c.in_ok-now.ensures.effect c.in_ok-now.ensures.after c.in_ok-now.ensures.misfit
 
 pub enlist_changed-requires-clause-ends : goal.enlist_changed-requires-clause-ends
@@ -54,8 +58,10 @@ returns-clause-stands c =
     let xs = text_elements c.args.tree.now in
     let places = places_of_given (seen_in (At c.args.at)) xs (ends_of c.args.op.now) in
     record {
-      live = live-applied c.args.tree.now c.apply.new.tree c.self.inside.store c.apply.new.self c.args.op.now c.self.inside.indexes.items c.unlist_changed.new.indexes.items c.first_stage-first.ensures.names
-          c.in_ok-now.ensures.rest s.listed c.unlist_changed.ensures (is_some c.in_ok-now.now) places c.in_ok-now.ensures.effect c.in_ok-now.ensures.after c.in_ok-now.ensures.misfit c.in_ok-now.ensures.refs s.live;
+      live = live-applied c.args.tree.now c.apply.new.tree c.self.inside.store c.apply.new.self c.args.op.now c.self.inside.indexes.items
+          c.unlist_changed.new.indexes.items c.first_stage-first.ensures.names
+          c.in_ok-now.ensures.rest s.listed c.unlist_changed.ensures (is_some c.in_ok-now.now) places c.in_ok-now.ensures.effect
+          c.in_ok-now.ensures.after c.in_ok-now.ensures.misfit c.in_ok-now.ensures.refs s.live;
       listed = c.in-Ok.ensures;
     }
 
@@ -68,7 +74,8 @@ returns-clause-effect c = λ e.
 
 pub returns-clause-refs : goal.returns-clause-refs
 returns-clause-refs c = λ e.
-    subst (λ (x : IndexedState). KeepsReferences x.state c.apply.new.self c.args.tree.now.refs c.apply.new.tree.refs) c.self.view_is (c.in_ok-now.ensures.refs (sym c.is_some-fits.ensures ∙ e))
+    subst (λ (x : IndexedState). KeepsReferences x.state c.apply.new.self c.args.tree.now.refs c.apply.new.tree.refs) c.self.view_is
+    (c.in_ok-now.ensures.refs (sym c.is_some-fits.ensures ∙ e))
 
 pub returns-clause-misfit : goal.returns-clause-misfit
 returns-clause-misfit c = λ e.
