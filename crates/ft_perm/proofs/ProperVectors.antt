@@ -25,7 +25,8 @@ proper-taken old new tree keeps was =
       once = λ handle. rw tree (was.once handle);
     }
 
-pub proper-given : (old new : VectorState) (run : HandleRun) → new.tree ≡ old.tree → ((h : ℕ) → in_run h run ≡ false → in_use old h ≡ true → in_use new h ≡ true)
+pub proper-given : (old new : VectorState) (run : HandleRun) → new.tree ≡ old.tree
+    → ((h : ℕ) → in_run h run ≡ false → in_use old h ≡ true → in_use new h ≡ true)
     → All (λ e. in_run e.unit run ≡ false) (vector_elements old.tree) → IsProper old → IsProper new
 proper-given old new run tree keeps apart was =
     let whole : All (λ e. in_use new e.unit ≡ true) (vector_elements old.tree) = λ k d h. keeps _ (apart k d h) (was.used k d h) in

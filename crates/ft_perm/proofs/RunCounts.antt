@@ -31,7 +31,8 @@ module _ {A : Type 0} (seen : A → Bool) where
   len-insert [] (suc i) x = one_more (seen x) 0
   len-insert (y ∷ ys) (suc i) x = one_more_both (seen y) _ _ _ (len-insert ys i x)
 
-  pub len-set : (xs : List A) (i : ℕ) (x z : A) → slice_get xs i ≡ Some x → len seen (slice_set xs i z) + one_more_if (seen x) 0 ≡ len seen xs + one_more_if (seen z) 0
+  pub len-set : (xs : List A) (i : ℕ) (x z : A) → slice_get xs i ≡ Some x
+      → len seen (slice_set xs i z) + one_more_if (seen x) 0 ≡ len seen xs + one_more_if (seen z) 0
   len-set [] i x z h = (cc)
   len-set (y ∷ ys) zero x z h =
       let same : y ≡ x = (cc) in

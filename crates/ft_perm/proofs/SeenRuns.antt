@@ -4,6 +4,7 @@ use Rattle.std.proofs.Common.{refl, sym, subst, ◌∙◌, ap, arith, append_ass
 use Rattle.std.proofs.lemmas.Bool.Decides.{nat_tests}
 use Rattle.std.specs.Option.{option_map}
 use Rattle.ft_base.specs.Scan.{retain_map}
+use Rattle.ft_base.proofs.ScanLaws.{retain_map-append}
 use Rattle.ft_block.specs.declared.blocks.Found.{Found}
 use Rattle.ft_block.specs.declared.leaves.LenView.{LenView}
 use Rattle.ft_block.specs.Leaves.{IsLeafIn, place_by, place_from, sees_in, times_leaf, value_at}
@@ -25,15 +26,6 @@ shown_run view x = cond (sees_in view x.stamps) (handles_of x.content) []
 abbrev pub shown_runs : LenView → Leaves → List ℕ
 shown_runs view leaves = retain_map (seen_in view) (λ e. e.unit) (elements handles_of (λ x. None) leaves)
 
-retain-append : {A B : Type 0} (keep : A → Bool) (f : A → B) (xs ys : List A) → retain_map keep f (xs ++ ys) ≡ retain_map keep f xs ++ retain_map keep f ys
-retain-append keep f [] ys = refl
-retain-append keep f (x ∷ xs) ys = step (keep x) (retain-append keep f xs ys)
-  where
-    step : (b : Bool) → retain_map keep f (xs ++ ys) ≡ retain_map keep f xs ++ retain_map keep f ys
-        → cond b (f x ∷ retain_map keep f (xs ++ ys)) (retain_map keep f (xs ++ ys)) ≡ cond b (f x ∷ retain_map keep f xs) (retain_map keep f xs) ++ retain_map keep f ys
-    step true e = ap (λ zs. f x ∷ zs) e
-    step false e = e
-
 retain-units : (view : LenView) (x : TreeLeaf HandleRun) (us : List ℕ) (b : Bool) → sees_in view x.stamps ≡ b
     → retain_map (seen_in view) (λ e. e.unit) (map (element_with x.stamps None x.overlay) us) ≡ cond b us []
 retain-units view x [] true e = refl
@@ -41,9 +33,10 @@ retain-units view x [] false e = refl
 retain-units view x (u ∷ us) true e = rw e (ap (λ zs. u ∷ zs) (retain-units view x us true e))
 retain-units view x (u ∷ us) false e = rw e (retain-units view x us false e)
 
-pub shown_runs-more : (view : LenView) (x : ℕ × TreeLeaf HandleRun) (leaves : Leaves) → shown_runs view (x ∷ leaves) ≡ shown_run view x.1 ++ shown_runs view leaves
+pub shown_runs-more : (view : LenView) (x : ℕ × TreeLeaf HandleRun) (leaves : Leaves)
+    → shown_runs view (x ∷ leaves) ≡ shown_run view x.1 ++ shown_runs view leaves
 shown_runs-more view x leaves =
-    retain-append (seen_in view) (λ e. e.unit) (leaf_elements handles_of (λ x. None) x.1) (elements handles_of (λ x. None) leaves)
+    retain_map-append (seen_in view) (λ e. e.unit) (leaf_elements handles_of (λ x. None) x.1) (elements handles_of (λ x. None) leaves)
     ∙ ap (λ zs. zs ++ shown_runs view leaves) (retain-units view x.1 (handles_of x.1.content) (sees_in view x.1.stamps) refl)
 
 length-shown_run : (view : LenView) (x : TreeLeaf HandleRun) → leaf_length handles_of view x ≡ length (shown_run view x)
@@ -176,7 +169,8 @@ finds_run view (x ∷ leaves) p q id offset same once h =
               (found.stands y (other_leaf x leaves id y (once id) found.live v));
         }
 
-pub finds_none : (view : LenView) (leaves : Leaves) (p q : ℕ) → q ≡ suc p → place_from (leaf_length handles_of view) leaves q ≡ None → length (shown_runs view leaves) ≤ p
+pub finds_none : (view : LenView) (leaves : Leaves) (p q : ℕ) → q ≡ suc p → place_from (leaf_length handles_of view) leaves q ≡ None
+    → length (shown_runs view leaves) ≤ p
 finds_none view [] p q same h = omega arith
 finds_none view (x ∷ leaves) p q same h =
     step (nat_le q (leaf_length handles_of view x.1)) refl h (λ e. finds_none view leaves (p - leaf_length handles_of view x.1) (q - leaf_length handles_of view x.1) e)
@@ -184,7 +178,8 @@ finds_none view (x ∷ leaves) p q same h =
     step : (b : Bool) → nat_le q (leaf_length handles_of view x.1) ≡ b
         → cond b (Some record { leaf = Some x.0; offset = q }) (place_from (leaf_length handles_of view) leaves (q - leaf_length handles_of view x.1)) ≡ None
         → (q - leaf_length handles_of view x.1 ≡ suc (p - leaf_length handles_of view x.1)
-        → place_from (leaf_length handles_of view) leaves (q - leaf_length handles_of view x.1) ≡ None → length (shown_runs view leaves) ≤ p - leaf_length handles_of view x.1)
+        → place_from (leaf_length handles_of view) leaves (q - leaf_length handles_of view x.1) ≡ None
+        → length (shown_runs view leaves) ≤ p - leaf_length handles_of view x.1)
         → length (shown_runs view (x ∷ leaves)) ≤ p
     step true le is rest = absurd cc
     step false le is rest =
@@ -199,7 +194,8 @@ finds_none view (x ∷ leaves) p q same h =
           length-append (shown_run view x.1) (shown_runs view leaves),
         )
 
-pub finds_leaf : (view : LenView) (leaves : Leaves) (q : ℕ) (found : Found) → place_from (leaf_length handles_of view) leaves q ≡ Some found → found.leaf ≡ None → ⊥
+pub finds_leaf : (view : LenView) (leaves : Leaves) (q : ℕ) (found : Found)
+    → place_from (leaf_length handles_of view) leaves q ≡ Some found → found.leaf ≡ None → ⊥
 finds_leaf view [] q found h none = absurd cc
 finds_leaf view (x ∷ leaves) q found h none = step (nat_le q (leaf_length handles_of view x.1)) h (finds_leaf view leaves (q - leaf_length handles_of view x.1) found)
   where
@@ -209,12 +205,14 @@ finds_leaf view (x ∷ leaves) q found h none = step (nat_le q (leaf_length hand
     step false is rest = rest is none
 
 -- the place that is asked, counted from 1
-pub place_past : (view : LenView) (leaves : Leaves) (p q : ℕ) → q ≡ p + 1 → place_by (leaf_length handles_of view) leaves q ≡ place_from (leaf_length handles_of view) leaves q
+pub place_past : (view : LenView) (leaves : Leaves) (p q : ℕ) → q ≡ p + 1
+    → place_by (leaf_length handles_of view) leaves q ≡ place_from (leaf_length handles_of view) leaves q
 place_past view leaves p q e =
     let b : nat_eq q 0 ≡ false = grind (arith, nat_tests) in
     ap (λ b. cond b (Some (let f : Found = record { leaf = None; offset = 0 } in f)) (place_from (leaf_length handles_of view) leaves q)) b
 
-pub finds_run-asked : (view : LenView) (leaves : Leaves) (p q : ℕ) (result : Option Found) (found : Found) (leaf : ℕ) → q ≡ p + 1 → ((i : ℕ) → times_leaf leaves i ≤ 1)
+pub finds_run-asked : (view : LenView) (leaves : Leaves) (p q : ℕ) (result : Option Found) (found : Found) (leaf : ℕ) → q ≡ p + 1
+    → ((i : ℕ) → times_leaf leaves i ≤ 1)
     → result ≡ place_by (leaf_length handles_of view) leaves q → result ≡ Some found → found.leaf ≡ Some leaf → FindsRun view leaves p leaf found.offset
 finds_run-asked view leaves p q result found leaf e once is was node =
     finds_run view leaves p q leaf found.offset (omega arith) once

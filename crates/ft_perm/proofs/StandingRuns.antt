@@ -37,7 +37,8 @@ position_from-behind handle i [] ys none = ap (λ k. position_from (λ h. nat_eq
 position_from-behind handle i (x ∷ xs) ys none = step (nat_eq x handle) none (position_from-behind handle (i + 1) xs ys)
   where
     step : (b : Bool) → (b || list_any (λ h. nat_eq h handle) xs) ≡ false
-        → (list_any (λ h. nat_eq h handle) xs ≡ false → position_from (λ h. nat_eq h handle) (i + 1) (xs ++ ys) ≡ position_from (λ h. nat_eq h handle) (i + 1 + length xs) ys)
+        → (list_any (λ h. nat_eq h handle) xs ≡ false → position_from (λ h. nat_eq h handle) (i + 1) (xs ++ ys)
+        ≡ position_from (λ h. nat_eq h handle) (i + 1 + length xs) ys)
         → cond b (Some i) (position_from (λ h. nat_eq h handle) (i + 1) (xs ++ ys)) ≡ position_from (λ h. nat_eq h handle) (i + suc (length xs)) ys
     step true e rest = (cc)
     step false e rest = rest e ∙ ap (λ k. position_from (λ h. nat_eq h handle) k ys) (omega arith)
@@ -48,7 +49,8 @@ position_from-run handle i first zero ys low high = absurd (omega arith)
 position_from-run handle i first (suc n) ys low high = step (nat_eq first handle) refl (position_from-run handle (i + 1) (first + 1) n ys)
   where
     step : (b : Bool) → nat_eq first handle ≡ b
-        → (first + 1 ≤ handle → handle < first + 1 + n → position_from (λ h. nat_eq h handle) (i + 1) (numbers_from (first + 1) n ++ ys) ≡ Some (i + 1 + (handle - (first + 1))))
+        → (first + 1 ≤ handle → handle < first + 1 + n → position_from (λ h. nat_eq h handle) (i + 1) (numbers_from (first + 1) n ++ ys)
+        ≡ Some (i + 1 + (handle - (first + 1))))
         → cond b (Some i) (position_from (λ h. nat_eq h handle) (i + 1) (numbers_from (first + 1) n ++ ys)) ≡ Some (i + (handle - first))
     step true e rest = let same : first ≡ handle = grind (arith, nat_tests) in ap Some (omega arith)
     step false e rest =
