@@ -36,7 +36,8 @@ changed table row col r c f old new written is before there =
     step false e = before
 
 -- the entries are those of before with this cell at the place
-pub changed_entries : (m : BTreeMap Crossing CellState) (row col r c : ℕ) (f : CellState → CellState) (written new : List (Crossing × CellState)) (cell : CellState)
+pub changed_entries : (m : BTreeMap Crossing CellState) (row col r c : ℕ) (f : CellState → CellState)
+    (written new : List (Crossing × CellState)) (cell : CellState)
     → new ≡ written
     → lookup (is_at (crossing_cmp (crossing r c))) written ≡ cond (is_at (crossing_cmp (crossing row col)) (crossing r c)) (Some cell) (tree.get crossing_cmp m (crossing r c))
     → cell ≡ f (table_of m row col)

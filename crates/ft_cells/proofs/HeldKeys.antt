@@ -34,12 +34,14 @@ none_behind : (r c : ℕ) (es : CellList) → AllByRecursion (λ y. crossing_cmp
 none_behind r c [] h = refl
 none_behind r c (e ∷ es) h = counts r c e es ∙ step (holds_value e.1) (is_key r c (key_of e.0)) (is_key-less r c e.0 h.0) (none_behind r c es h.1)
   where
-    step : (b k : Bool) → k ≡ false → len (is_key r c) (held_keys es) ≡ 0 → cond b (one_more_if k (len (is_key r c) (held_keys es))) (len (is_key r c) (held_keys es)) ≡ 0
+    step : (b k : Bool) → k ≡ false → len (is_key r c) (held_keys es) ≡ 0
+        → cond b (one_more_if k (len (is_key r c) (held_keys es))) (len (is_key r c) (held_keys es)) ≡ 0
     step true false e n = n
     step false false e n = n
     step b true e n = (cc)
 
-pub each_once : (r c : ℕ) (es : CellList) → IsStrictlySortedBy crossing_cmp (keys_of es) → len (is_key r c) (held_keys es) ≡ one_more_if (holds_value (cell_at es r c)) 0
+pub each_once : (r c : ℕ) (es : CellList) → IsStrictlySortedBy crossing_cmp (keys_of es)
+    → len (is_key r c) (held_keys es) ≡ one_more_if (holds_value (cell_at es r c)) 0
 unfolding IsStrictlySortedBy
 each_once r c [] h = refl
 each_once r c (e ∷ es) h = counts r c e es ∙ step (is_key r c (key_of e.0)) refl (each_once r c es h.1) ∙ sym (ap (λ b. one_more_if (holds_value (cell_in (cond b

@@ -15,16 +15,19 @@ use Rattle.ft_cells.specs.Indexed.{has_place}
 on_line : (line across : ℕ) → is_gt (ordering_then (nat_cmp line line) (nat_cmp 0 across)) ≡ false
 on_line line across = grind (arith, nat_tests)
 
-between_ends : (line i j across : ℕ) → is_gt (ordering_then (nat_cmp line i) (nat_cmp 0 j)) ≡ false → is_gt (ordering_then (nat_cmp i line) (nat_cmp j across)) ≡ false → i ≡ line
+between_ends : (line i j across : ℕ) → is_gt (ordering_then (nat_cmp line i) (nat_cmp 0 j)) ≡ false
+    → is_gt (ordering_then (nat_cmp i line) (nat_cmp j across)) ≡ false → i ≡ line
 between_ends line i j across h k = grind (arith, nat_tests)
 
 -- ---- entries by place
 
-module _ {X : Type 0} (m : BTreeMap Crossing X) (r : List (Crossing × X)) (line : ℕ) (is : IsRangeOf crossing_cmp (Included (crossing line 0)) Unbounded m r) where
+module _ {X : Type 0} (m : BTreeMap Crossing X) (r : List (Crossing × X)) (line : ℕ)
+    (is : IsRangeOf crossing_cmp (Included (crossing line 0)) Unbounded m r) where
   pub no_entry-empty : r ≡ [] → (across : ℕ) → tree.get crossing_cmp m (crossing line across) ≡ None
   no_entry-empty h across = is.5 h (crossing line across) (on_line line across, tt)
 
-  pub no_entry-other : (e : Crossing × X) → slice_get r 0 ≡ Some e → (e.0.line ≡ line → ⊥) → (across : ℕ) → tree.get crossing_cmp m (crossing line across) ≡ None
+  pub no_entry-other : (e : Crossing × X) → slice_get r 0 ≡ Some e → (e.0.line ≡ line → ⊥) → (across : ℕ)
+      → tree.get crossing_cmp m (crossing line across) ≡ None
   no_entry-other e first other across = step (tree.get crossing_cmp m (crossing line across)) refl
     where
       step : (o : Option X) → tree.get crossing_cmp m (crossing line across) ≡ o → o ≡ None

@@ -94,7 +94,8 @@ stage_absent k f is x stages r c none staged = step (has_write k x) refl
 pub unmoved : (k j : ℕ) (w old new : Option Crossing) → new ≡ cond (is_eq (nat_cmp k j)) w old → nat_eq k j ≡ false → new ≡ old
 unmoved k j w old new is other = let b : is_eq (nat_cmp k j) ≡ false = grind (arith, nat_tests) in is ∙ ap (λ b. cond b w old) b
 
-pub indexed-stage_step : (k : ℕ) (f : CellState → CellState) → IsStageStep k f → (old new : CellTable) (columns : BTreeSet Crossing) (stages left : BTreeMap ℕ Crossing)
+pub indexed-stage_step : (k : ℕ) (f : CellState → CellState) → IsStageStep k f
+    → (old new : CellTable) (columns : BTreeSet Crossing) (stages left : BTreeMap ℕ Crossing)
     → IsIndexed old columns stages → f empty_cell ≡ empty_cell → ((r c : ℕ) → new r c ≡ f (old r c))
     → ((j : ℕ) → tree.get nat_cmp left j ≡ cond (is_eq (nat_cmp k j)) None (tree.get nat_cmp stages j)) → IsIndexed new columns left
 indexed-stage_step k f is old new columns stages left was empty step out = record {

@@ -36,7 +36,8 @@ lookup-at : (k : ℕ) (ws : Writes) (d : ℕ × List ℕ) → place k ws < lengt
 lookup-at k [] d h = absurd (omega arith)
 lookup-at k (x ∷ ws) d h = step (nat_eq x.0 k) refl h (lookup-at k ws d)
   where
-    step : (b : Bool) → nat_eq x.0 k ≡ b → place k (x ∷ ws) < length (x ∷ ws) → (place k ws < length ws → lookup (λ j. nat_eq j k) ws ≡ Some (get_or ws (place k ws) d).1)
+    step : (b : Bool) → nat_eq x.0 k ≡ b → place k (x ∷ ws) < length (x ∷ ws)
+        → (place k ws < length ws → lookup (λ j. nat_eq j k) ws ≡ Some (get_or ws (place k ws) d).1)
         → lookup (λ j. nat_eq j k) (x ∷ ws) ≡ Some (get_or (x ∷ ws) (place k (x ∷ ws)) d).1
     step true e h others = rw e refl
     step false e h others = let within : place k ws < length ws = omega (arith, rw (e, one-add) at h) in rw (e, one-add) (others within)
@@ -54,7 +55,8 @@ filter-past : (k : ℕ) (ws : Writes) → length ws ≤ place k ws → filter (i
 filter-past k [] h = refl
 filter-past k (x ∷ ws) h = step (nat_eq x.0 k) refl h (filter-past k ws)
   where
-    step : (b : Bool) → nat_eq x.0 k ≡ b → length (x ∷ ws) ≤ place k (x ∷ ws) → (length ws ≤ place k ws → filter (is_other k) ws ≡ ws) → filter (is_other k) (x ∷ ws) ≡ x ∷ ws
+    step : (b : Bool) → nat_eq x.0 k ≡ b → length (x ∷ ws) ≤ place k (x ∷ ws) → (length ws ≤ place k ws → filter (is_other k) ws ≡ ws)
+        → filter (is_other k) (x ∷ ws) ≡ x ∷ ws
     step true e h others = absurd (omega (arith, rw e at h))
     step false e h others = let past : length ws ≤ place k ws = omega (arith, rw (e, one-add) at h) in rw e (ap (λ vs. x ∷ vs) (others past))
 

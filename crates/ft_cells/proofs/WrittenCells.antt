@@ -50,7 +50,8 @@ indexed-acked v row col old new columns more stages was one is = record {
 
 pub indexed-kept : (row col : ℕ) (old new : CellTable) (columns more : BTreeSet Crossing) (stages left : BTreeMap ℕ Crossing)
     → IsIndexed old columns stages → ((r c : ℕ) → has_place more c r ≡ cond (is_eq (crossing_cmp (crossing col row) (crossing c r))) true (has_place columns c r))
-    → ((r c : ℕ) → new r c ≡ old r c) → ((r c j : ℕ) → has_write j (old r c) ≡ true → tree.get nat_cmp left j ≡ tree.get nat_cmp stages j) → IsIndexed new more left
+    → ((r c : ℕ) → new r c ≡ old r c) → ((r c j : ℕ) → has_write j (old r c) ≡ true → tree.get nat_cmp left j ≡ tree.get nat_cmp stages j)
+    → IsIndexed new more left
 indexed-kept row col old new columns more stages left was one is same = record {
   columned = λ r c h. columned-kept row col r c (old r c) (new r c) (has_place columns c r) (has_place more c r) (one r c) (was.columned r c) (is r c) h;
   staged = λ r c j h. let there : has_write j (old r c) ≡ true = sym (ap (has_write j) (is r c)) ∙ h in same r c j there ∙ was.staged r c j there;
