@@ -83,7 +83,8 @@ module _ (last k s c : ℕ) (list : Sequence) (h : IsWellNumbered last list) whe
   acked-stays a there =
       subst (λ n. 1 ≤ n) (sym (len-same (has_id (acked_id k list.made a)) (has_id a) (document_acked k list.made s c) list.items (named-alike a there))) there
 
-  pub acked-moves : (a : ElementId) → 1 ≤ len (has_id a) list.items → name_place (acked_list k s c list).items (acked_id k list.made a) ≡ name_place list.items a
+  pub acked-moves : (a : ElementId) → 1 ≤ len (has_id a) list.items
+      → name_place (acked_list k s c list).items (acked_id k list.made a) ≡ name_place list.items a
   acked-moves a there = rank-same (has_id (acked_id k list.made a)) (has_id a) (document_acked k list.made s c) list.items (named-alike a there)
 
   -- what was pending of the stage counts as sequenced

@@ -34,7 +34,8 @@ module _ (floor : ℕ) where
   pub collectable-there : (e : ListElement) → is_marked_later e ≡ true → has_collectable_removal floor (stamps_of e).dels ≡ true → is_collectable floor e ≡ true
   collectable-there e later h = step e.ins e.dels e.removal_stage h later
     where
-      step : (t : Stamp) (ds : List Stamp) (o : Option ℕ) → has_collectable_removal floor (ds ++ removal_stamp o) ≡ true → is_marked_later (record e { ins = t; dels = ds }) ≡ true
+      step : (t : Stamp) (ds : List Stamp) (o : Option ℕ) → has_collectable_removal floor (ds ++ removal_stamp o) ≡ true
+          → is_marked_later (record e { ins = t; dels = ds }) ≡ true
           → is_acked t && has_collectable_removal floor ds ≡ true
       step t [] None g l = (cc)
       step t [] (Some k) g l = (cc)
@@ -124,10 +125,12 @@ module _ {U : Type 0} (content : U → ElementContent) (floor : ℕ) (held : Ele
     none : Compacts [] [] [] []
     same : {x : TreeElement U} {e : ListElement} {ms : List (Bool × TreeElement U)} {es : List ListElement} {xs : List (TreeElement U)} {ks : List ListElement}
         → IsElement content x e → Compacts ms es xs ks → Compacts ((false, x) ∷ ms) (e ∷ es) (x ∷ xs) (e ∷ ks)
-    universal : {x : TreeElement U} {e : ListElement} {ms : List (Bool × TreeElement U)} {es : List ListElement} {xs : List (TreeElement U)} {ks : List ListElement}
+    universal : {x : TreeElement U} {e : ListElement} {ms : List (Bool × TreeElement U)} {es : List ListElement}
+        {xs : List (TreeElement U)} {ks : List ListElement}
         → IsElement content x e → is_insertion_at_or_below floor e.ins ≡ true → Compacts ms es xs ks
         → Compacts ((false, x) ∷ ms) (e ∷ es) (with_stamps universal_stamps x ∷ xs) (with_universal_insertion e ∷ ks)
-    collected : {x : TreeElement U} {e : ListElement} {ms : List (Bool × TreeElement U)} {es : List ListElement} {xs : List (TreeElement U)} {ks : List ListElement}
+    collected : {x : TreeElement U} {e : ListElement} {ms : List (Bool × TreeElement U)} {es : List ListElement}
+        {xs : List (TreeElement U)} {ks : List ListElement}
         → is_collectable floor e ≡ true → held (id e) ≡ false → is_before_pending es ≡ false → Compacts ms es xs ks → Compacts ((true, x) ∷ ms) (e ∷ es) xs ks
 
   -- some elements are kept so
@@ -153,7 +156,8 @@ module _ {U : Type 0} (content : U → ElementContent) (floor : ℕ) (held : Ele
         to-go es free.1 l.1,
       )
 
-  pub compacts-all : (ms : List (Bool × TreeElement U)) → AllByRecursion (MayGo floor) ms → (es : List ListElement) → AreElements content (map second ms) es → AreToGo es
+  pub compacts-all : (ms : List (Bool × TreeElement U)) → AllByRecursion (MayGo floor) ms → (es : List ListElement)
+      → AreElements content (map second ms) es → AreToGo es
       → (xs : List (TreeElement U)) → Writes floor xs (staying ms) → KeepsSome ms es xs
   compacts-all [] may [] b go [] w = ([], none)
   compacts-all [] may [] b go (y ∷ ys) w = absurd (written floor w)
@@ -176,7 +180,8 @@ module _ {U : Type 0} (content : U → ElementContent) (floor : ℕ) (held : Ele
             )
       ]
 
-  pub compacts : (ms : List (Bool × TreeElement U)) → AllByRecursion (MayGo floor) ms → (es : List ListElement) → AreElements content (map second ms) es → AreFree floor held es
+  pub compacts : (ms : List (Bool × TreeElement U)) → AllByRecursion (MayGo floor) ms → (es : List ListElement)
+      → AreElements content (map second ms) es → AreFree floor held es
       → list_all is_marked_later es ≡ true → (xs : List (TreeElement U)) → Writes floor xs (staying ms) → KeepsSome ms es xs
   compacts ms may es b free later xs w = compacts-all ms may es b (to-go es free later) xs w
 
@@ -243,7 +248,8 @@ module _ {U : Type 0} (content : U → ElementContent) (floor : ℕ) (held : Ele
         gone-step p = omega arith
 
     -- nor was it removed at or below the floor
-    pub held-clear : {xs : List (TreeElement U)} {es : List ListElement} → AreElements content xs es → AreFree floor held es → list_all is_marked_later es ≡ true
+    pub held-clear : {xs : List (TreeElement U)} {es : List ListElement} → AreElements content xs es → AreFree floor held es
+        → list_all is_marked_later es ≡ true
         → IfSome (slice_get xs (name_place es a)) (λ x. is_tree_collectable floor x.stamps ≡ false)
     held-clear ends free later = tt
     held-clear (next {x = x} {y = e} {xs = xs} {ys = es} q qs) free later =
@@ -256,7 +262,8 @@ module _ {U : Type 0} (content : U → ElementContent) (floor : ℕ) (held : Ele
             let is = collectable-there floor e l (sym (ap (λ (t : ElementStamps). has_collectable_removal floor t.dels) (same-stamps content x e q)) ∙ g) in
             let never = sym h ∙ not-held e (free.0 is).name in (cc)
 
-        step : (b : Bool) → has_id a e ≡ b → IfSome (slice_get xs (name_place es a)) (λ x. is_tree_collectable floor x.stamps ≡ false) → is_marked_later e ≡ true
+        step : (b : Bool) → has_id a e ≡ b → IfSome (slice_get xs (name_place es a)) (λ x. is_tree_collectable floor x.stamps ≡ false)
+            → is_marked_later e ≡ true
             → IfSome (slice_get (x ∷ xs) (cond b 0 (suc (name_place es a)))) (λ x. is_tree_collectable floor x.stamps ≡ false)
         step true h rest l = here (is_tree_collectable floor x.stamps) refl h l
         step false h rest l = rest

@@ -38,7 +38,8 @@ module _ {B C : Type 0} (of : List (ℕ × TreeLeaf C) → List B) (one : TreeLe
   walk-begin all next e =
       subst (λ n. Walks all n []) (sym e) (record { place = first_in_place all; whole = ap of (from_first all) })
 
-  pub walk-next : (all : List (ℕ × TreeLeaf C)) → ((i : ℕ) → times_leaf all i ≤ 1) → (next behind : Option ℕ) (id : ℕ) (done more : List B) → Walks all next done
+  pub walk-next : (all : List (ℕ × TreeLeaf C)) → ((i : ℕ) → times_leaf all i ≤ 1) → (next behind : Option ℕ) (id : ℕ) (done more : List B)
+      → Walks all next done
       → next ≡ Some id → ((x : TreeLeaf C) → value_at all id ≡ Some x → more ≡ done ++ one x) → behind ≡ after (ids all) id → Walks all behind more
   walk-next all once next behind id done more w e f g =
       let live : IsLeafIn all id = subst (λ n. IsPlaceIn all n) e w.place in

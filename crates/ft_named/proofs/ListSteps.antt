@@ -26,7 +26,7 @@ use Rattle.ft_laws_names.proofs.ForeignAlike.{all-behind}
 use Rattle.ft_laws_names.proofs.NumberedLists.{KeepsNames, inserted-numbered, kept-id, ranged-numbered}
 use Rattle.ft_named.proofs.Bares.{AreElements, IsElement, pending-alike, seen-alike}
 use Rattle.ft_named.proofs.Changed.{beside-all, beside-seen_range, changed-alike, new-alike, removed-alike}
-use Rattle.ft_named.proofs.Moves.{put_at, put_place-same, rank-put, rank-range}
+use Rattle.ft_named.proofs.Moves.{put_passes, put_place-same, rank-put, rank-range}
 use Rattle.ft_named.proofs.Placed.{name_place}
 
 -- after the step, which puts so many elements in and moves places by f
@@ -55,14 +55,14 @@ module _ {A B : Type 0} {Q : A → B → Type 0} (seen past : A → Bool) (seen'
   prefix-beside ends = refl
   prefix-beside (next {x = x} {y = y} q qs) = rw (goes x y q, prefix-beside qs) refl
 
-  put_at-beside : (p : ℕ) {xs : List A} {ys : List B} → Beside A B Q xs ys → put_at seen past p xs ≡ put_at seen' past' p ys
-  put_at-beside zero qs = prefix-beside qs
-  put_at-beside (suc p) ends = refl
-  put_at-beside (suc p) (next {x = x} {y = y} {xs = xs} q qs) =
-      ap (λ b. suc (put_at seen past (cond b p (suc p)) xs)) (sees x y q) ∙ ap suc (put_at-beside (cond (seen' y) p (suc p)) qs)
+  put_passes-beside : (p : ℕ) {xs : List A} {ys : List B} → Beside A B Q xs ys → put_passes seen past p xs ≡ put_passes seen' past' p ys
+  put_passes-beside zero qs = prefix-beside qs
+  put_passes-beside (suc p) ends = refl
+  put_passes-beside (suc p) (next {x = x} {y = y} {xs = xs} q qs) =
+      ap (λ b. suc (put_passes seen past (cond b p (suc p)) xs)) (sees x y q) ∙ ap suc (put_passes-beside (cond (seen' y) p (suc p)) qs)
 
   pub put_place-beside : (p : ℕ) {xs : List A} {ys : List B} → Beside A B Q xs ys → put_place seen past p xs ≡ put_place seen' past' p ys
-  put_place-beside p {xs} {ys} qs = put_place-same seen past seen' past' p xs ys (put_at-beside p qs)
+  put_place-beside p {xs} {ys} qs = put_place-same seen past seen' past' p xs ys (put_passes-beside p qs)
 
 -- ---- new elements
 
@@ -151,7 +151,8 @@ module _ {U : Type 0} (content : U → ElementContent) where
     numbered = after;
     stays = λ a there. there-still (seen_by at.r at.c) is_pending p new list.items a there;
     moves = λ a there. put-moves (seen_by at.r at.c) is_pending p new list.items after.once a there
-        ∙ ap (λ i. shifted_place i (length new) (name_place list.items a)) (sym place) ∙ ap (λ n. shifted_place (put_place (seen_in (At at)) tree_pending p xs) n (name_place list.items a)) count;
+        ∙ ap (λ i. shifted_place i (length new) (name_place list.items a)) (sym place)
+        ∙ ap (λ n. shifted_place (put_place (seen_in (At at)) tree_pending p xs) n (name_place list.items a)) count;
     held = let sum = len-put-add is_pending (seen_by at.r at.c) is_pending p new list.items in
         let none = new-pending list.made s at.c by props bs in let all = sym (ap length same) ∙ mapped-length content us in omega arith;
   }
@@ -171,18 +172,21 @@ module _ {U : Type 0} (content : U → ElementContent) where
 
   -- ---- a sequenced removal and annotation
 
-  pub removal-alike : (last s p q : ℕ) (at : Perspective) (list : Sequence) → IsWellNumbered last list → {xs : List (TreeElement U)} → AreElements content xs list.items
+  pub removal-alike : (last s p q : ℕ) (at : Perspective) (list : Sequence) → IsWellNumbered last list → {xs : List (TreeElement U)}
+      → AreElements content xs list.items
       → AreElements content (change_range (seen_in (At at)) p q (with_stamps (removed_stamps (Acked s at.c))) xs) (after_removal s at.c at.r p q list).items
   removal-alike last s p q at list h b =
       beside-seen_range (seen_in (At at)) (seen_by at.r at.c) (λ x e r. seen-alike content (At at) x e r.0) (with_stamps (removed_stamps (Acked s at.c))) (with_removal s at.c)
       (λ x e r. r.0) (λ x e r seen. removed-alike content x e r.0 s at.c r.1) 0 p q
       (beside-all (λ e. list_all is_acked e.dels) (even-removals list.items h.removals) b)
 
-  pub removal-step : (last s p q : ℕ) (at : Perspective) (list : Sequence) → IsWellNumbered last list → StepsList last 0 (λ i. i) list (after_removal s at.c at.r p q list)
+  pub removal-step : (last s p q : ℕ) (at : Perspective) (list : Sequence) → IsWellNumbered last list
+      → StepsList last 0 (λ i. i) list (after_removal s at.c at.r p q list)
   removal-step last s p q at list h = range-step last p q (seen_by at.r at.c) (with_removal s at.c) (removal-names s at.c) list h
 
   pub annotation-alike : (p q : ℕ) (at : Perspective) (c : Changes) (list : Sequence) {xs : List (TreeElement U)} → AreElements content xs list.items
-      → AreElements content (change_range (seen_in (At at)) p q (with_overlay (after_acked_changes c)) xs) (change_range (seen_by at.r at.c) p q (with_annotation c) list.items)
+      → AreElements content (change_range (seen_in (At at)) p q (with_overlay (after_acked_changes c)) xs)
+      (change_range (seen_by at.r at.c) p q (with_annotation c) list.items)
   annotation-alike p q at c list b =
       beside-seen_range (seen_in (At at)) (seen_by at.r at.c) (λ x e r. seen-alike content (At at) x e r) (with_overlay (after_acked_changes c)) (with_annotation c)
       (λ x e r. r) (λ x e r seen. changed-alike content x e r c) 0 p q b

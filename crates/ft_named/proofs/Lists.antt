@@ -10,7 +10,8 @@ pub all-append : {A : Type 0} (test : A → Bool) (xs ys : List A) → list_all 
 all-append test [] ys h g = g
 all-append test (x ∷ xs) ys h g = let p = both (test x) (list_all test xs) h in rw (p.0, all-append test xs ys p.1 g) refl
 
-all-past : {A : Type 0} (test past : A → Bool) (new xs : List A) → list_all test new ≡ true → list_all test xs ≡ true → list_all test (put_past past new xs) ≡ true
+all-past : {A : Type 0} (test past : A → Bool) (new xs : List A) → list_all test new ≡ true → list_all test xs ≡ true
+    → list_all test (put_past past new xs) ≡ true
 all-past test past new [] h g = h
 all-past test past new (x ∷ xs) h g = step (past x) (all-past test past new xs h (both (test x) (list_all test xs) g).1)
   where
@@ -18,7 +19,8 @@ all-past test past new (x ∷ xs) h g = step (past x) (all-past test past new xs
     step true rest = rw ((both (test x) (list_all test xs) g).0, rest) refl
     step false rest = all-append test new (x ∷ xs) h g
 
-pub all-put : {A : Type 0} (test seen past : A → Bool) (p : ℕ) (new xs : List A) → list_all test new ≡ true → list_all test xs ≡ true → list_all test (put seen past p new xs) ≡ true
+pub all-put : {A : Type 0} (test seen past : A → Bool) (p : ℕ) (new xs : List A) → list_all test new ≡ true → list_all test xs ≡ true
+    → list_all test (put seen past p new xs) ≡ true
 all-put test seen past zero new xs h g = all-past test past new xs h g
 all-put test seen past (suc p) new [] h g = h
 all-put test seen past (suc p) new (x ∷ xs) h g =

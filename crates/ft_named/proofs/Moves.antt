@@ -13,18 +13,18 @@ append-step true n m r k h rec = absurd (omega arith)
 append-step false n m r k h rec = let e = rec h in omega arith
 
 module _ {A : Type 0} where
-  -- where `put` puts new elements, by recursion
-  abbrev pub put_at : (A → Bool) → (A → Bool) → ℕ → List A → ℕ
-  put_at seen past zero xs = prefix_len past xs
-  put_at seen past (suc p) [] = 0
-  put_at seen past (suc p) (x ∷ xs) = suc (put_at seen past (cond (seen x) p (suc p)) xs)
+  -- how many elements `put` passes before it puts new ones in, by recursion
+  abbrev pub put_passes : (A → Bool) → (A → Bool) → ℕ → List A → ℕ
+  put_passes seen past zero xs = prefix_len past xs
+  put_passes seen past (suc p) [] = 0
+  put_passes seen past (suc p) (x ∷ xs) = suc (put_passes seen past (cond (seen x) p (suc p)) xs)
 
-  put_place-at : (seen past : A → Bool) (p : ℕ) (xs : List A) → put_place seen past p xs ≡ put_at seen past p xs
-  put_place-at seen past zero xs = zero-add (prefix_len past xs)
-  put_place-at seen past (suc p) [] = zero-add 0
-  put_place-at seen past (suc p) (x ∷ xs) =
+  put_place-passes : (seen past : A → Bool) (p : ℕ) (xs : List A) → put_place seen past p xs ≡ put_passes seen past p xs
+  put_place-passes seen past zero xs = zero-add (prefix_len past xs)
+  put_place-passes seen past (suc p) [] = zero-add 0
+  put_place-passes seen past (suc p) (x ∷ xs) =
       let n = place seen (cond (seen x) p (suc p)) xs in
-      later n (prefix_len past (drop n xs)) ∙ ap suc (put_place-at seen past (cond (seen x) p (suc p)) xs)
+      later n (prefix_len past (drop n xs)) ∙ ap suc (put_place-passes seen past (cond (seen x) p (suc p)) xs)
 
 shift-suc : (i n j : ℕ) → shifted_place (suc i) n (suc j) ≡ suc (shifted_place i n j)
 shift-suc i n j = grind (arith, nat_tests)
@@ -57,25 +57,27 @@ module _ {A : Type 0} (is : A → Bool) where
       first n = omega arith
 
       step : (b : Bool)
-          → cond (is x) 0 (suc (rank is (λ _. true) (put_past past new xs))) ≡ shifted_place (suc (prefix_len past xs)) (length new) (cond (is x) 0 (suc (rank is (λ _. true) xs)))
-          → rank is (λ _. true) (cond b (x ∷ put_past past new xs) (new ++ (x ∷ xs))) ≡ shifted_place (cond b (1 + prefix_len past xs) 0) (length new) (rank is (λ _. true) (x ∷ xs))
+          → cond (is x) 0 (suc (rank is (λ _. true) (put_past past new xs)))
+          ≡ shifted_place (suc (prefix_len past xs)) (length new) (cond (is x) 0 (suc (rank is (λ _. true) xs)))
+          → rank is (λ _. true) (cond b (x ∷ put_past past new xs) (new ++ (x ∷ xs)))
+          ≡ shifted_place (cond b (1 + prefix_len past xs) 0) (length new) (rank is (λ _. true) (x ∷ xs))
       step true h = h ∙ ap (λ n. shifted_place n (length new) (rank is (λ _. true) (x ∷ xs))) (sym (first (prefix_len past xs)))
       step false h = rank-append new (x ∷ xs) none ∙ sym (shift-all (length new) (rank is (λ _. true) (x ∷ xs)))
 
-  rank-put-at : (seen past : A → Bool) (p : ℕ) (new xs : List A) → len is new ≡ 0 → 1 ≤ len is xs
-      → rank is (λ _. true) (put seen past p new xs) ≡ shifted_place (put_at seen past p xs) (length new) (rank is (λ _. true) xs)
-  rank-put-at seen past zero new xs none some = rank-past past new xs none some
-  rank-put-at seen past (suc p) new [] none some = absurd (omega arith)
-  rank-put-at seen past (suc p) new (x ∷ xs) none some =
+  rank-put-passes : (seen past : A → Bool) (p : ℕ) (new xs : List A) → len is new ≡ 0 → 1 ≤ len is xs
+      → rank is (λ _. true) (put seen past p new xs) ≡ shifted_place (put_passes seen past p xs) (length new) (rank is (λ _. true) xs)
+  rank-put-passes seen past zero new xs none some = rank-past past new xs none some
+  rank-put-passes seen past (suc p) new [] none some = absurd (omega arith)
+  rank-put-passes seen past (suc p) new (x ∷ xs) none some =
       let q = cond (seen x) p (suc p) in
-      past-step (is x) (len is xs) (rank is (λ _. true) (put seen past q new xs)) (put_at seen past q xs) (length new) (rank is (λ _. true) xs) some
-      (λ g. rank-put-at seen past q new xs none g)
+      past-step (is x) (len is xs) (rank is (λ _. true) (put seen past q new xs)) (put_passes seen past q xs) (length new) (rank is (λ _. true) xs) some
+      (λ g. rank-put-passes seen past q new xs none g)
 
   -- the one element that is meant keeps its place, or goes behind the new ones
   pub rank-put : (seen past : A → Bool) (p : ℕ) (new xs : List A) → len is new ≡ 0 → 1 ≤ len is xs
       → rank is (λ _. true) (put seen past p new xs) ≡ shifted_place (put_place seen past p xs) (length new) (rank is (λ _. true) xs)
   rank-put seen past p new xs none some =
-      rank-put-at seen past p new xs none some ∙ ap (λ i. shifted_place i (length new) (rank is (λ _. true) xs)) (sym (put_place-at seen past p xs))
+      rank-put-passes seen past p new xs none some ∙ ap (λ i. shifted_place i (length new) (rank is (λ _. true) xs)) (sym (put_place-passes seen past p xs))
 
   choice-is : (f : A → A) → ((x : A) → is (f x) ≡ is x) → (b : Bool) (x : A) → is (cond b (f x) x) ≡ is x
   choice-is f h true x = h x
@@ -97,5 +99,5 @@ rank-mapped is is' f h (x ∷ xs) =
 
 -- the place where new elements are put doesn't depend on the list but on its tests
 pub put_place-same : {A B : Type 0} (seen past : A → Bool) (seen' past' : B → Bool) (p : ℕ) (xs : List A) (ys : List B)
-    → put_at seen past p xs ≡ put_at seen' past' p ys → put_place seen past p xs ≡ put_place seen' past' p ys
-put_place-same seen past seen' past' p xs ys h = put_place-at seen past p xs ∙ h ∙ sym (put_place-at seen' past' p ys)
+    → put_passes seen past p xs ≡ put_passes seen' past' p ys → put_place seen past p xs ≡ put_place seen' past' p ys
+put_place-same seen past seen' past' p xs ys h = put_place-passes seen past p xs ∙ h ∙ sym (put_place-passes seen' past' p ys)

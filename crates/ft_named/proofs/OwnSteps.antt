@@ -87,9 +87,11 @@ module _ {U : Type 0} (content : U → ElementContent) where
     same-count h b = beside-len (seen_in last_stage) (seen m) (λ x e q. seen-last m fits x e q.0 q.1) (pairs-of m h b)
 
     -- an insertion at the next stage
-    pub local-alike : (p : ℕ) (props : PropertyList) (us : List U) (bs : List ElementContent) → map content us ≡ bs → {xs : List (TreeElement U)} {es : List ListElement} → AreUpTo m es
+    pub local-alike : (p : ℕ) (props : PropertyList) (us : List U) (bs : List ElementContent) → map content us ≡ bs
+        → {xs : List (TreeElement U)} {es : List ListElement} → AreUpTo m es
         → AreElements content xs es
-        → AreElements content (put (seen_in last_stage) no_run p (new_elements (Local (m + 1)) None props us) xs) (put (seen m) no_run p (document_elements 0 (Local (m + 1)) [] None props bs) es)
+        → AreElements content (put (seen_in last_stage) no_run p (new_elements (Local (m + 1)) None props us) xs)
+        (put (seen m) no_run p (document_elements 0 (Local (m + 1)) [] None props bs) es)
     local-alike p props us bs same {xs} {es} h b =
         let new : AreElements content (new_elements (Local (m + 1)) None props us) (document_elements 0 (Local (m + 1)) [] None props bs) =
         subst (λ cs. AreElements content (new_elements (Local (m + 1)) None props us) (document_elements 0 (Local (m + 1)) [] None props cs)) same
@@ -100,7 +102,8 @@ module _ {U : Type 0} (content : U → ElementContent) where
         → put_place (seen_in last_stage) no_run p xs ≡ put_place (seen m) no_run p es
     local-place p h b = put_place-beside (seen_in last_stage) no_run (seen m) no_run (λ x e q. seen-last m fits x e q.0 q.1) (λ x e q. refl) p (pairs-of m h b)
 
-    pub local-step : (p : ℕ) (props : PropertyList) (us : List U) (bs : List ElementContent) → map content us ≡ bs → (list : Sequence) → IsWellNumbered m list → {xs : List (TreeElement U)}
+    pub local-step : (p : ℕ) (props : PropertyList) (us : List U) (bs : List ElementContent) → map content us ≡ bs → (list : Sequence)
+        → IsWellNumbered m list → {xs : List (TreeElement U)}
         → AreUpTo m list.items → AreElements content xs list.items
         → StepsList (m + 1) (length us) (shifted_place (put_place (seen_in last_stage) no_run p xs) (length us)) list
         (record { items = put (seen m) no_run p (document_elements 0 (Local (m + 1)) [] None props bs) list.items; made = list.made })
@@ -110,7 +113,8 @@ module _ {U : Type 0} (content : U → ElementContent) where
       moves = λ a there. put-moves (seen m) no_run p new list.items after.once a there
           ∙ ap (λ i. shifted_place i (length new) (name_place list.items a)) (sym (local-place p u b))
           ∙ ap (λ n. shifted_place (put_place (seen_in last_stage) no_run p xs) n (name_place list.items a)) count;
-      held = let sum = len-put-add is_pending (seen m) no_run p new list.items in let all = new-local 0 (m + 1) None props bs in let size = sym (ap length same) ∙ mapped-length content us in omega arith;
+      held = let sum = len-put-add is_pending (seen m) no_run p new list.items in let all = new-local 0 (m + 1) None props bs in
+          let size = sym (ap length same) ∙ mapped-length content us in omega arith;
     }
       where
         new : List ListElement
@@ -124,13 +128,15 @@ module _ {U : Type 0} (content : U → ElementContent) where
 
     -- marks of the next stage
     pub marks-alike : (p q : ℕ) {xs : List (TreeElement U)} {es : List ListElement} → AreUpTo m es → AreElements content xs es
-        → AreElements content (change_range (seen_in last_stage) p q (with_stamps (removed_stamps (Local (m + 1)))) xs) (change_range (seen m) p q (with_pending_removal (m + 1)) es)
+        → AreElements content (change_range (seen_in last_stage) p q (with_stamps (removed_stamps (Local (m + 1)))) xs)
+        (change_range (seen m) p q (with_pending_removal (m + 1)) es)
     marks-alike p q h b =
         beside-seen_range (seen_in last_stage) (seen m) (λ x e r. seen-last m fits x e r.0 r.1) (with_stamps (removed_stamps (Local (m + 1)))) (with_pending_removal (m + 1))
         (λ x e r. r.0) (λ x e r s. marked-alike content x e r.0 (m + 1) (up_to-parts m e r.1).dels (unmarked-if-seen m e r.1 s)) 0 p q (pairs-of m h b)
 
     pub notes-alike : (p q : ℕ) (c : Changes) {xs : List (TreeElement U)} {es : List ListElement} → AreUpTo m es → AreElements content xs es
-        → AreElements content (change_range (seen_in last_stage) p q (with_overlay (after_pending_changes (m + 1) c)) xs) (change_range (seen m) p q (with_pending_annotation (m + 1) c) es)
+        → AreElements content (change_range (seen_in last_stage) p q (with_overlay (after_pending_changes (m + 1) c)) xs)
+        (change_range (seen m) p q (with_pending_annotation (m + 1) c) es)
     notes-alike p q c h b =
         beside-seen_range (seen_in last_stage) (seen m) (λ x e r. seen-last m fits x e r.0 r.1) (with_overlay (after_pending_changes (m + 1) c)) (with_pending_annotation (m + 1) c)
         (λ x e r. r.0) (λ x e r s. noted-alike content x e r.0 (m + 1) c) 0 p q (pairs-of m h b)

@@ -25,7 +25,8 @@ use Rattle.ft_named.proofs.Changed.{beside-all}
 
 module _ {A : Type 0} {Q : A → ListElement → Type 0} (see marked : A → Bool) (see' marked' : ListElement → Bool)
     (sees : (x : A) (e : ListElement) → Q x e → see x ≡ see' e) (marks : (x : A) (e : ListElement) → Q x e → marked x ≡ marked' e) where
-  runs-beside : (i : ℕ) {xs : List A} {es : List ListElement} → Beside A ListElement Q xs es → marked_runs_from i see marked xs ≡ document_runs_from i see' marked' es
+  runs-beside : (i : ℕ) {xs : List A} {es : List ListElement} → Beside A ListElement Q xs es
+      → marked_runs_from i see marked xs ≡ document_runs_from i see' marked' es
   runs-beside i ends = refl
   runs-beside i (next {x = x} {y = e} {xs = xs} {ys = es} q qs) =
       step (see x) (see' e) (marked x) (marked' e) (sees x e q) (marks x e q) (λ j. runs-beside j qs)
@@ -53,7 +54,8 @@ runs-none see marked i (e ∷ es) h = step (see e) (marked e) (list_any marked e
     step false false c g f = f g i
 
 module _ {U : Type 0} (content : U → ElementContent) (k : ℕ) where
-  removed-here : (ds : List Stamp) (o : Option ℕ) → list_all is_acked ds ≡ true → list_any (is_of_stage k) (ds ++ removal_stamp o) ≡ list_any (is_of_stage k) (removal_stamp o)
+  removed-here : (ds : List Stamp) (o : Option ℕ) → list_all is_acked ds ≡ true
+      → list_any (is_of_stage k) (ds ++ removal_stamp o) ≡ list_any (is_of_stage k) (removal_stamp o)
   removed-here [] o h = refl
   removed-here (Acked s c ∷ ds) o h = removed-here ds o h
   removed-here (Local j ∷ ds) o h = (cc)

@@ -6,17 +6,15 @@ use Rattle.std.proofs.lemmas.Bool.Decides.{nat_tests}
 use Rattle.ft_base.specs.Scan.{at, len, one_more_if, rank, settled}
 use Rattle.ft_props.specs.Element.{ElementId, ListElement, has_id, id}
 use Rattle.ft_laws_agreement.proofs.SlidEnds.{Once, once-tail, same_id-refl}
+use Rattle.ft_laws_agreement.proofs.NumberTests.{below-other}
 use Rattle.ft_tree_leaves.specs.Places.{place_at, seen_before, settled_place}
 use Rattle.ft_msg.specs.Indexed.{place_in_list}
 use Rattle.ft_laws_names.proofs.Beside.{Beside, Both, beside-both, beside-more, both-at, both-settled, each, ends, neither, next}
+use Rattle.ft_laws_names.proofs.Twins.{none-more}
 
 -- the place of a name in a list
 abbrev pub name_place : List ListElement → ElementId → ℕ
 name_place es a = rank (has_id a) (λ _. true) es
-
-none-more : (b : Bool) (n : ℕ) → one_more_if b n ≡ 0 → (b ≡ false) × (n ≡ 0)
-none-more true n h = absurd (omega arith)
-none-more false n h = (refl, h)
 
 some-more : (b : Bool) (n : ℕ) → 1 ≤ n → 1 ≤ one_more_if b n
 some-more true n l = omega arith
@@ -47,9 +45,6 @@ same-number n i h = grind (arith, nat_tests)
 
 below-number : (n i : ℕ) → i < n → nat_eq n i ≡ false
 below-number n i h = grind (arith, nat_tests)
-
-above-number : (n i : ℕ) → n < i → nat_eq n i ≡ false
-above-number n i h = grind (arith, nat_tests)
 
 -- the place of a name behind a first element
 place-behind : (a : ElementId) (e : ListElement) (es : List ListElement) → has_id a e ≡ false → name_place (e ∷ es) a ≡ suc (name_place es a)
@@ -106,7 +101,7 @@ module _ {A : Type 0} (Q : A → ListElement → Type 0) where
           next (same-number n i (omega arith) ∙ sym g) (none-at a i (n + 1) (omega arith) (only-here (has_id a e) (len (has_id a) es) one g) qs)
       step false g rec =
           let behind = place-behind a e es g in
-          next (above-number n i (omega arith) ∙ sym g) (rec (not-here (has_id a e) (len (has_id a) es) g there) (omega arith))
+          next (below-other n i (omega arith) ∙ sym g) (rec (not-here (has_id a e) (len (has_id a) es) g there) (omega arith))
 
   -- places of two elements, if there are two
   both-places : (es : List ListElement) {R : ℕ × A → ListElement → Type 0} → ((x : ℕ × A) (e : ListElement) → R x e → name_place es (id e) ≡ x.0)

@@ -7,11 +7,8 @@ use Rattle.ft_base.proofs.Booleans.{both}
 use Rattle.ft_tree_leaves.specs.declared.references.Reference.{Reference}
 use Rattle.ft_tree_leaves.specs.Edits.{with_place}
 use Rattle.ft_tree_leaves.specs.Places.{put_place, shifted_place}
-use Rattle.ft_named.proofs.Moves.{put_at, put_place-same}
-
-stops-first : (b : Bool) → not b ≡ true → b ≡ false
-stops-first true h = (cc)
-stops-first false h = refl
+use Rattle.ft_laws_agreement.proofs.Booleans.{hidden}
+use Rattle.ft_named.proofs.Moves.{put_passes, put_place-same}
 
 module _ {A : Type 0} (see past : A → Bool) where
   -- none of them is gone past
@@ -20,12 +17,12 @@ module _ {A : Type 0} (see past : A → Bool) where
 
   past-twice : (a b xs : List A) → AreStops b → put_past past a (put_past past b xs) ≡ put_past past (a ++ b) xs
   past-twice a [] [] h = sym (append-nil a)
-  past-twice a (y ∷ b) [] h = rw (stops-first (past y) (both (not (past y)) (list_all (λ x. not (past x)) b) h).0) refl
+  past-twice a (y ∷ b) [] h = rw (hidden (past y) (both (not (past y)) (list_all (λ x. not (past x)) b) h).0) refl
   past-twice a b (x ∷ xs) h = step (past x) refl (past-twice a b xs h)
     where
       here : (c : List A) → AreStops c → past x ≡ false → put_past past a (c ++ (x ∷ xs)) ≡ (a ++ c) ++ (x ∷ xs)
       here [] g e = rw e (ap (λ zs. zs ++ (x ∷ xs)) (sym (append-nil a)))
-      here (y ∷ c) g e = rw (stops-first (past y) (both (not (past y)) (list_all (λ z. not (past z)) c) g).0) (sym (append_assoc a (y ∷ c) (x ∷ xs)))
+      here (y ∷ c) g e = rw (hidden (past y) (both (not (past y)) (list_all (λ z. not (past z)) c) g).0) (sym (append_assoc a (y ∷ c) (x ∷ xs)))
 
       step : (d : Bool) → past x ≡ d → put_past past a (put_past past b xs) ≡ put_past past (a ++ b) xs
           → put_past past a (cond d (x ∷ put_past past b xs) (b ++ (x ∷ xs))) ≡ cond d (x ∷ put_past past (a ++ b) xs) ((a ++ b) ++ (x ∷ xs))
@@ -43,19 +40,19 @@ module _ {A : Type 0} (see past : A → Bool) where
 
   prefix-stays : (b xs : List A) → AreStops b → prefix_len past (put_past past b xs) ≡ prefix_len past xs
   prefix-stays [] [] h = refl
-  prefix-stays (y ∷ b) [] h = rw (stops-first (past y) (both (not (past y)) (list_all (λ x. not (past x)) b) h).0) refl
+  prefix-stays (y ∷ b) [] h = rw (hidden (past y) (both (not (past y)) (list_all (λ x. not (past x)) b) h).0) refl
   prefix-stays b (x ∷ xs) h = step (past x) refl (prefix-stays b xs h)
     where
       here : (c : List A) → AreStops c → past x ≡ false → prefix_len past (c ++ (x ∷ xs)) ≡ 0
       here [] g e = rw e refl
-      here (y ∷ c) g e = rw (stops-first (past y) (both (not (past y)) (list_all (λ z. not (past z)) c) g).0) refl
+      here (y ∷ c) g e = rw (hidden (past y) (both (not (past y)) (list_all (λ z. not (past z)) c) g).0) refl
 
       step : (d : Bool) → past x ≡ d → prefix_len past (put_past past b xs) ≡ prefix_len past xs
           → prefix_len past (cond d (x ∷ put_past past b xs) (b ++ (x ∷ xs))) ≡ cond d (1 + prefix_len past xs) 0
       step true e rest = rw e (ap (λ n. 1 + n) rest)
       step false e rest = here b h e
 
-  at-stays : (p : ℕ) (b xs : List A) → AreStops b → p ≤ len see xs → put_at see past p (put see past p b xs) ≡ put_at see past p xs
+  at-stays : (p : ℕ) (b xs : List A) → AreStops b → p ≤ len see xs → put_passes see past p (put see past p b xs) ≡ put_passes see past p xs
   at-stays zero b xs h l = prefix-stays b xs h
   at-stays (suc p) b [] h l = absurd (omega arith)
   at-stays (suc p) b (x ∷ xs) h l = ap suc (at-stays (cond (see x) p (suc p)) b xs h (fewer (see x) (len see xs) l))

@@ -13,6 +13,7 @@ use Rattle.ft_base.proofs.ScanLaws.{put_past-no_run}
 use Rattle.ft_props.specs.Element.{ElementContent, ElementId, ListElement, NamelessElement, has_id, is_pending, is_sequenced, removal_stamp, seen, stamps_of}
 use Rattle.ft_props.specs.Steps.{Sequence, is_inserted_by, rebuilt_list, stage_position}
 use Rattle.ft_props.specs.Steps.{carried_element as document_carried}
+use Rattle.ft_props.proofs.RebuiltList.{any-filter}
 use Rattle.ft_tree_leaves.specs.Elements.{TreeElement, sequenced_stamps}
 use Rattle.ft_laws_agreement.specs.Reconnecting.{has_insertion_of, has_marks_of, is_seen_or_next, is_stage_of}
 use Rattle.ft_laws_agreement.specs.Reconnecting.{StandSideBySide as StandSideBySideNamed}
@@ -79,14 +80,6 @@ filter-passes is (x ∷ xs) = step (is x) refl (filter-passes is xs)
     step true h r = rw (h, r) refl
     step false h r = r
 
-filter-other : {A : Type 0} (is keep : A → Bool) → ((x : A) → keep x ≡ true → is x ≡ false) → (xs : List A) → list_any is (filter keep xs) ≡ false
-filter-other is keep f [] = refl
-filter-other is keep f (x ∷ xs) = step (keep x) refl (filter-other is keep f xs)
-  where
-    step : (b : Bool) → keep x ≡ b → list_any is (filter keep xs) ≡ false → list_any is (cond b (x ∷ filter keep xs) (filter keep xs)) ≡ false
-    step true h r = rw (f x h, r) refl
-    step false h r = r
-
 filter-none : {A : Type 0} (is keep : A → Bool) (xs : List A) → list_any is xs ≡ false → list_any is (filter keep xs) ≡ false
 filter-none is keep [] h = refl
 filter-none is keep (x ∷ xs) h = step (is x) (list_any is xs) h (keep x) refl (λ g. filter-none is keep xs g)
@@ -111,9 +104,10 @@ named-run : (k : ℕ) (es : List ListElement) → StandSideBySideNamed k es → 
 named-run k es h =
     ap (is_one_run (is_inserted_by (suc k))) h
     ∙ run-put (is_inserted_by (suc k)) (seen k) (stage_position (suc k) es) (filter (is_inserted_by (suc k)) es) (filter (seen k) es)
-    (filter-passes (is_inserted_by (suc k)) es) (filter-other (is_inserted_by (suc k)) (seen k) (λ e g. unseen-next k e g) es)
+    (filter-passes (is_inserted_by (suc k)) es) (any-filter (is_inserted_by (suc k)) (seen k) (λ e g. unseen-next k e g) es)
 
-none-run : (k : ℕ) (es : List ListElement) → list_any (is_inserted_by (suc k)) es ≡ false → is_one_run (is_inserted_by (suc k)) (filter (is_seen_or_next k) es) ≡ true
+none-run : (k : ℕ) (es : List ListElement) → list_any (is_inserted_by (suc k)) es ≡ false
+    → is_one_run (is_inserted_by (suc k)) (filter (is_seen_or_next k) es) ≡ true
 none-run k es h =
     run-none (is_inserted_by (suc k)) (seen k) (filter (is_seen_or_next k) es) (filter-none (is_inserted_by (suc k)) (is_seen_or_next k) es h)
 
@@ -200,7 +194,8 @@ module _ {U : Type 0} (content : U → ElementContent) where
   acked-left (Acked s c ∷ ds) o h = ap (λ ts. Acked s c ∷ ts) (acked-left ds o h)
   acked-left (Local k ∷ ds) o h = (cc)
 
-  pub carried-alike : (x : TreeElement U) (e : ListElement) → IsElement content x e → list_all is_acked e.dels ≡ true → IsElement content (carried_element x) (document_carried e)
+  pub carried-alike : (x : TreeElement U) (e : ListElement) → IsElement content x e → list_all is_acked e.dels ≡ true
+      → IsElement content (carried_element x) (document_carried e)
   carried-alike x e q h =
       step (list_any is_acked x.stamps.dels) (list_any is_acked e.dels)
       (ap (λ (s : ElementStamps). list_any is_acked s.dels) (same-stamps content x e q) ∙ any-removed e.dels e.removal_stage)
@@ -257,7 +252,8 @@ module _ {U : Type 0} (content : U → ElementContent) where
           ∙ ap (λ ss. rebuilt_place (λ s. s) last ss (name_place es a)) (sym (same-map stamps_in stamps_of (λ x e q. same-stamps content x e q) b))
           ∙ rebuilt_place-image stamps_in (λ s. s) stamps_in (λ k x. refl) (λ k x. refl) (λ x. refl) last xs (name_place es a)
 
-      pub rebuilt-step : len is_pending (rebuilt_list ms list).items ≡ len is_pending es → StepsList last 0 (rebuilt_place stamps_in last xs) list (rebuilt_list ms list)
+      pub rebuilt-step : len is_pending (rebuilt_list ms list).items ≡ len is_pending es
+          → StepsList last 0 (rebuilt_place stamps_in last xs) list (rebuilt_list ms list)
       rebuilt-step count = record {
         numbered = rebuilt-numbered last ms rises list h staged;
         stays = λ a there. subst (λ n. 1 ≤ n) (sym (names-rebuilt last ms rises list h staged a)) there;
@@ -294,7 +290,8 @@ len-inserted k (e ∷ es) = step e.ins (len-inserted k es)
     here false g r = r
 
     step : (t : Stamp) → len is_pending (filter (is_inserted_by k) es) ≡ len (is_inserted_by k) es
-        → len is_pending (cond (is_inserted_by k e) (e ∷ filter (is_inserted_by k) es) (filter (is_inserted_by k) es)) ≡ one_more_if (is_inserted_by k e) (len (is_inserted_by k) es)
+        → len is_pending (cond (is_inserted_by k e) (e ∷ filter (is_inserted_by k) es) (filter (is_inserted_by k) es))
+        ≡ one_more_if (is_inserted_by k e) (len (is_inserted_by k) es)
     step t r = here (is_inserted_by k e) refl r
 
 len-stages : (es ys : List ListElement) (k : ℕ) → len is_pending (with_stages stamps_of es ys k) ≡ len is_pending ys + len (λ e. is_pending_up_to k e.ins) es
@@ -357,13 +354,15 @@ up-to-last last (e ∷ es) above first =
         both-hold false b p q = absurd (low p)
         both-hold true false p q = absurd (high q)
 
-    step : (t : Stamp) → ((k : ℕ) → last < k → (is_of_stage k t ≡ false) × (len (is_inserted_by k) es ≡ 0)) → (is_of_stage 0 t ≡ false) × (len (is_inserted_by 0) es ≡ 0)
+    step : (t : Stamp) → ((k : ℕ) → last < k → (is_of_stage k t ≡ false) × (len (is_inserted_by k) es ≡ 0))
+        → (is_of_stage 0 t ≡ false) × (len (is_inserted_by 0) es ≡ 0)
         → len (λ e. is_pending_up_to last e.ins) es ≡ len is_pending es
         → one_more_if (is_pending_up_to last t) (len (λ e. is_pending_up_to last e.ins) es) ≡ one_more_if (not (is_acked t)) (len is_pending es)
     step (Acked s c) f g r = r
     step (Local j) f g r = rw (within-last j (λ k l. (f k l).0) g.0, r) refl
 
-pub rebuilt-pending : (last : ℕ) (ms : List ℕ) (list : Sequence) → AreStagesOf 0 last list.items ms → ((k : ℕ) → last < k → len (is_inserted_by k) list.items ≡ 0)
+pub rebuilt-pending : (last : ℕ) (ms : List ℕ) (list : Sequence) → AreStagesOf 0 last list.items ms
+    → ((k : ℕ) → last < k → len (is_inserted_by k) list.items ≡ 0)
     → len (is_inserted_by 0) list.items ≡ 0 → len is_pending (rebuilt_list ms list).items ≡ len is_pending list.items
 rebuilt-pending last ms list of above first =
     let es = list.items in
@@ -390,7 +389,8 @@ pub none-from-len : (k : ℕ) (es : List ListElement) → len (is_inserted_by k)
 none-from-len k es h = any-from-len (is_inserted_by k) es h
 
 -- numbers that rise, beside which the list has nothing
-pub stages-of : (k last : ℕ) (xs : List ListElement) (ms : List ℕ) → Rises k ms → ((j : ℕ) → k < j → list_any (nat_eq j) ms ≡ false → list_any (is_inserted_by j) xs ≡ false)
+pub stages-of : (k last : ℕ) (xs : List ListElement) (ms : List ℕ) → Rises k ms
+    → ((j : ℕ) → k < j → list_any (nat_eq j) ms ≡ false → list_any (is_inserted_by j) xs ≡ false)
     → (list_all (λ m. nat_le m last) ms ≡ true) → AreStagesOf k last xs ms
 stages-of k last xs [] r none most = λ j l m. none j l refl
 stages-of k last xs (m ∷ ms) r none most =
