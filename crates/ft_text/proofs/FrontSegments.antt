@@ -14,12 +14,14 @@ use Rattle.ft_text.specs.declared.segments.Head.{Head}
 use Rattle.ft_text.specs.declared.segments.Segments.{Segments}
 
 joined-next : (i : ℕ) (last : Option SegRec) (seg : SegRec) (segs : List SegRec)
-    → joined_behind i last (seg ∷ segs) ≡ ended_segments (i % chunk_length == 0) last seg ++ joined_behind (i + 1) (Some (open_segment (i % chunk_length == 0) last seg)) segs
+    → joined_behind i last (seg ∷ segs) ≡ ended_segments (i % chunk_length == 0) last seg
+    ++ joined_behind (i + 1) (Some (open_segment (i % chunk_length == 0) last seg)) segs
 joined-next i None seg segs = refl
 joined-next i (Some last) seg segs = extended-next (i % chunk_length == 0) ((i + 1) % chunk_length == 0) last seg (joined_from (i + 1) segs)
 
 -- the segments so far with one element more, whose segment joins the last one or ends it
-pub adds-next : (seg : SegRec) (old : Segments) (given : Option SegRec) (list : List SegRec) (count : ℕ) (now : SegRec) → given ≡ old.last → count ≡ old.count + 1
+pub adds-next : (seg : SegRec) (old : Segments) (given : Option SegRec) (list : List SegRec) (count : ℕ) (now : SegRec) → given ≡ old.last
+    → count ≡ old.count + 1
     → list ≡ old.list ++ ended_segments (old.count % chunk_length == 0) given seg → now ≡ open_segment (old.count % chunk_length == 0) given seg
     → Adds (seg ∷ []) old (record { list = list; last = Some now; count = count })
 adds-next seg old given list count now same counted listed opened = record {
@@ -78,7 +80,8 @@ pub record IsAhead (f : ℕ → SegRec) (all rest : List ℕ) (start now : Segme
 pub ahead-begin : (f : ℕ → SegRec) (all : List ℕ) (start : Segments) → IsAhead f all all start start
 ahead-begin f all start = record { goes = λ more. refl }
 
-pub ahead-next : (f : ℕ → SegRec) (all rest behind : List ℕ) (c : ℕ) (start old new : Segments) → IsAhead f all rest start old → rest ≡ c ∷ behind → Adds (f c ∷ []) old new
+pub ahead-next : (f : ℕ → SegRec) (all rest behind : List ℕ) (c : ℕ) (start old new : Segments) → IsAhead f all rest start old
+    → rest ≡ c ∷ behind → Adds (f c ∷ []) old new
     → IsAhead f all behind start new
 ahead-next f all rest behind c start old new h e a = record {
   goes = λ more.

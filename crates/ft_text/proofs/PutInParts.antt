@@ -66,7 +66,8 @@ module _ (see past : TreeElement ElementContent → Bool) (p : ℕ) (ins : Stamp
     pub floor : now.floor ≡ first.floor
     pub made : now.made + length (flat_map text_units left) ≡ first.made + length all
 
-  pub inserts-begin : (all : List ElementContent) (left : List TextContent) (first : TreeState TextContent) → flat_map text_units left ≡ all → are_new left ≡ true
+  pub inserts-begin : (all : List ElementContent) (left : List TextContent) (first : TreeState TextContent)
+      → flat_map text_units left ≡ all → are_new left ≡ true
       → IsTrue first.usable → InsertsLeft all left first first
   inserts-begin all left first same fresh usable = record {
     whole = λ new h. subst (λ us. PutsIn see past p (new_elements ins by props us) first new) same h;
@@ -111,7 +112,8 @@ module _ (see past : TreeElement ElementContent → Bool) (p : ℕ) (ins : Stamp
       all-stops stops (u ∷ us) = rw (stops (element_with (record { ins = ins; dels = [] }) by (record { acked = props; pending = [] }) u) refl, all-stops stops us) refl
 
   -- there is room for the last one
-  pub inserts-room : (most : ℕ) (all : List ElementContent) (front : List TextContent) (x : TextContent) (left : List TextContent) (first now : TreeState TextContent)
+  pub inserts-room : (most : ℕ) (all : List ElementContent) (front : List TextContent) (x : TextContent) (left : List TextContent)
+      (first now : TreeState TextContent)
       → InsertsLeft all left first now → left ≡ front ++ (x ∷ []) → first.made + length all ≤ most → now.made + length (text_units x) ≤ most
   inserts-room most all front x left first now h same fits =
       let units : flat_map text_units left ≡ flat_map text_units front ++ text_units x =
@@ -135,7 +137,8 @@ made-count ins by props (u ∷ us) = ap suc (made-count ins by props us)
 
 -- one insertion, as a tree tells it
 -- with another word for the author
-pub puts-by : (see past : TreeElement ElementContent → Bool) (p : ℕ) (ins : Stamp) (props : PropertyList) (us : List ElementContent) (old new : TreeState TextContent)
+pub puts-by : (see past : TreeElement ElementContent → Bool) (p : ℕ) (ins : Stamp) (props : PropertyList) (us : List ElementContent)
+    (old new : TreeState TextContent)
     {author by : Option Stamp} → author ≡ by → text_elements new ≡ put see past p (new_elements ins author props us) (text_elements old)
     → text_elements new ≡ put see past p (new_elements ins by props us) (text_elements old)
 puts-by see past p ins props us old new e h = subst (λ b. text_elements new ≡ put see past p (new_elements ins b props us) (text_elements old)) e h

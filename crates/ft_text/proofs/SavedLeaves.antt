@@ -53,14 +53,16 @@ module _ (min : ℕ) where
     pub place : IsPlaceIn all next
     pub all_are : whole s (segments_in min (from_place all next)) ≡ joined_from 0 (segments_in min all)
 
-  pub leaf-begin : (all : TextLeaves) (next : Option ℕ) (s : Segments) → next ≡ first (ids all) → s ≡ record { list = []; last = None; count = 0 } → AtLeaf all next s
+  pub leaf-begin : (all : TextLeaves) (next : Option ℕ) (s : Segments) → next ≡ first (ids all)
+      → s ≡ record { list = []; last = None; count = 0 } → AtLeaf all next s
   leaf-begin all next s e f =
       subst (λ n. AtLeaf all n s) (sym e) (record {
         place = first_in_place all;
         all_are = ap (λ (t : Segments). whole t (segments_in min (from_place all (first (ids all))))) f ∙ ap (λ xs. joined_from 0 (segments_in min xs)) (from_first all);
       })
 
-  pub leaf-next : (all : TextLeaves) → ((i : ℕ) → times_leaf all i ≤ 1) → (next behind : Option ℕ) (id : ℕ) (old new : Segments) → AtLeaf all next old → next ≡ Some id
+  pub leaf-next : (all : TextLeaves) → ((i : ℕ) → times_leaf all i ≤ 1) → (next behind : Option ℕ) (id : ℕ) (old new : Segments)
+      → AtLeaf all next old → next ≡ Some id
       → ((x : TreeLeaf TextContent) → value_at all id ≡ Some x → Adds (leaf_segments min x) old new) → behind ≡ after (ids all) id → AtLeaf all behind new
   leaf-next all once next behind id old new w e f g =
       let live : IsLeafIn all id = subst (λ n. IsPlaceIn all n) e w.place in

@@ -65,7 +65,8 @@ origins-step id x xs =
 -- ---- how many origins there are
 
 -- those of a leaf that the client sees are as many as its elements
-pub origins-fit : (o : Option (TreeLeaf TextContent)) (n m : ℕ) → option_map is_shown_leaf o ≡ Some true → option_map (λ (x : TreeLeaf TextContent). length (text_units x.content)) o ≡ Some n
+pub origins-fit : (o : Option (TreeLeaf TextContent)) (n m : ℕ) → option_map is_shown_leaf o ≡ Some true
+    → option_map (λ (x : TreeLeaf TextContent). length (text_units x.content)) o ≡ Some n
     → ((x : TreeLeaf TextContent) → o ≡ Some x → m + length (leaf_origins x) ≤ 9007199254740991) → m + n < 9007199254740992
 origins-fit None n m e f h = (cc)
 origins-fit (Some x) n m e f h =

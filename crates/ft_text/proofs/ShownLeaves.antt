@@ -98,7 +98,8 @@ pub shows-next : (all : TextLeaves) → ((i : ℕ) → times_leaf all i ≤ 1)
 shows-next all once next behind id old new w e adds g =
     let live : IsLeafIn all id = subst (λ n. IsPlaceIn all n) e w.place in
     let s = stands-next all once id live in
-    let here : ShowsAhead (shown_elements all) (shown_elements (from_place all (Some id))) old = subst (λ n. ShowsAhead (shown_elements all) (shown_elements (from_place all n)) old) e w.ahead in
+    let here : ShowsAhead (shown_elements all) (shown_elements (from_place all (Some id))) old =
+    subst (λ n. ShowsAhead (shown_elements all) (shown_elements (from_place all n)) old) e w.ahead in
     subst (λ n. ShowsSoFar all n new) (sym g) (record {
       place = after_in_place all id;
       ahead = leaf-taken all (from_place all (after (ids all) id)) id s.leaf old new (adds s.leaf s.value)

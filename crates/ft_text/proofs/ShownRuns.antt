@@ -43,7 +43,8 @@ itself n ps = rw (self-number n, (same_props-Decides ps ps).1 refl) refl
 
 -- two runs side by side with the same properties are one
 pub joined : (a b c : ℕ) (ps : PropertyList) (more : List Run)
-    → with_run (record { start = a; end = b; props = ps }) (with_run (record { start = b; end = c; props = ps }) more) ≡ with_run (record { start = a; end = c; props = ps }) more
+    → with_run (record { start = a; end = b; props = ps }) (with_run (record { start = b; end = c; props = ps }) more)
+    ≡ with_run (record { start = a; end = c; props = ps }) more
 joined a b c ps [] = ap (λ t. cond t (record { start = a; end = c; props = ps } ∷ []) (record { start = a; end = b; props = ps } ∷ record { start = b; end = c; props = ps } ∷ [])) (itself b ps)
 joined a b c ps (s ∷ runs) = step (nat_eq s.start c && same_props s.props ps) refl
   where

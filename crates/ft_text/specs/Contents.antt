@@ -21,7 +21,8 @@ abbrev pub are_new : List TextContent → Bool
 are_new xs = list_all (λ x. is_none x.by) xs
 
 -- new elements were put into a tree of text, and its references keep their elements
-pub record PutsIn (seen past : TreeElement ElementContent → Bool) (p : ℕ) (added : List (TreeElement ElementContent)) (old new : TreeState TextContent) : Type 0 where
+pub record PutsIn (seen past : TreeElement ElementContent → Bool) (p : ℕ) (added : List (TreeElement ElementContent))
+    (old new : TreeState TextContent) : Type 0 where
   pub elements : text_elements new ≡ put seen past p added (text_elements old)
   pub refs : ChangesReferences (with_place (shifted_place (put_place seen past p (text_elements old)) (length added))) old.refs new.refs
   pub rest : KeepsRest old new

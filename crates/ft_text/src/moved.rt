@@ -3,7 +3,7 @@
 ghost use Rattle.std.specs.Prelude.{◌≡◌};
 
 /// Puts a value in the place of another one.
-pub fn put<T: Drop>(place: &mut T, value: T)
+pub fn assign<T: Drop>(place: &mut T, value: T)
     ensures { place.new ≡ value }
 {
     *place = value;

@@ -16,7 +16,7 @@ ghost use Rattle.ft_text.specs.Saved.{Adds, head_of, headed, joined_from, leaf_s
 
 use crate::contents::{characters, push_character};
 use crate::lengths::sum;
-use crate::moved::put;
+use crate::moved::assign;
 use ft_arena::NodeId;
 use ft_base::{Datum, OutOfMemory, Text};
 use ft_marks::{
@@ -263,7 +263,7 @@ impl Segments {
         self.count = sum(self.count, 1)?;
         let last = self.last.take();
         let next = extend(&mut self.list, last, begins, c, head)?;
-        put(&mut self.last, Some(next));
+        assign(&mut self.last, Some(next));
         Ok(())
     }
 
@@ -276,7 +276,7 @@ impl Segments {
         let last = self.last.take();
         end(&mut self.list, last)?;
         let next = OpenSegment::of_marker(alloc, ref_type, head)?;
-        put(&mut self.last, Some(next));
+        assign(&mut self.last, Some(next));
         Ok(())
     }
 

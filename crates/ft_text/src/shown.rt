@@ -10,7 +10,7 @@ ghost use Rattle.ft_tree_leaves.specs.declared.text.TextContent.{TextContent};
 ghost use Rattle.ft_tree_leaves.specs.TextLeaves.{text_units};
 ghost use Rattle.ft_msg.specs.declared.views.Run.{Run};
 
-use crate::moved::put;
+use crate::moved::assign;
 use ft_arena::NodeId;
 use ft_attrib::{Attribution, Origin};
 use ft_base::moved::push;
@@ -157,9 +157,9 @@ pub fn show_elements(tree: &Tree<TextContent>, out: &mut View) -> Result<(), Out
     ensures others { KeepsOthers out.old out.new }
 {
     let shown = show_all(tree)?;
-    put(&mut out.text, Text::from_string(shown.text));
-    put(&mut out.markers, shown.markers);
-    put(&mut out.runs, List::of(shown.runs));
+    assign(&mut out.text, Text::from_string(shown.text));
+    assign(&mut out.markers, shown.markers);
+    assign(&mut out.runs, List::of(shown.runs));
     Ok(())
 }
 

@@ -12,7 +12,8 @@ use Rattle.ft_text.proofs.contents.insert_local.Given as goal
 -- what is left makes of the tree what all make of the first one, and one content is put in by few reads
 abbrev pub invariant-loop-content : goal.invariant-loop-content
 invariant-loop-content g l = record {
-  inserts : InsertsLeft (seen_in last_stage) no_run l.p (Local l.stage) None (apply [] l.props) (segment_contents l.seg) (contents_in l.contents) l.fn.tree l.tree;
+  inserts : InsertsLeft (seen_in last_stage) no_run l.p (Local l.stage) None (apply [] l.props) (segment_contents l.seg)
+      (contents_in l.contents) l.fn.tree l.tree;
   reads : FewReads (segment_contents l.seg) (contents_in l.contents) l.fn.tree l.tree l.fn.steps l.steps;
 }
 

@@ -12,7 +12,8 @@ use Rattle.ft_text.proofs.contents.insert_remote.Given as goal
 -- what is left makes of the tree what all make of the first one
 abbrev pub invariant-loop-content : goal.invariant-loop-content
 invariant-loop-content g l =
-    InsertsLeft (seen_in (At l.at)) is_pending l.p (Acked l.seq l.at.c) (text_author l.seq l.at.c) (apply [] l.props) (segment_contents l.seg) (contents_in l.contents) l.fn.tree l.tree
+    InsertsLeft (seen_in (At l.at)) is_pending l.p (Acked l.seq l.at.c) (text_author l.seq l.at.c) (apply [] l.props)
+    (segment_contents l.seg) (contents_in l.contents) l.fn.tree l.tree
 
 abbrev pub decreases-loop-content : goal.decreases-loop-content
 decreases-loop-content g l = length (contents_in l.contents)

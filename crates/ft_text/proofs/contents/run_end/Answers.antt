@@ -20,7 +20,8 @@ all_within bs text within = none_left (chars bs) longest_run (omega (arith, leng
 
 -- what is left after a call of `next`, which may be at the end
 left_after : (cs : List ℕ) (i : ℕ) (s t : Chars) (r : Option ℕ) → encode_utf8_all (drop i cs) ≡ chars_rest s
-    → MatchOption r ((length (chars_rest s) ≡ 0) × (t ≡ s)) (λ c. chars_rest s ≡ encode_utf8 c ++ chars_rest t) → encode_utf8_all (drop (i + 1) cs) ≡ chars_rest t
+    → MatchOption r ((length (chars_rest s) ≡ 0) × (t ≡ s)) (λ c. chars_rest s ≡ encode_utf8 c ++ chars_rest t)
+    → encode_utf8_all (drop (i + 1) cs) ≡ chars_rest t
 left_after cs i s t None so_far step =
     let ended : length cs ≤ i = omega (arith, length-le-encodes (drop i cs), length-drop i cs, ap length so_far, step.0) in
     none_left cs (i + 1) (omega arith) ∙ sym (none_left cs i ended) ∙ so_far ∙ sym (ap chars_rest step.1)

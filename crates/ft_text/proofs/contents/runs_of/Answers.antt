@@ -25,7 +25,8 @@ no_character [] none = chars-nil
 no_character (b ∷ bs) none = absurd (omega arith)
 
 -- the characters of the slice that ends where the run does
-run-characters : (bs run : List ℕ) (at : ℕ) → run ≡ slice_range bs 0 at → chars (take at bs) ≡ take longest_run (chars bs) → chars run ≡ take longest_run (chars bs)
+run-characters : (bs run : List ℕ) (at : ℕ) → run ≡ slice_range bs 0 at → chars (take at bs) ≡ take longest_run (chars bs)
+    → chars run ≡ take longest_run (chars bs)
 run-characters bs run at is_run cut = let whole : at - 0 ≡ at = omega arith in ap chars (is_run ∙ ap (λ n. take n bs) whole) ∙ cut
 
 -- one run more, of the first characters ahead
