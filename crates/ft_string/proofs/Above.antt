@@ -38,7 +38,8 @@ below-later k n h = grind (arith, nat_tests)
 have-later : (k : ℕ) (x : TreeElement ElementContent) → has_below k x ≡ true → has_below (k + 1) x ≡ true
 have-later k x h = all-weaker (λ c. nat_lt c.0 k) (λ c. nat_lt c.0 (k + 1)) (λ c g. below-later k c.0 g) x.overlay.pending h
 
-have-noted : (k : ℕ) (c : Changes) (x : TreeElement ElementContent) → has_below (k + 1) x ≡ true → has_below (k + 1) (with_overlay (after_pending_changes k c) x) ≡ true
+have-noted : (k : ℕ) (c : Changes) (x : TreeElement ElementContent) → has_below (k + 1) x ≡ true
+    → has_below (k + 1) (with_overlay (after_pending_changes k c) x) ≡ true
 have-noted k c x h = all-append (λ p. nat_lt p.0 (k + 1)) x.overlay.pending ((k, c) ∷ []) h (rw (below-self k) refl)
 
 have-new : (k : ℕ) (props : PropertyList) (us : List ElementContent) → HaveBelow (k + 1) (new_elements (Local k) None props us)

@@ -35,7 +35,7 @@ use Rattle.ft_laws_agreement.specs.Sequencing.{Each}
 use Rattle.ft_laws_names.specs.WellNamed.{AreNamedBefore, ArePutIn, IsNamedBefore, IsSettledIn, IsWellNumbered, RiseTo, StandsIn, puts_text_in}
 use Rattle.ft_laws_names.proofs.AckedLists.{acked-numbered, stage-count, unstaged}
 use Rattle.ft_laws_names.proofs.Beside.{Beside, beside-map, ends, next}
-use Rattle.ft_laws_names.proofs.OwnAlike.{named-acked}
+use Rattle.ft_laws_names.proofs.OwnAlike.{named-acked, rise-renamed}
 use Rattle.ft_tree.specs.State.{TreeState}
 use Rattle.ft_named.specs.Bare.{bare}
 use Rattle.ft_named.proofs.AckedSteps.{acked-alike, acked-held, acked-moves, acked-stays}
@@ -90,7 +90,8 @@ units-of (x ∷ xs) =
     each-append IsOfText (leaf_elements text_units (λ (y : TextContent). y.by) x.1) (elements text_units (λ (y : TextContent). y.by) xs) (of-piece x.1 x.1.content.piece) (units-of xs)
 
 -- a fact of the elements of the tree
-beside-left : {Q : TreeElement ElementContent → ListElement → Type 0} (P : TreeElement ElementContent → Type 0) {xs : TextElements} {es : List ListElement} → Each P xs
+beside-left : {Q : TreeElement ElementContent → ListElement → Type 0} (P : TreeElement ElementContent → Type 0) {xs : TextElements}
+    {es : List ListElement} → Each P xs
     → Beside (TreeElement ElementContent) ListElement Q xs es → Beside (TreeElement ElementContent) ListElement (λ x e. Q x e × P x) xs es
 beside-left P h ends = ends
 beside-left P h (next q qs) = next (q, h.0) (beside-left P h.1 qs)
@@ -151,8 +152,10 @@ renamed-intervals f (t ∷ ts) = step (is_on_intervals t.sub_operation) (renamed
     step false h = h
 
 -- those on elements name none, and so are as they were
-renamed-op : (f : ElementId → ElementId) (p q : Document) (o : SubOperation) (k : ℕ) (names : NamedElements) → is_on_elements o ≡ true → AreNamesIn p.text.items o names
-    → indexed_stage q (renamed_stage f (record { stage = k; sub_operation = o; names = names })) ≡ indexed_stage p (record { stage = k; sub_operation = o; names = names })
+renamed-op : (f : ElementId → ElementId) (p q : Document) (o : SubOperation) (k : ℕ) (names : NamedElements) → is_on_elements o ≡ true
+    → AreNamesIn p.text.items o names
+    → indexed_stage q (renamed_stage f (record { stage = k; sub_operation = o; names = names }))
+    ≡ indexed_stage p (record { stage = k; sub_operation = o; names = names })
 renamed-op f p q (OnText op) k names h a = rw a refl
 renamed-op f p q (OnIntervals op) k names h a = (cc)
 renamed-op f p q (OnGrid op) k names h a = (cc)
@@ -186,7 +189,8 @@ module _ (refs after : References) (p q : Document) (f : ElementId → ElementId
   renamed-same t k (OnText op) names a b s h = let never : OnIntervals t.op ≡ OnText op = ap (λ (u : IndexedStage). u.sub_operation) h in (cc)
   renamed-same t k (OnGrid op) names a b s h = let never : OnIntervals t.op ≡ OnGrid op = ap (λ (u : IndexedStage). u.sub_operation) h in (cc)
 
-  renamed-stages : {ts : List Operation} {us : List Stage} → HaveNames (IsMarkedEnd false refs) ts → Each (λ u. AreNamesIn p.text.items u.sub_operation u.names) us
+  renamed-stages : {ts : List Operation} {us : List Stage} → HaveNames (IsMarkedEnd false refs) ts
+      → Each (λ u. AreNamesIn p.text.items u.sub_operation u.names) us
       → SameStages refs p ts us → SameStages after q ts (map (renamed_stage f) us)
   renamed-stages a s ends = ends
   renamed-stages a s (next {x = t} {y = u} h hs) =
@@ -249,8 +253,10 @@ module _ (last k s c n : ℕ) (l : Sequence) (h : IsWellNumbered last l)
   all-names-acked [] a = tt
   all-names-acked (t ∷ ts) a = (names-acked t.sub_operation t.names a.0, all-names-acked ts a.1)
 
-  module _ (xs : TextElements) (list : AreElements text_content xs after) (refs now : References) (slides : ChangesReferences (slid_reference xs) refs now) where
-    acked-end : (r : Option ℕ) (o : Option ElementId) → IsMarkedEnd true refs r → IsSettledIn l.items o → SameEnd refs l.items r o → SameEnd now after r (slide after o)
+  module _ (xs : TextElements) (list : AreElements text_content xs after) (refs now : References)
+      (slides : ChangesReferences (slid_reference xs) refs now) where
+    acked-end : (r : Option ℕ) (o : Option ElementId) → IsMarkedEnd true refs r → IsSettledIn l.items o → SameEnd refs l.items r o
+        → SameEnd now after r (slide after o)
     acked-end r o a t e =
         end-slid xs refs now slides r a ∙ ap (slid_end xs) (e ∙ sym (place-still o t))
         ∙ sym (name-slid text_content xs after (acked-numbered last k s c l h).once list o (settled-acked o t))
@@ -278,11 +284,8 @@ names-settled last k l stages h own above (Some (PendingId j i)) t b =
 
 -- ---- what stays known of the stages behind
 
-rise-renamed : (f : ElementId → ElementId) (low last : ℕ) (ts : List Stage) → RiseTo low last ts → RiseTo low last (map (renamed_stage f) ts)
-rise-renamed f low last [] r = r
-rise-renamed f low last (t ∷ ts) r = (r.0, rise-renamed f t.stage last ts r.1)
-
-any-renamed : (f : ElementId → ElementId) (j : ℕ) (ts : List Stage) → list_any (λ t. nat_eq j t.stage && puts_text_in t.sub_operation) (map (renamed_stage f) ts)
+any-renamed : (f : ElementId → ElementId) (j : ℕ) (ts : List Stage)
+    → list_any (λ t. nat_eq j t.stage && puts_text_in t.sub_operation) (map (renamed_stage f) ts)
     ≡ list_any (λ t. nat_eq j t.stage && puts_text_in t.sub_operation) ts
 any-renamed f j [] = refl
 any-renamed f j (t ∷ ts) = ap (λ b. (nat_eq j t.stage && puts_text_in t.sub_operation) || b) (any-renamed f j ts)
@@ -390,7 +393,8 @@ module _ (tree new : TreeState TextContent) (c d : CollectionsState) (ops rest :
 -- the stage is on elements
 on-elements : (tree new : TreeState TextContent) (c d : CollectionsState) (ops rest : List PendingOp) (given : ℕ) (usable : Bool) (last low s conn k : ℕ)
     (op : BaseOp) (names : NamedElements) (ts : List Stage) (doc : Document)
-    → CanAck tree c ops given usable last low doc (record { stage = k; sub_operation = OnText op; names = names } ∷ ts) → AcksStage k s conn tree new c d ops rest
+    → CanAck tree c ops given usable last low doc (record { stage = k; sub_operation = OnText op; names = names } ∷ ts)
+    → AcksStage k s conn tree new c d ops rest
     → CanAck new d rest given usable last k (acked_document s conn (record { stage = k; sub_operation = OnText op; names = names }) doc)
     (map (renamed_stage (acked_id k (made_before doc (OnText op)))) ts)
 on-elements tree new c d ops rest given usable last low s conn k op names ts doc h a =
@@ -408,7 +412,8 @@ on-elements tree new c d ops rest given usable last low s conn k op names ts doc
     ∙ ops-behind ops (indexed_stage doc (record { stage = k; sub_operation = OnText op; names = names })) (map (indexed_stage doc) (element_stages ts)) h.held.holds.ops)
 
 -- the first pending operation on an interval takes effect
-record TakesFirst (k : ℕ) (xs : TextElements) (refs : References) (op : TextOp) (is : List (Interval ℕ)) (ps : List Operation) (now : CollectionsState) : Type 0 where
+record TakesFirst (k : ℕ) (xs : TextElements) (refs : References) (op : TextOp) (is : List (Interval ℕ)) (ps : List Operation)
+    (now : CollectionsState) : Type 0 where
   pub first : is_first k ps ≡ true
   pub ends : EndPair ℕ
   pub tail : List Operation
@@ -416,7 +421,8 @@ record TakesFirst (k : ℕ) (xs : TextElements) (refs : References) (op : TextOp
   pub pending : now.pending ≡ placed_operations refs tail
   pub is_at : ps ≡ record { stage = k; op = op; ends = ends } ∷ tail
 
-takes-first : (k : ℕ) (xs : TextElements) (refs mid : References) (doc : Document) (op : TextOp) (names : NamedElements) (us : List Stage) (is : List (Interval ℕ)) (ps : List Operation)
+takes-first : (k : ℕ) (xs : TextElements) (refs mid : References) (doc : Document) (op : TextOp) (names : NamedElements) (us : List Stage)
+    (is : List (Interval ℕ)) (ps : List Operation)
     (now : CollectionsState)
     → map interval_stage (placed_operations refs ps) ≡ indexed_stage doc (record { stage = k; sub_operation = OnIntervals op; names = names }) ∷ map (indexed_stage doc) us
     → now ≡ cond (is_first k ps) (with_first_acked (map_ends (slid_end xs)) (record { acked = is; pending = placed_operations mid ps }))
@@ -444,7 +450,8 @@ takes-first k xs refs mid doc op names us is (p ∷ ps) now e h =
 -- the stage is on an interval
 on-interval : (tree new : TreeState TextContent) (c d : CollectionsState) (ops rest : List PendingOp) (given : ℕ) (usable : Bool) (last low s conn k : ℕ)
     (op : TextOp) (names : NamedElements) (ts : List Stage) (doc : Document)
-    → CanAck tree c ops given usable last low doc (record { stage = k; sub_operation = OnIntervals op; names = names } ∷ ts) → AcksStage k s conn tree new c d ops rest
+    → CanAck tree c ops given usable last low doc (record { stage = k; sub_operation = OnIntervals op; names = names } ∷ ts)
+    → AcksStage k s conn tree new c d ops rest
     → CanAck new d rest given usable last k (acked_document s conn (record { stage = k; sub_operation = OnIntervals op; names = names }) doc)
     (map (renamed_stage (acked_id k (made_before doc (OnIntervals op)))) ts)
 on-interval tree new c d ops rest given usable last low s conn k op names ts doc h a =
@@ -455,7 +462,8 @@ on-interval tree new c d ops rest given usable last low s conn k op names ts doc
     λ i t. unstaged last k 0 doc.text i h.held.named.list none t ∙ sym (unstaged last k doc.text.made doc.text i h.held.named.list none t) in
     let xs = text_elements a.mid in
     let items = (acked_list k s conn doc.text).items in
-    let first = takes-first k xs tree.refs a.mid.refs doc op names (interval_stages ts) (placed_intervals a.mid.refs c.acked) c.pending (placed new.refs d) h.held.holds.interval_ops a.intervals in
+    let first = takes-first k xs tree.refs a.mid.refs doc op names (interval_stages ts) (placed_intervals a.mid.refs c.acked) c.pending
+    (placed new.refs d) h.held.holds.interval_ops a.intervals in
     let marks = subst (HaveNames (IsMarkedEnd false tree.refs)) first.is_at (names-marked false tree.refs c.pending h.held.sound.marked.pending) in
     let stages = subst (λ ps. map interval_stage (placed_operations tree.refs ps) ≡ indexed_stage doc here ∷ map (indexed_stage doc) (interval_stages ts)) first.is_at h.held.holds.interval_ops in
     let front : interval_stage (with_mapped_names (places_of_ends tree.refs) (record { stage = k; op = op; ends = first.ends })) ≡ indexed_stage doc here = (cc) in

@@ -189,8 +189,10 @@ module _ (end s conn given : ℕ) (usable : Bool) (last first : ℕ) (behind : L
       let all = stages-from rename end behind later in
       absurd (none-below end (least_of (first_of (element_stages (map (renamed_stage rename) behind))) (first_of (interval_stages (map (renamed_stage rename) behind)))) k
       (from-least end (first_of (element_stages (map (renamed_stage rename) behind))) (first_of (interval_stages (map (renamed_stage rename) behind)))
-      (from-first end (element_stages (map (renamed_stage rename) behind)) (each-filter (λ t. end ≤ t.stage) (λ t. is_on_elements t.sub_operation) (map (renamed_stage rename) behind) all))
-      (from-first end (interval_stages (map (renamed_stage rename) behind)) (each-filter (λ t. end ≤ t.stage) (λ t. is_on_intervals t.sub_operation) (map (renamed_stage rename) behind) all)))
+      (from-first end (element_stages (map (renamed_stage rename) behind))
+      (each-filter (λ t. end ≤ t.stage) (λ t. is_on_elements t.sub_operation) (map (renamed_stage rename) behind) all))
+      (from-first end (interval_stages (map (renamed_stage rename) behind))
+      (each-filter (λ t. end ≤ t.stage) (λ t. is_on_intervals t.sub_operation) (map (renamed_stage rename) behind) all)))
       (sym (ap (if_below end) least) ∙ h))
   acks-all (next_stage {k = k} {old = tree} {mid = mid} {before = c} {between = b} {ops = ops} {more = left} h a more) (t ∷ mine) w rename low doc can =
       let all = λ (u : Stage). (first ≤ u.stage) × (u.stage < end) × (is_on_text u.sub_operation ≡ true) in
@@ -226,7 +228,8 @@ elements-up low more last (t ∷ ts) l h = step (is_on_elements t.sub_operation)
     step true g = (let up = h.0 in omega arith, g)
     step false g = up-weaker low t.stage (element_stages ts) (let up = h.0 in omega arith) g
 
-ops-up : (doc : Document) (low : ℕ) (ops : List PendingOp) (us : List Stage) → StagesUp low us → map element_stage ops ≡ map (indexed_stage doc) us → OpsRise low ops
+ops-up : (doc : Document) (low : ℕ) (ops : List PendingOp) (us : List Stage) → StagesUp low us
+    → map element_stage ops ≡ map (indexed_stage doc) us → OpsRise low ops
 ops-up doc low [] us h e = tt
 ops-up doc low (o ∷ os) [] h e = (cc)
 ops-up doc low (o ∷ os) (u ∷ us) h e =
@@ -239,7 +242,8 @@ ops-up doc low (o ∷ os) (u ∷ us) h e =
 abbrev is_in : ℕ → List Stage → Bool
 is_in k us = list_any (λ u. nat_eq u.stage k) us
 
-same-noted : (doc : Document) (ops : List PendingOp) (us : List Stage) (q : ℕ × Changes) → map element_stage ops ≡ map (indexed_stage doc) us → is_noted ops q ≡ is_in q.0 us
+same-noted : (doc : Document) (ops : List PendingOp) (us : List Stage) (q : ℕ × Changes)
+    → map element_stage ops ≡ map (indexed_stage doc) us → is_noted ops q ≡ is_in q.0 us
 same-noted doc [] [] q h = refl
 same-noted doc [] (u ∷ us) q h = (cc)
 same-noted doc (o ∷ os) [] q h = (cc)
@@ -268,7 +272,8 @@ annotating k (t ∷ ts) h = step t.sub_operation h (λ g. annotating k ts g)
     step (OnIntervals op) g f = f (never (nat_eq t.stage k) (is_stage_of annotates_text ts k) g)
     step (OnGrid op) g f = f (never (nat_eq t.stage k) (is_stage_of annotates_text ts k) g)
 
-noted-alike : (ops : List PendingOp) (test : ℕ × Changes → Bool) → ((q : ℕ × Changes) → test q ≡ true → is_noted ops q ≡ true) → {xs : TextElements} {es : List ListElement}
+noted-alike : (ops : List PendingOp) (test : ℕ × Changes → Bool) → ((q : ℕ × Changes) → test q ≡ true → is_noted ops q ≡ true)
+    → {xs : TextElements} {es : List ListElement}
     → list_all (λ e. list_all test e.pending) es ≡ true → AreElements text_content xs es → AreNoted ops xs
 noted-alike ops test f h ends = refl
 noted-alike ops test f h (next {x = x} {y = e} {xs = xs} {ys = es} q qs) =
@@ -307,7 +312,8 @@ none-again k (t ∷ ts) ops e all r = let low = All-head (λ (u : PendingOp). u.
 
 -- ---- the call
 
-pub acked-floor : {end s conn : ℕ} {tree new : TreeState TextContent} {c d : CollectionsState} {ops rest : List PendingOp} → AcksStages end s conn tree new c d ops rest
+pub acked-floor : {end s conn : ℕ} {tree new : TreeState TextContent} {c d : CollectionsState} {ops rest : List PendingOp}
+    → AcksStages end s conn tree new c d ops rest
     → new.floor ≡ tree.floor
 acked-floor (no_stage h) = refl
 acked-floor (next_stage h a more) = acked-floor more ∙ ap (λ (x : TreeState TextContent). x.floor) a.leaves ∙ a.goes.floor
@@ -345,7 +351,8 @@ module _ (end s conn : ℕ) (tree new : TreeState TextContent) (c d : Collection
   acked-sound last h = (acked-parts last h.doc h.mine h.rest h.oldest h.sound h.holds).sound
 
 -- no stages are acknowledged
-pub acked-none : (first end : ℕ) (s : TextState) (seq conn : ℕ) (doc : Document) (mine rest : List Stage) → end ≤ first → AreOldest first end mine rest → HoldsText s doc (mine ++ rest)
+pub acked-none : (first end : ℕ) (s : TextState) (seq conn : ℕ) (doc : Document) (mine rest : List Stage) → end ≤ first
+    → AreOldest first end mine rest → HoldsText s doc (mine ++ rest)
     → HoldsAcked s seq conn mine rest doc
 acked-none first end s seq conn doc mine rest l old holds =
     let none = none-within first end mine l old.within in
@@ -363,7 +370,8 @@ pub record IsReady (a : Inside) (first end : ℕ) : Type 0 where
   pub last : ℕ
   pub held : HoldsOldest last first end (state_of a.tree a.intervals.state a.ops.items a.given a.usable)
 
-pub is-ready : (a : Inside) (s : TextState) (first end : ℕ) → view_of a ≡ s → IsSoundIfUsable a → IsTrue s.usable → s.given ≡ 0 → (last : ℕ) → HoldsOldest last first end s
+pub is-ready : (a : Inside) (s : TextState) (first end : ℕ) → view_of a ≡ s → IsSoundIfUsable a → IsTrue s.usable → s.given ≡ 0
+    → (last : ℕ) → HoldsOldest last first end s
     → IsReady a first end
 is-ready a s first end view sound usable given last h =
     let before = sound (subst (λ b. IsTrue b) (sym (ap (λ (x : TextState). x.usable) view)) usable) in

@@ -41,7 +41,8 @@ noted-from k t ts l r q h = step (nat_eq t.stage q.0) refl h (λ g. noted-above 
     step false e g rest = let far = rest g in omega arith
 
 -- each lowest stage is below them
-changes-from : (k : ℕ) (ops : List PendingOp) → ((q : ℕ × Changes) → is_noted ops q ≡ true → k ≤ q.0) → (qs : List (ℕ × Changes)) → list_all (is_noted ops) qs ≡ true
+changes-from : (k : ℕ) (ops : List PendingOp) → ((q : ℕ × Changes) → is_noted ops q ≡ true → k ≤ q.0) → (qs : List (ℕ × Changes))
+    → list_all (is_noted ops) qs ≡ true
     → All (λ q. k ≤ q.0) qs
 changes-from k ops f [] h = All-nil (λ (q : ℕ × Changes). k ≤ q.0)
 changes-from k ops f (q ∷ qs) h =
@@ -73,7 +74,8 @@ pub lowest : (end k : ℕ) (c : CollectionsState) (ops : List PendingOp) (xs : T
     → All (λ e. IsLowestChange k e.overlay) xs
 lowest end k c ops xs h r n = all-from k ops (from ops r (below-is end (least_of (first_op ops) (first_stage c.pending)) k h)) xs n
   where
-    from : (ops : List PendingOp) → OpsRise 0 ops → least_of (first_op ops) (first_stage c.pending) ≡ Some k → (q : ℕ × Changes) → is_noted ops q ≡ true → k ≤ q.0
+    from : (ops : List PendingOp) → OpsRise 0 ops → least_of (first_op ops) (first_stage c.pending) ≡ Some k → (q : ℕ × Changes)
+        → is_noted ops q ≡ true → k ≤ q.0
     from [] r g q f = (cc)
     from (t ∷ ts) r g q f = noted-from k t ts (least-first t.stage k (first_stage c.pending) g) r.1 q f
 
@@ -151,7 +153,8 @@ rest-rise true ops r = r
 rest-rise false [] r = r
 rest-rise false (t ∷ ts) r = rise-tail 0 t ts r
 
-rest-noted : (k s c : ℕ) (ops : List PendingOp) (us : List Operation) (xs : TextElements) → least_of (first_op ops) (first_stage us) ≡ Some k → AreNoted ops xs → (b : Bool)
+rest-noted : (k s c : ℕ) (ops : List PendingOp) (us : List Operation) (xs : TextElements)
+    → least_of (first_op ops) (first_stage us) ≡ Some k → AreNoted ops xs → (b : Bool)
     → is_first k us ≡ b → AreNoted (cond b ops (drop 1 ops)) (map (acked_element k s c (text_author s c)) xs)
 rest-noted k s c ops us xs l n true e = kept-noted k s c ops xs n
 rest-noted k s c [] us xs l n false e = kept-noted k s c [] xs n
@@ -164,7 +167,8 @@ first-gone k refs f acked [] h = (cc)
 first-gone k refs f acked (u ∷ us) h = let same : length (placed_operations refs us) ≡ length us = length-map us _ in omega arith
 
 -- and where there is none, there is one on elements
-some-op : (k : ℕ) (ops : List PendingOp) (us : List Operation) → least_of (first_op ops) (first_stage us) ≡ Some k → is_first k us ≡ false → length (drop 1 ops) < length ops
+some-op : (k : ℕ) (ops : List PendingOp) (us : List Operation) → least_of (first_op ops) (first_stage us) ≡ Some k → is_first k us ≡ false
+    → length (drop 1 ops) < length ops
 some-op k [] [] h e = (cc)
 some-op k [] (u ∷ us) h e = let same : u.stage ≡ k = some-same h in absurd (grind (arith, nat_tests))
 some-op k (t ∷ ts) us h e = omega arith
@@ -207,6 +211,7 @@ module _ (end k s c : ℕ) (now mid : TreeState TextContent) (given between : Co
           let some = some-op k rest given.pending found e in
           omega arith
 
-pub acks-done : (end s c : ℕ) (first now : TreeState TextContent) (before given : CollectionsState) (ops rest : List PendingOp) → AcksSoFar end s c first now before given ops rest
+pub acks-done : (end s c : ℕ) (first now : TreeState TextContent) (before given : CollectionsState) (ops rest : List PendingOp)
+    → AcksSoFar end s c first now before given ops rest
     → next_below end given rest ≡ None → AcksStages end s c first now before given ops rest
 acks-done end s c first now before given ops rest g h = g.whole now given rest (none h)

@@ -23,7 +23,8 @@ appends-none tree = record {
   made = omega arith;
 }
 
-pub appends-next : (front more : TextElements) (old mid new : TreeState TextContent) → Appends front old mid → Appends more mid new → Appends (front ++ more) old new
+pub appends-next : (front more : TextElements) (old mid new : TreeState TextContent) → Appends front old mid → Appends more mid new
+    → Appends (front ++ more) old new
 appends-next front more old mid new a b = record {
   elements = b.elements ∙ ap (λ xs. xs ++ more) a.elements ∙ append_assoc (text_elements old) front more;
   refs = λ r. b.refs r ∙ a.refs r;
@@ -38,7 +39,8 @@ more-units (y ∷ ys) x = ap (λ us. text_units y ++ us) (more-units ys x) ∙ s
 -- ---- the contents of a segment
 
 -- one more of them
-content-more : (seg : SegRec) (done : List TextContent) (x : TextContent) (old mid new : TreeState TextContent) → Appends (segment_elements seg (flat_map text_units done)) old mid
+content-more : (seg : SegRec) (done : List TextContent) (x : TextContent) (old mid new : TreeState TextContent)
+    → Appends (segment_elements seg (flat_map text_units done)) old mid
     → Appends (segment_elements seg (text_units x)) mid new → Appends (segment_elements seg (flat_map text_units (done ++ x ∷ []))) old new
 content-more seg done x old mid new a b =
     subst (λ es. Appends es old new)
@@ -52,7 +54,8 @@ pub record AppendsSoFar (seg : SegRec) (all done left : List TextContent) (old n
   pub appends : Appends (segment_elements seg (flat_map text_units done)) old now
   pub whole : done ++ left ≡ all
 
-pub content-next : (seg : SegRec) (all done : List TextContent) (x : TextContent) (left rest : List TextContent) (old mid new : TreeState TextContent) → left ≡ x ∷ rest
+pub content-next : (seg : SegRec) (all done : List TextContent) (x : TextContent) (left rest : List TextContent)
+    (old mid new : TreeState TextContent) → left ≡ x ∷ rest
     → AppendsSoFar seg all done left old mid → Appends (segment_elements seg (text_units x)) mid new → AppendsSoFar seg all (done ++ x ∷ []) rest old new
 content-next seg all done x left rest old mid new front a b = record {
   appends = content-more seg done x old mid new a.appends b;
@@ -65,13 +68,16 @@ contents-done seg all done left old new none a =
     subst (λ xs. Appends (segment_elements seg (flat_map text_units xs)) old new) (sym (append-nil done) ∙ ap (λ zs. done ++ zs) (sym none) ∙ a.whole) a.appends
 
 -- the last one, if there is one, behind those before it
-pub with-last : {E : Type 0} (r : Result (Unit {0}) E) (seg : SegRec) (us : List ElementContent) (before : List TextContent) (x : TextContent) (old mid new : TreeState TextContent)
-    → flat_map text_units (before ++ x ∷ []) ≡ us → Appends (segment_elements seg (flat_map text_units before)) old mid → OnOk r (Appends (segment_elements seg (text_units x)) mid new)
+pub with-last : {E : Type 0} (r : Result (Unit {0}) E) (seg : SegRec) (us : List ElementContent) (before : List TextContent)
+    (x : TextContent) (old mid new : TreeState TextContent)
+    → flat_map text_units (before ++ x ∷ []) ≡ us → Appends (segment_elements seg (flat_map text_units before)) old mid
+    → OnOk r (Appends (segment_elements seg (text_units x)) mid new)
     → OnOk r (Appends (segment_elements seg us) old new)
 with-last (Ok u) seg us before x old mid new e a b = subst (λ vs. Appends (segment_elements seg vs) old new) e (content-more seg before x old mid new a b)
 with-last (Err f) seg us before x old mid new e a b = tt
 
-pub without-last : (seg : SegRec) (us : List ElementContent) (before : List TextContent) (old new : TreeState TextContent) → flat_map text_units (before ++ []) ≡ us
+pub without-last : (seg : SegRec) (us : List ElementContent) (before : List TextContent) (old new : TreeState TextContent)
+    → flat_map text_units (before ++ []) ≡ us
     → Appends (segment_elements seg (flat_map text_units before)) old new → Appends (segment_elements seg us) old new
 without-last seg us before old new e a = subst (λ vs. Appends (segment_elements seg vs) old new) (ap (flat_map text_units) (sym (append-nil before)) ∙ e) a
 
@@ -98,5 +104,6 @@ segments-next all i seg old mid new a l e b =
     segment-next seg all (drop (i + 1) all) old mid new
     (subst (λ segs. SegmentsSoFar all segs old mid) (drop_more all i seg l ∙ ap (λ s. s ∷ drop (i + 1) all) (sym e)) a) b
 
-pub segments-done : (all rest : List SegRec) (old new : TreeState TextContent) → rest ≡ [] → SegmentsSoFar all rest old new → Appends (summary_elements all) old new
+pub segments-done : (all rest : List SegRec) (old new : TreeState TextContent) → rest ≡ [] → SegmentsSoFar all rest old new
+    → Appends (summary_elements all) old new
 segments-done all rest old new none a = a.whole new (subst (λ segs. Appends (summary_elements segs) new new) (sym none) (appends-none new))

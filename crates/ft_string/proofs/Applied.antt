@@ -82,7 +82,8 @@ place-itself : (o : Option Reference) → option_and_then (λ (x : Reference). x
 place-itself None = refl
 place-itself (Some x) = refl
 
-pub stayed : (refs after : References) → ChangesReferences (λ x. x) refs after → (r : Option ℕ) → place_of_end after r ≡ option_map (λ i. i) (place_of_end refs r)
+pub stayed : (refs after : References) → ChangesReferences (λ x. x) refs after → (r : Option ℕ)
+    → place_of_end after r ≡ option_map (λ i. i) (place_of_end refs r)
 stayed refs after h None = refl
 stayed refs after h (Some r) =
     ap (λ o. option_and_then (λ (x : Reference). x.place) o) (h r) ∙ place-itself (reference_at refs r) ∙ sym (same-place (place_of_end refs (Some r)))
@@ -174,7 +175,8 @@ module _ (c : CollectionsState) (ops : List PendingOp) (given : ℕ) (usable : B
               (λ r o m t e. keeps-end last 0 (λ i. i) doc.text after.text step tree.refs new.refs moved r o t e);
         }
 
-  skip-holds : (tree : TreeState TextContent) (doc : Document) → Holds tree c ops given usable last doc stages → Holds tree c ops given usable last (with_skip doc) stages
+  skip-holds : (tree : TreeState TextContent) (doc : Document) → Holds tree c ops given usable last doc stages
+      → Holds tree c ops given usable last (with_skip doc) stages
   skip-holds tree doc h = record {
     named = record { list = h.named.list; intervals = h.named.intervals; names = h.named.names };
     sound = h.sound;
@@ -187,7 +189,8 @@ module _ (c : CollectionsState) (ops : List PendingOp) (given : ℕ) (usable : B
     pub skips : after.skipped ≡ doc.skipped + skipped
 
   module _ (tree new : TreeState TextContent) (s : ℕ) (at : Perspective) (doc : Document) (h : Holds tree c ops given usable last doc stages) where
-    taken : (op : BaseOp) (after : Document) → text_effect doc s at.c at.r op ≡ after → after.skipped ≡ doc.skipped → Holds new c ops given usable last after stages
+    taken : (op : BaseOp) (after : Document) → text_effect doc s at.c at.r op ≡ after → after.skipped ≡ doc.skipped
+        → Holds new c ops given usable last after stages
         → Applied new doc (text_effect doc s at.c at.r op) 0
     taken op after e k a = record {
       holds = subst (λ d. Holds new c ops given usable last d stages) (sym e) a;
@@ -200,7 +203,8 @@ module _ (c : CollectionsState) (ops : List PendingOp) (given : ℕ) (usable : B
     unfit : (n : ℕ) → len (seen_in (At at)) (text_elements tree) < n → nat_le n (len (seen_by at.r at.c) doc.text.items) ≡ false
     unfit n l = let same = same-length tree doc at h in le-false n (len (seen_by at.r at.c) doc.text.items) (omega arith)
 
-    skipped : (op : BaseOp) (n : ℕ) → text_effect doc s at.c at.r op ≡ with_skip doc → n ≡ 0 → new ≡ tree → Applied new doc (text_effect doc s at.c at.r op) (suc n)
+    skipped : (op : BaseOp) (n : ℕ) → text_effect doc s at.c at.r op ≡ with_skip doc → n ≡ 0 → new ≡ tree
+        → Applied new doc (text_effect doc s at.c at.r op) (suc n)
     skipped op n e z same = record {
       holds = subst (λ t. Holds t c ops given usable last (text_effect doc s at.c at.r op) stages) (sym same)
           (subst (λ d. Holds tree c ops given usable last d stages) (sym e) (skip-holds tree doc h));
@@ -213,7 +217,8 @@ module _ (c : CollectionsState) (ops : List PendingOp) (given : ℕ) (usable : B
     tries-op (Remove p q) zero t =
         taken (Remove p q) _ (choice-true (nat_le q (len (seen_by at.r at.c) doc.text.items)) _ _ (fits q t.0)) refl (removal-applied tree new s at doc h p q t.1)
     tries-op (Annotate p q changes) zero t =
-        taken (Annotate p q changes) _ (choice-true (nat_le q (len (seen_by at.r at.c) doc.text.items)) _ _ (fits q t.0)) refl (annotation-applied tree new s at doc h p q changes t.1)
+        taken (Annotate p q changes) _ (choice-true (nat_le q (len (seen_by at.r at.c) doc.text.items)) _ _ (fits q t.0)) refl
+        (annotation-applied tree new s at doc h p q changes t.1)
     tries-op (Insert p seg props) (suc n) t =
         skipped (Insert p seg props) n (choice-false (nat_le p (len (seen_by at.r at.c) doc.text.items)) _ _ (unfit p t.0)) t.1 t.2
     tries-op (Remove p q) (suc n) t =
@@ -222,7 +227,8 @@ module _ (c : CollectionsState) (ops : List PendingOp) (given : ℕ) (usable : B
         skipped (Annotate p q changes) n (choice-false (nat_le q (len (seen_by at.r at.c) doc.text.items)) _ _ (unfit q t.0)) t.1 t.2
 
   -- all operations of a group
-  pub tries-ops : (s : ℕ) (at : Perspective) (os : List BaseOp) (n : ℕ) (tree new : TreeState TextContent) (doc : Document) → Holds tree c ops given usable last doc stages
+  pub tries-ops : (s : ℕ) (at : Perspective) (os : List BaseOp) (n : ℕ) (tree new : TreeState TextContent) (doc : Document)
+      → Holds tree c ops given usable last doc stages
       → TriesOps s at os n tree new → Applied new doc (effects doc s at.c at.r (map (λ op. OnText op) os)) n
   tries-ops s at [] n tree new doc h t = record {
     holds = subst (λ x. Holds x c ops given usable last doc stages) (sym t.1) h;

@@ -35,7 +35,8 @@ use Rattle.ft_string.proofs.Intervals.{AreAlike, IsAlike, ends-on-stay, finish-a
 
 -- ---- lists of intervals that are alike
 
-pub from-alike : (es : List ListElement) (is : List (Interval ℕ)) (ds : List NamedInterval) → map interval_with_places is ≡ map (indexed_interval es) (slide_ends es ds)
+pub from-alike : (es : List ListElement) (is : List (Interval ℕ)) (ds : List NamedInterval)
+    → map interval_with_places is ≡ map (indexed_interval es) (slide_ends es ds)
     → AreAlike es is ds
 from-alike es [] [] h = ends
 from-alike es [] (d ∷ ds) h = (cc)

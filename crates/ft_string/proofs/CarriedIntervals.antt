@@ -74,7 +74,8 @@ lower [] j k l up h = omega arith
 lower (t ∷ ts) j k l up h = (omega (arith, up, h.0), h.1)
 
 -- they do where nothing of a stage in between is pending
-quiet-left : (es : List ListElement) (ts : List Stage) (m k l : ℕ) → StagesRiseTo k ts l → list_all (is_left inserts_text removes_text ts m) es ≡ true → Quiet es m k
+quiet-left : (es : List ListElement) (ts : List Stage) (m k l : ℕ) → StagesRiseTo k ts l
+    → list_all (is_left inserts_text removes_text ts m) es ≡ true → Quiet es m k
 quiet-left es ts m k l rise left j low up None h = refl
 quiet-left es ts m k l rise left j low up (Some a) h =
     named-weaker (seen m) (seen j) a es
@@ -196,7 +197,8 @@ module _ (xs : TextElements) (es : List ListElement) (once : (a : ElementId) →
   }) (all-now n k qs)
 
   -- an operation
-  module _ (k : ℕ) (places : EndPair ℕ) (names : NamedElements) (start : EndAt xs es k k places.start names.first) (end : EndAt xs es k k places.end names.second) where
+  module _ (k : ℕ) (places : EndPair ℕ) (names : NamedElements) (start : EndAt xs es k k places.start names.first)
+      (end : EndAt xs es k k places.end names.second) where
     changed : (given : Option Ends) (props : PropertySet) (i : Interval ℕ) (j : NamedInterval) → IntervalAt xs es k k i j
         → IntervalAt xs es k k (changed_interval given places props i) (let d = with_ends given names j in record d { props = apply d.props props })
     changed None props i j h =
@@ -212,7 +214,8 @@ module _ (xs : TextElements) (es : List ListElement) (once : (a : ElementId) →
 
   -- ---- what is shown
 
-  all-later : (n m d : ℕ) (k : ℕ) → m + d ≡ k → n ≤ m → Quiet es m (m + d) → {us : List (Interval ℕ)} {ds : List NamedInterval} → AreAt xs es n m us ds → AreAlike es (carried xs n k us) ds
+  all-later : (n m d : ℕ) (k : ℕ) → m + d ≡ k → n ≤ m → Quiet es m (m + d) → {us : List (Interval ℕ)} {ds : List NamedInterval}
+      → AreAt xs es n m us ds → AreAlike es (carried xs n k us) ds
   all-later n m d k is below quiet ends = ends
   all-later n m d k is below quiet (next {x = i} {y = j} q qs) =
       let label = q.label in
@@ -274,7 +277,8 @@ module _ (xs : TextElements) (last : ℕ) (doc : Document) (once : (a : ElementI
         rest = rest;
       }
 
-  shown-step : (k : ℕ) (o : SubOperation) (names : NamedElements) (ts : List Stage) → ShowsAlike ts → ShowsAlike (record { stage = k; sub_operation = o; names = names } ∷ ts)
+  shown-step : (k : ℕ) (o : SubOperation) (names : NamedElements) (ts : List Stage) → ShowsAlike ts
+      → ShowsAlike (record { stage = k; sub_operation = o; names = names } ∷ ts)
   shown-step k (OnText op) names ts go n m us is ds low left rise named h r at =
       go n k us is (settle_ends es k ds) (let above = rise.0 in omega (arith, low)) (left-behind k (OnText op) names ts n m is ds low left rise at) rise.1 named.1 h r
       (settled k (OnText op) names ts n m is ds low left rise at)
@@ -349,9 +353,11 @@ module _ (xs : TextElements) (last : ℕ) (doc : Document) (once : (a : ElementI
         rw (label, name, sets, start, finish) refl
 
 -- the intervals that a text shows are those of the document that it holds, with places for names
-pub all-alike : (tree : TreeState TextContent) (c : CollectionsState) (ops : List PendingOp) (given last : ℕ) (usable : Bool) (doc : Document) (stages : List Stage)
+pub all-alike : (tree : TreeState TextContent) (c : CollectionsState) (ops : List PendingOp) (given last : ℕ) (usable : Bool)
+    (doc : Document) (stages : List Stage)
     → IsTextSound last doc stages → HoldsText (state_of tree c ops given usable) doc stages → NamesRise c.acked
-    → AreAlike doc.text.items (placed_shown (text_elements tree) (placed tree.refs c).acked (placed tree.refs c).pending) (shown_intervals doc.text.items doc.intervals stages)
+    → AreAlike doc.text.items (placed_shown (text_elements tree) (placed tree.refs c).acked (placed tree.refs c).pending)
+    (shown_intervals doc.text.items doc.intervals stages)
 all-alike tree c ops given last usable doc stages sound holds names =
     let xs = text_elements tree in
     let es = doc.text.items in
@@ -359,7 +365,8 @@ all-alike tree c ops given last usable doc stages sound holds names =
     let once = sound.list.once in
     let distinct = sound.place.distinct in
     let is = (placed tree.refs c).acked in
-    let left = all-weaker (has_marks_of inserts_text removes_text stages) (is_left inserts_text removes_text stages 0) (left-first inserts_text removes_text stages) es sound.place.marks in
+    let left = all-weaker (has_marks_of inserts_text removes_text stages) (is_left inserts_text removes_text stages 0)
+    (left-first inserts_text removes_text stages) es sound.place.marks in
     let up : NamesRise (map (settled_interval xs 0) is) =
     NamesRise-map (settled_interval xs 0) is (λ i. refl) (NamesRise-map (with_mapped_ends (places_of_ends tree.refs)) c.acked (λ i. refl) names) in
     shown-all xs last doc once distinct sound.fits b stages 0 0 (placed tree.refs c).pending (map (settled_interval xs 0) is) doc.intervals (omega arith) left sound.rise
@@ -374,7 +381,8 @@ all-alike tree c ops given last usable doc stages sound holds names =
         (unremoved-seen inserts_text removes_text stages last (rises 0 last stages sound.rise) doc.text sound.place) doc.text.items sound.place.marks) h
 
 -- and so are their records
-pub intervals-alike : (tree : TreeState TextContent) (c : CollectionsState) (ops : List PendingOp) (given last : ℕ) (usable : Bool) (doc : Document) (stages : List Stage)
+pub intervals-alike : (tree : TreeState TextContent) (c : CollectionsState) (ops : List PendingOp) (given last : ℕ) (usable : Bool)
+    (doc : Document) (stages : List Stage)
     → IsTextSound last doc stages → HoldsText (state_of tree c ops given usable) doc stages → NamesRise c.acked
     → len (seen_in (at_stage top)) (text_elements tree) ≤ 9223372036854775807
     → map (shown_record (text_elements tree)) (placed_shown (text_elements tree) (placed tree.refs c).acked (placed tree.refs c).pending)

@@ -23,7 +23,8 @@ pub record TriesSoFar (s : ℕ) (at : Perspective) (all rest : List BaseOp) (ski
   pub floor : now.floor ≡ first.floor
   pub formed : AllByRecursion IsWellFormedBase rest
 
-usable-after : (s : ℕ) (at : Perspective) (op : BaseOp) (n : ℕ) (old new : TreeState TextContent) → TriesOp s at op n old new → IsTrue old.usable → IsTrue new.usable
+usable-after : (s : ℕ) (at : Perspective) (op : BaseOp) (n : ℕ) (old new : TreeState TextContent) → TriesOp s at op n old new
+    → IsTrue old.usable → IsTrue new.usable
 usable-after s at op zero old new t u = subst (λ b. IsTrue b) (sym t.1.rest.usable) u
 usable-after s at op (suc n) old new t u = subst (λ (x : TreeState TextContent). IsTrue x.usable) (sym t.2) u
 
@@ -55,7 +56,8 @@ pub tries-next : (s : ℕ) (at : Perspective) (all : List BaseOp) (i : ℕ) (op 
 tries-next s at all i op skipped more first now next h l e t =
     tries-next-of s at all op (drop (i + 1) all) skipped more first now next (subst (λ os. TriesSoFar s at all os skipped first now) (ahead all i op l e) h) t
 
-pub tries-done : (s : ℕ) (at : Perspective) (all rest : List BaseOp) (skipped : ℕ) (first now : TreeState TextContent) → TriesSoFar s at all rest skipped first now
+pub tries-done : (s : ℕ) (at : Perspective) (all rest : List BaseOp) (skipped : ℕ) (first now : TreeState TextContent)
+    → TriesSoFar s at all rest skipped first now
     → rest ≡ [] → TriesOps s at all skipped first now
 tries-done s at all rest skipped first now h none =
     subst (λ k. TriesOps s at all k first now) (more-zero skipped) (h.whole now 0 (subst (λ os. TriesOps s at os 0 now now) (sym none) (refl, refl)))
@@ -75,7 +77,8 @@ pub record TakesSoFar (first : ℕ) (all rest : List BaseOp) (stage : ℕ) (tree
   pub made : now.made + put_in_by_all rest ≤ max_safe_integer
   pub stages : stage + length rest < 18446744073709551616
 
-takes-next-of : (first : ℕ) (all : List BaseOp) (op : BaseOp) (rest : List BaseOp) (stage : ℕ) (tree now next : TreeState TextContent) (before pending after : List PendingOp)
+takes-next-of : (first : ℕ) (all : List BaseOp) (op : BaseOp) (rest : List BaseOp) (stage : ℕ) (tree now next : TreeState TextContent)
+    (before pending after : List PendingOp)
     → TakesSoFar first all (op ∷ rest) stage tree now before pending → TakesOp stage op now next
     → after ≡ pending ++ (record { stage = stage; op = op } ∷ []) → TakesSoFar first all rest (stage + 1) tree next before after
 takes-next-of first all op rest stage tree now next before pending after h t e = record {
@@ -94,7 +97,8 @@ pub takes-here : (first : ℕ) (all : List BaseOp) (i : ℕ) (op : BaseOp) (stag
 takes-here first all i op stage tree now before pending h l e =
     subst (λ os. TakesSoFar first all os stage tree now before pending) (ahead all i op l e) h
 
-pub takes-next : (first : ℕ) (all : List BaseOp) (i : ℕ) (op : BaseOp) (stage : ℕ) (tree now next : TreeState TextContent) (before pending after : List PendingOp)
+pub takes-next : (first : ℕ) (all : List BaseOp) (i : ℕ) (op : BaseOp) (stage : ℕ) (tree now next : TreeState TextContent)
+    (before pending after : List PendingOp)
     → TakesSoFar first all (drop i all) stage tree now before pending → i < length all → op ≡ get_or all i op → TakesOp stage op now next
     → after ≡ pending ++ (record { stage = stage; op = op } ∷ []) → TakesSoFar first all (drop (i + 1) all) (stage + 1) tree next before after
 takes-next first all i op stage tree now next before pending after h l e t n =
@@ -113,7 +117,8 @@ pub noted-done : (first : ℕ) (all rest : List BaseOp) (stage : ℕ) (tree now 
     → TakesSoFar first all rest stage tree now before pending → rest ≡ [] → pending ≡ before ++ noted first all
 noted-done first all rest stage tree now before pending h none = sym (h.notes ∙ ap (λ os. pending ++ noted stage os) none ∙ append-nil pending)
 
-pub takes-begin : (first : ℕ) (all : List BaseOp) (tree : TreeState TextContent) (pending : List PendingOp) → IsTrue tree.usable → AllByRecursion IsWellFormedBase all
+pub takes-begin : (first : ℕ) (all : List BaseOp) (tree : TreeState TextContent) (pending : List PendingOp) → IsTrue tree.usable
+    → AllByRecursion IsWellFormedBase all
     → All (λ e. IsAboveChanges first e.overlay) (text_elements tree) → tree.made + put_in_by_all all ≤ max_safe_integer
     → first + length all < 18446744073709551616 → TakesSoFar first all all first tree tree pending pending
 takes-begin first all tree pending usable formed above made stages = record {

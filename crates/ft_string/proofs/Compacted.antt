@@ -56,7 +56,7 @@ use Rattle.ft_msg.specs.Overlap.{is_on_intervals}
 use Rattle.ft_string.specs.Holds.{HoldsText, IsTextSound, interval_stages}
 use Rattle.ft_string.specs.Parts.{AreSound, state_of}
 use Rattle.ft_string.specs.declared.pending.PendingOp.{PendingOp}
-use Rattle.ft_string.proofs.Documents.{settled-stands, sound-step}
+use Rattle.ft_string.proofs.Documents.{settled-stands}
 use Rattle.ft_string.proofs.Ends.{SameEnd, SameIntervals, end-moved, end-of, from-placed, moved-interval, start-of, to-placed}
 use Rattle.ft_string.proofs.StandingIndexes.{live-changed}
 use Rattle.ft_string.proofs.Stages.{AreNamesIn, SameStage, SameStages, all-stage-names, each-filter, from-stages, same-ops, to-stages}
@@ -84,7 +84,8 @@ module _ (N : Option ElementId → Type 0) where
   module _ (refs after : References) (p q : Document)
       (moves : (r : Option ℕ) (o : Option ElementId) → N o → SameEnd refs p.text.items r o → SameEnd after q.text.items r o) where
     kept-stage : (t : Operation) (k : ℕ) (o : SubOperation) (names : NamedElements) → StageHas o names
-        → SameStage refs p t (record { stage = k; sub_operation = o; names = names }) → SameStage after q t (record { stage = k; sub_operation = o; names = names })
+        → SameStage refs p t (record { stage = k; sub_operation = o; names = names })
+        → SameStage after q t (record { stage = k; sub_operation = o; names = names })
     kept-stage t k (OnIntervals op) names n h =
         let stage : t.stage ≡ k = ap (λ (u : IndexedStage). u.stage) h in
         let same : OnIntervals t.op ≡ OnIntervals op = ap (λ (u : IndexedStage). u.sub_operation) h in
@@ -112,13 +113,15 @@ module _ (N : Option ElementId → Type 0) where
         same-number : (j r : ℕ) → nat_eq j r ≡ true → j ≡ r
         same-number j r g = grind (arith, nat_tests)
 
-    interval-name : {is : List (Interval ℕ)} {ds : List NamedInterval} → Each HaveIt ds → SameIntervals refs es is ds → list_any (is_reference r) (ends_of_intervals is) ≡ true
+    interval-name : {is : List (Interval ℕ)} {ds : List NamedInterval} → Each HaveIt ds → SameIntervals refs es is ds
+        → list_any (is_reference r) (ends_of_intervals is) ≡ true
         → IsOfName refs es r
     interval-name h ends e = (cc)
     interval-name h (next {x = i} {y = d} {xs = is} q qs) e =
         step (is_reference r i.ends.start) (is_reference r i.ends.end) refl refl e (λ g. interval-name h.1 qs g)
       where
-        step : (a b : Bool) → is_reference r i.ends.start ≡ a → is_reference r i.ends.end ≡ b → a || (b || list_any (is_reference r) (ends_of_intervals is)) ≡ true
+        step : (a b : Bool) → is_reference r i.ends.start ≡ a → is_reference r i.ends.end ≡ b
+            → a || (b || list_any (is_reference r) (ends_of_intervals is)) ≡ true
             → (list_any (is_reference r) (ends_of_intervals is) ≡ true → IsOfName refs es r) → IsOfName refs es r
         step true b f g all rest = end-name i.ends.start d.start f h.0.0 (start-of refs es i d q)
         step false true f g all rest = end-name i.ends.end d.end g h.0.1 (end-of refs es i d q)
@@ -157,7 +160,8 @@ abbrev IsHeld : (ElementId → Bool) → List ListElement → Option ElementId �
 IsHeld held es None = Unit {0}
 IsHeld held es (Some a) = (held a ≡ true) × (1 ≤ len (has_id a) es)
 
-held-name : (held : ElementId → Bool) (es : List ListElement) (o : Option ElementId) → StandsIn es o → ((a : ElementId) → is_named_by a o ≡ true → held a ≡ true) → IsHeld held es o
+held-name : (held : ElementId → Bool) (es : List ListElement) (o : Option ElementId) → StandsIn es o
+    → ((a : ElementId) → is_named_by a o ≡ true → held a ≡ true) → IsHeld held es o
 held-name held es None s h = tt
 held-name held es (Some a) s h = (h a (same_id-refl a), s)
 
@@ -166,7 +170,8 @@ module _ (doc : Document) (stages : List Stage) where
   held a = is_held doc stages a
 
   intervals-held : (ds : List NamedInterval) → AreSettledIn doc.text.items ds
-      → Each (λ d. (a : ElementId) → interval_holds a d ≡ true → list_any (interval_holds a) doc.intervals ≡ true) ds → Each (HaveIt (IsHeld held doc.text.items)) ds
+      → Each (λ d. (a : ElementId) → interval_holds a d ≡ true → list_any (interval_holds a) doc.intervals ≡ true) ds
+      → Each (HaveIt (IsHeld held doc.text.items)) ds
   intervals-held [] s h = tt
   intervals-held (d ∷ ds) s h = (
     (
@@ -184,9 +189,11 @@ module _ (doc : Document) (stages : List Stage) where
   stage-held k (OnText op) names s h = tt
   stage-held k (OnIntervals op) names s h = (
     held-name held doc.text.items names.first s.0
-        (λ a e. or_right (list_any (interval_holds a) doc.intervals) (list_any (stage_holds_text a) stages) (h a (or_left (is_named_by a names.first) (is_named_by a names.second) e))),
+        (λ a e. or_right (list_any (interval_holds a) doc.intervals) (list_any (stage_holds_text a) stages)
+        (h a (or_left (is_named_by a names.first) (is_named_by a names.second) e))),
     held-name held doc.text.items names.second s.1
-        (λ a e. or_right (list_any (interval_holds a) doc.intervals) (list_any (stage_holds_text a) stages) (h a (or_right (is_named_by a names.first) (is_named_by a names.second) e))),
+        (λ a e. or_right (list_any (interval_holds a) doc.intervals) (list_any (stage_holds_text a) stages)
+        (h a (or_right (is_named_by a names.first) (is_named_by a names.second) e))),
   )
   stage-held k (OnGrid op) names s h = tt
 
@@ -241,7 +248,8 @@ module _ (tree : TreeState TextContent) (c : CollectionsState) (ops : List Pendi
       step (list_any (is_reference r) (ends_of_intervals c.acked)) (list_any (is_reference r) (ends_of_operations c.pending)) refl refl
       (sym (any-append (is_reference r) (ends_of_intervals c.acked) (ends_of_operations c.pending)) ∙ k)
     where
-      step : (a b : Bool) → list_any (is_reference r) (ends_of_intervals c.acked) ≡ a → list_any (is_reference r) (ends_of_operations c.pending) ≡ b → a || b ≡ true
+      step : (a b : Bool) → list_any (is_reference r) (ends_of_intervals c.acked) ≡ a
+          → list_any (is_reference r) (ends_of_operations c.pending) ≡ b → a || b ≡ true
           → IsOfName (IsHeld holds_it es) tree.refs es r
       step true b f g h = interval-name (IsHeld holds_it es) tree.refs es r have-intervals same-intervals f
       step false true f g h = operation-name (IsHeld holds_it es) tree.refs doc r have-stages same-stages g
@@ -251,7 +259,8 @@ module _ (tree : TreeState TextContent) (c : CollectionsState) (ops : List Pendi
   pub text-clear : AreClear floor (text_elements tree) tree.refs
   text-clear r i e = step (keeps r c) refl
     where
-      at-name : (o : Option ElementId) → IsHeld holds_it es o → place_in_list es o ≡ Some i → IfSome (slice_get (text_elements tree) i) (λ x. is_collectable floor x.stamps ≡ false)
+      at-name : (o : Option ElementId) → IsHeld holds_it es o → place_in_list es o ≡ Some i
+          → IfSome (slice_get (text_elements tree) i) (λ x. is_collectable floor x.stamps ≡ false)
       at-name None h g = (cc)
       at-name (Some a) h g =
           let same : name_place es a ≡ i = (cc) in
@@ -295,10 +304,6 @@ module _ (tree : TreeState TextContent) (c : CollectionsState) (ops : List Pendi
     }
 
 -- the references stay sound
-pub compacted-sound : (tree new : TreeState TextContent) (c : CollectionsState) (f : ℕ → ℕ) → ChangesReferences (with_place f) tree.refs new.refs → new.usable ≡ true
-    → AreSound tree c → AreSound new c
-compacted-sound tree new c f refs usable sound = sound-step (with_place f) (λ x. refl) tree new c refs (usable ∙ sym sound.tree) sound
-
 -- ---- the indexes of intervals
 
 stays-clear : (floor : ℕ) (ms : List (Bool × TreeElement ElementContent)) → AllByRecursion (MayGo floor) ms → (i : ℕ)
@@ -350,16 +355,20 @@ module _ (tree new : TreeState TextContent) (c : IndexedState) (floor : ℕ) (ms
   gone-stands : StandsOn new c
   gone-stands = record {
     live = live-changed (with_place (place_among ms)) tree.refs new.refs refs c.state s.live;
-    listed = λ l. kept-listed (length (text_elements tree)) (length (text_elements new)) tree.refs new.refs (λ j. ends_of_name (l, j) c.state.acked) (index_of l c.indexes) (λ r. Unit {0})
+    listed = λ l. kept-listed (length (text_elements tree)) (length (text_elements new)) tree.refs new.refs
+        (λ j. ends_of_name (l, j) c.state.acked) (index_of l c.indexes) (λ r. Unit {0})
         (λ j r e. tt)
-        (λ r q e f w h. subst (λ u. IsAtMost u (reference_place new.refs q)) (sym (moves-to r)) (subst (λ u. IsAtMost (option_map (place_among ms) (reference_place tree.refs r)) u) (sym (moves-to q))
+        (λ r q e f w h. subst (λ u. IsAtMost u (reference_place new.refs q)) (sym (moves-to r))
+        (subst (λ u. IsAtMost (option_map (place_among ms) (reference_place tree.refs r)) u) (sym (moves-to q))
         (mapped-rises (reference_place tree.refs r) (reference_place tree.refs q) h)))
         (λ r e w. subst (IsWithin (length (text_elements new))) (sym (moves-to r)) (inside r (reference_place tree.refs r) refl w))
-        (λ r q e f w v h. ap (λ u. is_some u) (moves-to r) ∙ mapped-some (reference_place tree.refs r) ∙ h ∙ sym (mapped-some (reference_place tree.refs q)) ∙ sym (ap (λ u. is_some u) (moves-to q)))
+        (λ r q e f w v h. ap (λ u. is_some u) (moves-to r) ∙ mapped-some (reference_place tree.refs r) ∙ h
+        ∙ sym (mapped-some (reference_place tree.refs q)) ∙ sym (ap (λ u. is_some u) (moves-to q)))
         (λ r e h. moves-to r ∙ ap (option_map (place_among ms)) h) (s.listed l);
   }
     where
-      inside : (r : ℕ) (p : Option ℕ) → reference_place tree.refs r ≡ p → IsWithin (length (text_elements tree)) p → IsWithin (length (text_elements new)) (option_map (place_among ms) p)
+      inside : (r : ℕ) (p : Option ℕ) → reference_place tree.refs r ≡ p → IsWithin (length (text_elements tree)) p
+          → IsWithin (length (text_elements new)) (option_map (place_among ms) p)
       inside r None e w = tt
       inside r (Some i) e w =
           let marks : length ms ≡ length (text_elements tree) = sym (length-map ms second) ∙ ap (λ es. length es) all in
@@ -367,9 +376,11 @@ module _ (tree new : TreeState TextContent) (c : IndexedState) (floor : ℕ) (ms
           (let l = w in omega (arith, marks, l))
 
 -- so they stand after a sweep
-pub compacted-stands : (tree new : TreeState TextContent) (c : IndexedState) (ops : List PendingOp) (given : ℕ) (usable : Bool) (floor last : ℕ) (doc : Document) (stages : List Stage)
+pub compacted-stands : (tree new : TreeState TextContent) (c : IndexedState) (ops : List PendingOp) (given : ℕ) (usable : Bool)
+    (floor last : ℕ) (doc : Document) (stages : List Stage)
     (sound : AreSound tree c.state) (text : IsTextSound last doc stages) (holds : HoldsText (state_of tree c.state ops given usable) doc stages)
-    (free : AreFree floor (is_held doc stages) doc.text.items) (ms : List (Bool × TreeElement ElementContent)) → AllByRecursion (MayGo floor) ms → map second ms ≡ text_elements tree
+    (free : AreFree floor (is_held doc stages) doc.text.items) (ms : List (Bool × TreeElement ElementContent))
+    → AllByRecursion (MayGo floor) ms → map second ms ≡ text_elements tree
     → Writes floor (text_elements new) (staying ms) → ChangesReferences (with_place (place_among ms)) tree.refs new.refs → StandsOn tree c → StandsOn new c
 compacted-stands tree new c ops given usable floor last doc stages sound text holds free ms may all writes refs s =
     gone-stands tree new c floor ms may all writes refs (text-clear tree c.state ops given usable floor last doc stages sound text holds free) s

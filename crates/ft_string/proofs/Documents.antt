@@ -4,6 +4,7 @@ use Rattle.ft_interval_store.specs.State.{CollectionsState, is_acknowledged, tex
 use Rattle.ft_interval_store.specs.Ends.{References, place_of_end}
 use Rattle.ft_tree_leaves.specs.declared.references.Reference.{Reference}
 use Rattle.ft_tree_leaves.specs.declared.text.TextContent.{TextContent}
+use Rattle.ft_tree_leaves.specs.Edits.{with_place}
 use Rattle.ft_tree_leaves.specs.References.{ChangesReferences, reference_at}
 use Rattle.ft_props.specs.Element.{ElementId, ListElement, PendingId, SequencedId}
 use Rattle.ft_props.specs.Steps.{Sequence}
@@ -83,6 +84,12 @@ sound-step h k tree new c changes usable s = record {
     same : (r : ℕ) → is_acknowledged new.refs r ≡ is_acknowledged tree.refs r
     same r = ap (λ o. option_map (λ (x : Reference). x.acked) o) (changes r) ∙ acked-mapped h k (reference_at tree.refs r)
 
+-- where the elements stand elsewhere, the references stay sound
+pub moved-sound : (tree new : TreeState TextContent) (c : CollectionsState) (f : ℕ → ℕ)
+    → ChangesReferences (with_place f) tree.refs new.refs → new.usable ≡ true
+    → AreSound tree c → AreSound new c
+moved-sound tree new c f refs usable sound = sound-step (with_place f) (λ x. refl) tree new c refs (usable ∙ sym sound.tree) sound
+
 -- ---- a step of the document
 
 module _ (tree new : TreeState TextContent) (c : CollectionsState) (ops : List PendingOp) (given : ℕ) (usable : Bool)
@@ -103,7 +110,8 @@ module _ (tree new : TreeState TextContent) (c : CollectionsState) (ops : List P
         ∙ ap (map (indexed_interval after.text.items)) (sym intervals);
     ops = holds.ops ∙ same-ops doc after stages named.names;
     interval_ops = to-stages new.refs after (moved-stages tree.refs new.refs doc after (IsMarkedEnd false tree.refs) pending
-        (names-marked false tree.refs c.pending sound.marked.pending) (each-filter (λ t. AreNamesIn doc.text.items t.sub_operation t.names) (λ t. is_on_intervals t.sub_operation) stages named.names)
+        (names-marked false tree.refs c.pending sound.marked.pending)
+        (each-filter (λ t. AreNamesIn doc.text.items t.sub_operation t.names) (λ t. is_on_intervals t.sub_operation) stages named.names)
         (from-stages tree.refs doc c.pending (interval_stages stages) holds.interval_ops));
   }
 

@@ -54,7 +54,8 @@ pub count-is : (tree : TreeState TextContent) (c : CollectionsState) (ops : List
     → seen_count (state_of tree c ops given usable) ≡ len (seen_in last_stage) (text_elements tree)
 count-is tree c ops given usable = count-bare (text_elements tree)
 
-count-held : (last : ℕ) → last < 18446744073709551616 → (tree : TreeState TextContent) (c : CollectionsState) (ops : List PendingOp) (given : ℕ) (usable : Bool) (doc : Document)
+count-held : (last : ℕ) → last < 18446744073709551616 → (tree : TreeState TextContent) (c : CollectionsState) (ops : List PendingOp)
+    (given : ℕ) (usable : Bool) (doc : Document)
     (stages : List Stage) → AreUpTo last doc.text.items → HoldsText (state_of tree c ops given usable) doc stages
     → seen_count (state_of tree c ops given usable) ≡ len (seen last) doc.text.items
 count-held last fits tree c ops given usable doc stages up holds =
@@ -100,7 +101,8 @@ all-ordered (op ∷ os) h = (ordered op h.0, all-ordered os h.1)
 
 -- ---- the parts
 
-pub took-sound : (k : ℕ) (os : List BaseOp) (tree new : TreeState TextContent) (c : CollectionsState) → TakesOps k os tree new → AreSound tree c → AreSound new c
+pub took-sound : (k : ℕ) (os : List BaseOp) (tree new : TreeState TextContent) (c : CollectionsState) → TakesOps k os tree new
+    → AreSound tree c → AreSound new c
 took-sound k [] tree new c t h = subst (λ x. AreSound x c) (sym t) h
 took-sound k (op ∷ os) tree new c t h =
     took-sound (k + 1) os t.0 new c t.1.1
@@ -131,7 +133,8 @@ refused new stages step (OutOfRange l) h = h (λ e. (cc))
 refused new stages step (Stopped s) h = h (λ e. (cc))
 refused new stages step OutOfMemory h = tt
 
-pub edit-refused : (first : ℕ) → 1 ≤ first → (os : List BaseOp) → AllByRecursion IsWellFormedBase os → (tree : TreeState TextContent) (c : CollectionsState) (ops : List PendingOp)
+pub edit-refused : (first : ℕ) → 1 ≤ first → (os : List BaseOp) → AllByRecursion IsWellFormedBase os
+    → (tree : TreeState TextContent) (c : CollectionsState) (ops : List PendingOp)
     (given : ℕ) (usable : Bool) (new : TextState) (fault : EditFault)
     → (fault ≢ OutOfMemory → count_after_all (seen_count (state_of tree c ops given usable)) os ≡ Err fault)
     → (doc : Document) (stages : List Stage) → IsTextSound (first - 1) doc stages → HoldsText (state_of tree c ops given usable) doc stages
@@ -164,7 +167,8 @@ refused-leaves s n os (Stopped k) h some = count-stops n os k (h some)
 refused-leaves s n os OutOfMemory h some = absurd (some refl)
 
 pub edit-whole : (first : ℕ) → 1 ≤ first → (os : List BaseOp) → AllByRecursion IsWellFormedBase os → first + length os < 18446744073709551616
-    → (tree new : TreeState TextContent) (c : CollectionsState) (ops after : List PendingOp) (given : ℕ) (usable : Bool) → AreSound tree c → after ≡ ops ++ noted first os
+    → (tree new : TreeState TextContent) (c : CollectionsState) (ops after : List PendingOp) (given : ℕ) (usable : Bool) → AreSound tree c
+    → after ≡ ops ++ noted first os
     → is_ok (count_after_all (seen_count (state_of tree c ops given usable)) os) ≡ true → TakesOps first os tree new
     → (doc : Document) (stages : List Stage) → IsTextSound (first - 1) doc stages → HoldsText (state_of tree c ops given usable) doc stages
     → TakesEdit (state_of new c after given true) stages (local_sub_operations doc stages first (map (λ op. OnText op) os)) (length os)

@@ -56,7 +56,8 @@ all-below doc refs last low (t ∷ ts) r us h first l =
   where
     step : (b : Bool) (us : List Operation)
         → map interval_stage (placed_operations refs us) ≡ map (indexed_stage doc) (cond b (t ∷ interval_stages ts) (interval_stages ts))
-        → ((us : List Operation) → map interval_stage (placed_operations refs us) ≡ map (indexed_stage doc) (interval_stages ts) → All (λ (u : Operation). u.stage < first) us)
+        → ((us : List Operation) → map interval_stage (placed_operations refs us) ≡ map (indexed_stage doc) (interval_stages ts)
+        → All (λ (u : Operation). u.stage < first) us)
         → t.stage ≤ last → All (λ (u : Operation). u.stage < first) us
     step true [] h rest up = (cc)
     step true (u ∷ us) h rest up =
@@ -137,7 +138,8 @@ module _ (first : ℕ) (some : 1 ≤ first) (tree : TreeState TextContent) (c : 
       ops = holds.ops
           ∙ ap (map (indexed_stage doc)) (sym (filter-append (λ t. is_on_elements t.sub_operation) stages (here ∷ []) ∙ append-nil (element_stages stages)));
       interval_ops = ap (λ (x : CollectionsState). map interval_stage x.pending) p.pending
-          ∙ map-append interval_stage (placed_operations tree.refs c.pending) (record { stage = first; op = op; ends = places_of_given (seen_in (at_stage first)) xs (ends_of op) } ∷ [])
+          ∙ map-append interval_stage (placed_operations tree.refs c.pending)
+          (record { stage = first; op = op; ends = places_of_given (seen_in (at_stage first)) xs (ends_of op) } ∷ [])
           ∙ rw (holds.interval_ops, stage-alike (ends_of op)) refl
           ∙ sym (ap (map (indexed_stage doc)) (filter-append (λ t. is_on_intervals t.sub_operation) stages (here ∷ []))
           ∙ map-append (indexed_stage doc) (interval_stages stages) (here ∷ []));
@@ -172,12 +174,14 @@ refused-unchanged tree new c d op shown count interval.NoSuchInterval r h = h.2
 refused-unchanged tree new c d op shown count (interval.OutOfRange l) r h = h.3
 refused-unchanged tree new c d op shown count interval.OutOfMemory r h = (cc)
 
-pub refused-sound : (tree new : TreeState TextContent) (c d : CollectionsState) (op : TextOp) (shown : Bool) (count : ℕ) (fault : IntervalFault) (b : Bool) → b ≡ is_refusal fault
+pub refused-sound : (tree new : TreeState TextContent) (c d : CollectionsState) (op : TextOp) (shown : Bool) (count : ℕ)
+    (fault : IntervalFault) (b : Bool) → b ≡ is_refusal fault
     → IsRefusedEdit shown count op (IsAsBefore c d tree new) fault → AreSound tree c → IsTrue b → AreSound new d
 refused-sound tree new c d op shown count fault b e h sound t =
     let same = refused-unchanged tree new c d op shown count fault (sym e ∙ t) h in same-sound tree new c d sound same.0 same.1
 
-pub refused-stands : (tree new : TreeState TextContent) (c d : IndexedState) (op : TextOp) (shown : Bool) (count : ℕ) (fault : IntervalFault) (b : Bool) → b ≡ is_refusal fault
+pub refused-stands : (tree new : TreeState TextContent) (c d : IndexedState) (op : TextOp) (shown : Bool) (count : ℕ)
+    (fault : IntervalFault) (b : Bool) → b ≡ is_refusal fault
     → IsRefusedEdit shown count op (IsAsBefore c.state d.state tree new) fault → d.indexes ≡ c.indexes → StandsOn tree c → IsTrue b → StandsOn new d
 refused-stands tree new c d op shown count fault b e h indexes s t =
     let same = refused-unchanged tree new c.state d.state op shown count fault (sym e ∙ t) h in
@@ -189,7 +193,8 @@ as-it-was : (tree new : TreeState TextContent) (c d : CollectionsState) (ops : L
 as-it-was tree new c d ops given usable b u e h = rw (h.0, h.1, e, u) refl
 
 -- a refusal leaves all as it was, and behind OutOfMemory the text may be used no more
-pub interval-leaves : (tree new : TreeState TextContent) (c d : CollectionsState) (ops : List PendingOp) (given : ℕ) (usable b : Bool) (op : TextOp) (shown : Bool) (count : ℕ)
+pub interval-leaves : (tree new : TreeState TextContent) (c d : CollectionsState) (ops : List PendingOp) (given : ℕ) (usable b : Bool)
+    (op : TextOp) (shown : Bool) (count : ℕ)
     (fault : IntervalFault) → IsTrue usable → b ≡ is_refusal fault → IsRefusedEdit shown count op (IsAsBefore c d tree new) fault
     → Leaves (state_of tree c ops given usable) (state_of new d ops given b) (edit_fault_of fault)
 interval-leaves tree new c d ops given usable b op shown count interval.IdInUse u e h = as-it-was tree new c d ops given usable b u e h.2

@@ -53,7 +53,8 @@ to-placed refs es ends = refl
 to-placed refs es (next {x = i} {y = d} {xs = is} {ys = ds} q qs) =
     ap (λ j. j ∷ map interval_with_places (placed_intervals refs is)) q ∙ ap (λ js. indexed_interval es d ∷ js) (to-placed refs es qs)
 
-pub start-of : (refs : References) (es : List ListElement) (i : Interval ℕ) (d : NamedInterval) → SameInterval refs es i d → SameEnd refs es i.ends.start d.start
+pub start-of : (refs : References) (es : List ListElement) (i : Interval ℕ) (d : NamedInterval) → SameInterval refs es i d
+    → SameEnd refs es i.ends.start d.start
 start-of refs es i d q = ap (λ (j : IndexedInterval). j.ends.first) q
 
 pub end-of : (refs : References) (es : List ListElement) (i : Interval ℕ) (d : NamedInterval) → SameInterval refs es i d → SameEnd refs es i.ends.end d.end
@@ -87,7 +88,8 @@ IsMarkedEnd acked refs (Some r) = is_acknowledged refs r ≡ Some acked
 same-number : (r : ℕ) → nat_eq r r ≡ true
 same-number r = grind (arith, nat_tests)
 
-pub end-marked : (acked : Bool) (refs : References) (o : Option ℕ) → ((r : ℕ) → is_reference r o ≡ true → is_acknowledged refs r ≡ Some acked) → IsMarkedEnd acked refs o
+pub end-marked : (acked : Bool) (refs : References) (o : Option ℕ)
+    → ((r : ℕ) → is_reference r o ≡ true → is_acknowledged refs r ≡ Some acked) → IsMarkedEnd acked refs o
 end-marked acked refs None h = tt
 end-marked acked refs (Some r) h = h r (same-number r)
 
@@ -179,7 +181,8 @@ meant-by n e = step e.ins
     step (Acked s c) = refl
     step (Local k) = refl
 
-settled-same : {A : Type 0} (is is' ok : A → Bool) → ((x : A) → is x ≡ is' x) → (last : Option A) (xs : List A) → settled_after is ok last xs ≡ settled_after is' ok last xs
+settled-same : {A : Type 0} (is is' ok : A → Bool) → ((x : A) → is x ≡ is' x) → (last : Option A) (xs : List A)
+    → settled_after is ok last xs ≡ settled_after is' ok last xs
 settled-same is is' ok h last [] = refl
 settled-same is is' ok h last (x ∷ xs) = rw (h x, settled-same is is' ok h (cond (ok x) (Some x) last) xs) refl
 

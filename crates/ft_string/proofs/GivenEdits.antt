@@ -20,12 +20,13 @@ use Rattle.ft_named.proofs.Lists.{each-append, each-weaker, filter-append, map-a
 use Rattle.ft_string.specs.Bare.{text_content}
 use Rattle.ft_string.specs.Calls.{AreNext, HoldsGiven}
 use Rattle.ft_msg.specs.Overlap.{is_on_intervals}
+use Rattle.ft_rebase.proofs.StageListLemmas.{filter-whole}
 use Rattle.ft_string.specs.Holds.{IsTextSound, element_stages, interval_stages, is_on_elements, is_on_text}
 use Rattle.ft_string.specs.Parts.{state_of}
 use Rattle.ft_string.specs.Rejoins.{GivesOps, again_of, due, has_piece, left_over, one_of}
 use Rattle.ft_string.specs.State.{element_stage}
 use Rattle.ft_string.specs.declared.pending.PendingOp.{PendingOp}
-use Rattle.ft_string.proofs.GivenStages.{AreOps, all-kept, each-of, ops-due, ops-split, sends-one, sent-all}
+use Rattle.ft_string.proofs.GivenStages.{AreOps, each-of, ops-due, ops-split, sends-one, sent-all}
 use Rattle.ft_string.proofs.Normalised.{carried-all}
 use Rattle.ft_string.proofs.Stages.{each-filter}
 
@@ -51,7 +52,8 @@ all-elements (u ∷ us) h = rw (h.0, all-elements us h.1) refl
 
 -- ---- the stages of an edit among the others
 
-module _ (given first end : ℕ) (front mine behind : List Stage) (next : AreNext given first end front mine behind) (order : given < first) (some : first < end) (doc : Document) where
+module _ (given first end : ℕ) (front mine behind : List Stage) (next : AreNext given first end front mine behind) (order : given < first)
+    (some : first < end) (doc : Document) where
   abbrev gone : List Stage
   gone = flat_map (carried_stage doc) front
 
@@ -110,19 +112,21 @@ module _ (given first end : ℕ) (front mine behind : List Stage) (next : AreNex
     element-parts =
         filter-append (λ t. is_on_elements t.sub_operation) gone (mine ++ behind)
         ∙ ap (λ us. element_stages gone ++ us) (filter-append (λ t. is_on_elements t.sub_operation) mine behind
-        ∙ ap (λ us. us ++ element_stages behind) (all-kept (λ t. is_on_elements t.sub_operation) mine on))
+        ∙ ap (λ us. us ++ element_stages behind) (filter-whole (λ t. is_on_elements t.sub_operation) mine on))
 
-    element-after : element_stages (flat_map (carried_stage doc) (front ++ mine) ++ behind) ≡ (element_stages gone ++ flat_map (carried_stage doc) mine) ++ element_stages behind
+    element-after : element_stages (flat_map (carried_stage doc) (front ++ mine) ++ behind)
+        ≡ (element_stages gone ++ flat_map (carried_stage doc) mine) ++ element_stages behind
     element-after =
         ap (λ us. element_stages (us ++ behind)) (flat_map-append (carried_stage doc) front mine)
         ∙ filter-append (λ t. is_on_elements t.sub_operation) (gone ++ flat_map (carried_stage doc) mine) behind
         ∙ ap (λ us. us ++ element_stages behind) (filter-append (λ t. is_on_elements t.sub_operation) gone (flat_map (carried_stage doc) mine)
-        ∙ ap (λ us. element_stages gone ++ us) (all-kept (λ t. is_on_elements t.sub_operation) (flat_map (carried_stage doc) mine)
+        ∙ ap (λ us. element_stages gone ++ us) (filter-whole (λ t. is_on_elements t.sub_operation) (flat_map (carried_stage doc) mine)
         (all-elements (flat_map (carried_stage doc) mine) carried-elements)))
 
     module _ (last : ℕ) (text : IsTextSound last doc (front ++ (mine ++ behind))) (tree : TreeState TextContent) (c : CollectionsState) (again ops rest kept : List PendingOp) (usable : Bool)
         (was : All (λ t. t.stage ≤ given) again) (ahead : All (λ t. given < t.stage) ops)
-        (holds : HoldsGiven (state_of tree c (again ++ ops) given usable) doc front (mine ++ behind)) (sends : List BaseOp) (gives : GivesOps (text_elements tree) end ops rest again kept sends) where
+        (holds : HoldsGiven (state_of tree c (again ++ ops) given usable) doc front (mine ++ behind)) (sends : List BaseOp)
+        (gives : GivesOps (text_elements tree) end ops rest again kept sends) where
       list : AreElements text_content (text_elements tree) doc.text.items
       list = from-bare text_content (text_elements tree) doc.text.items holds.elements
 
@@ -150,7 +154,8 @@ module _ (given first end : ℕ) (front mine behind : List Stage) (next : AreNex
             elements = holds.elements;
             made = holds.made;
             intervals = holds.intervals;
-            ops = ap (λ os. map element_stage (os ++ rest)) gives.keeps ∙ ap (λ os. map element_stage ((again ++ filter (has_piece (text_elements tree)) (due end ops)) ++ os)) gives.rest_is
+            ops = ap (λ os. map element_stage (os ++ rest)) gives.keeps
+                ∙ ap (λ os. map element_stage ((again ++ filter (has_piece (text_elements tree)) (due end ops)) ++ os)) gives.rest_is
                 ∙ map-append element_stage (again ++ filter (has_piece (text_elements tree)) (due end ops)) (left_over end ops)
                 ∙ ap (λ xs. xs ++ map element_stage (left_over end ops)) (map-append element_stage again (filter (has_piece (text_elements tree)) (due end ops))
                 ∙ ap (λ xs. xs ++ map element_stage (filter (has_piece (text_elements tree)) (due end ops))) parts.0

@@ -72,7 +72,8 @@ module _ (k : ℕ) (xs : TextElements) (es : List ListElement) (once : (a : Elem
       least n l = omega arith
 
   -- the operation that is sent again
-  op-numbered : len (seen_in (at_stage k)) xs ≤ 9223372036854775807 → (op : TextOp) (names : NamedElements) (at : EndPair ℕ) → at.start ≡ place_in_list es names.first → at.end ≡ place_in_list es names.second
+  op-numbered : len (seen_in (at_stage k)) xs ≤ 9223372036854775807 → (op : TextOp) (names : NamedElements) (at : EndPair ℕ)
+      → at.start ≡ place_in_list es names.first → at.end ≡ place_in_list es names.second
       → regenerated xs k at op ≡ interval_piece k es names op
   op-numbered l (IntervalAdd label id given props) names at e f =
       rw (e, f, end-numbered l names.first, end-numbered l names.second) refl
@@ -152,7 +153,8 @@ module _ (k : ℕ) (f : Option ℕ → Option ℕ) (doc : Document) (op : TextOp
     pub at : operation_at k ps ≡ Some found
     pub is : interval_stage found ≡ indexed_stage doc here
 
-  pub finds-at : (ps : List Operation) (us vs : List Stage) → Each (λ t. t.stage < k) us → map interval_stage ps ≡ map (indexed_stage doc) (us ++ (here ∷ vs)) → IsFound ps
+  pub finds-at : (ps : List Operation) (us vs : List Stage) → Each (λ t. t.stage < k) us
+      → map interval_stage ps ≡ map (indexed_stage doc) (us ++ (here ∷ vs)) → IsFound ps
   finds-at [] [] vs h e = (cc)
   finds-at [] (u ∷ us) vs h e = (cc)
   finds-at (p ∷ ps) [] vs h e =
@@ -227,13 +229,15 @@ module _ (first : ℕ) (op : TextOp) (names : NamedElements) (front behind : Lis
 
     pub interval-op : option_map Text (Some one) ≡ op_of (flat_map (pieces doc) (edit ∷ []))
     interval-op =
-        let r = finds-at first f doc op names (settle_elements doc.text.items first names) start finish (placed_operations tree.refs c.pending) (interval_stages gone) (interval_stages behind) lower pending in
+        let r = finds-at first f doc op names (settle_elements doc.text.items first names) start finish
+        (placed_operations tree.refs c.pending) (interval_stages gone) (interval_stages behind) lower pending in
         let sub : OnIntervals r.found.op ≡ OnIntervals op = ap (λ (x : IndexedStage). x.sub_operation) r.is in
         let op_is : r.found.op ≡ op = (cc) in
         let at : Some one ≡ Some (regenerated (text_elements tree) first (map_ends f r.found.ends) r.found.op) =
         gives.sends ∙ ap (λ o. option_map (λ (t : Operation). regenerated (text_elements tree) first (map_ends f t.ends) t.op) o) r.at in
         ap (option_map Text) (at ∙ ap (λ q. Some (regenerated (text_elements tree) first (map_ends f r.found.ends) q)) op_is
-        ∙ ap (λ q. Some q) (op-numbered first (text_elements tree) doc.text.items text.list.once list small op (settle_elements doc.text.items first names) (map_ends f r.found.ends)
+        ∙ ap (λ q. Some q) (op-numbered first (text_elements tree) doc.text.items text.list.once list small op
+        (settle_elements doc.text.items first names) (map_ends f r.found.ends)
         (ap (λ (x : IndexedStage). f x.places.first) r.is ∙ start) (ap (λ (x : IndexedStage). f x.places.second) r.is ∙ finish)))
 
     pub interval-held : (more : ℕ) (other : Bool) → HoldsGiven (state_of new d ops more other) doc (front ++ (edit ∷ [])) behind
@@ -243,6 +247,7 @@ module _ (first : ℕ) (op : TextOp) (names : NamedElements) (front behind : Lis
       intervals = ap (λ (x : CollectionsState). map interval_with_places x.acked) gives.settles ∙ holds.intervals;
       ops = holds.ops ∙ ap (map (indexed_stage doc)) same-elements;
       interval_ops = ap (λ (x : CollectionsState). map interval_stage x.pending) gives.settles
-          ∙ settles-at first f doc op names (settle_elements doc.text.items first names) start finish (placed_operations tree.refs c.pending) (interval_stages gone) (interval_stages behind) lower higher pending
+          ∙ settles-at first f doc op names (settle_elements doc.text.items first names) start finish
+          (placed_operations tree.refs c.pending) (interval_stages gone) (interval_stages behind) lower higher pending
           ∙ ap (map (indexed_stage doc)) (sym after);
     }

@@ -9,11 +9,13 @@ use Rattle.ft_props.proofs.RisingKeys.{text_cmp-back}
 use Rattle.ft_string.specs.Loads.{given_property}
 use Rattle.ft_string.proofs.PutLast.{each-map, put-last}
 
-before-later : (k : Characters) (front : PropertyList) (p : Characters × ValueBytes) (rest : PropertyList) → IsBeforeKeys k (front ++ p ∷ rest) → text_cmp k p.0 ≡ Less
+before-later : (k : Characters) (front : PropertyList) (p : Characters × ValueBytes) (rest : PropertyList)
+    → IsBeforeKeys k (front ++ p ∷ rest) → text_cmp k p.0 ≡ Less
 before-later k [] p rest h = h.0
 before-later k (d ∷ front) p rest h = before-later k front p rest h.1
 
-all-before : (front : PropertyList) (p : Characters × ValueBytes) (rest : PropertyList) → KeysRise (front ++ p ∷ rest) → Each (λ d. text_cmp p.0 d.0 ≡ Greater) front
+all-before : (front : PropertyList) (p : Characters × ValueBytes) (rest : PropertyList) → KeysRise (front ++ p ∷ rest)
+    → Each (λ d. text_cmp p.0 d.0 ≡ Greater) front
 all-before [] p rest h = tt
 all-before (d ∷ front) p rest h = (text_cmp-back d.0 p.0 (before-later d.0 front p rest h.0), all-before front p rest h.1)
 

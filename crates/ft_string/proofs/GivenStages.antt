@@ -33,10 +33,6 @@ pub each-of : {A : Type 0} (P : A → Type 0) (xs : List A) → All P xs → Eac
 each-of P [] h = tt
 each-of P (x ∷ xs) h = (All-head P x xs h, each-of P xs (All-tail P x xs h))
 
-pub all-kept : {A : Type 0} (test : A → Bool) (xs : List A) → list_all test xs ≡ true → filter test xs ≡ xs
-all-kept test [] h = refl
-all-kept test (x ∷ xs) h = let p = both (test x) (list_all test xs) h in rw p.0 (ap (λ ys. x ∷ ys) (all-kept test xs p.1))
-
 -- ---- operations beside stages
 
 module _ (doc : Document) where
@@ -111,7 +107,8 @@ module _ (last : ℕ) (doc : Document) (stages : List Stage) (text : IsTextSound
     (b : AreElements text_content xs doc.text.items) where
   -- one stage on elements beside its operation
   pieces-of : (front : List Stage) (o : PendingOp) (k : ℕ) (s : SubOperation) (names : NamedElements) (rest : List Stage) → is_on_elements s ≡ true
-      → element_stage o ≡ indexed_stage doc (record { stage = k; sub_operation = s; names = names }) → stages ≡ front ++ (record { stage = k; sub_operation = s; names = names } ∷ rest)
+      → element_stage o ≡ indexed_stage doc (record { stage = k; sub_operation = s; names = names })
+      → stages ≡ front ++ (record { stage = k; sub_operation = s; names = names } ∷ rest)
       → map (λ p. OnText p) (again_of xs o) ≡ pieces doc (record { stage = k; sub_operation = s; names = names })
   pieces-of front o k (OnText op) names rest h e same =
       let stage : o.stage ≡ k = ap (λ (x : IndexedStage). x.stage) e in
@@ -136,7 +133,8 @@ module _ (last : ℕ) (doc : Document) (stages : List Stage) (text : IsTextSound
       step (OnGrid op) g e = (cc)
 
   -- all stages of the edit
-  pub sent-all : (front us : List Stage) (os : List PendingOp) → list_all (λ t. is_on_elements t.sub_operation) us ≡ true → AreOps doc os us → stages ≡ front ++ (us ++ behind)
+  pub sent-all : (front us : List Stage) (os : List PendingOp) → list_all (λ t. is_on_elements t.sub_operation) us ≡ true
+      → AreOps doc os us → stages ≡ front ++ (us ++ behind)
       → (map (λ p. OnText p) (flat_map (again_of xs) os) ≡ flat_map (pieces doc) us) × AreOps doc (filter (has_piece xs) os) (flat_map (carried_stage doc) us)
   sent-all front [] [] h e same = (refl, refl)
   sent-all front [] (o ∷ os) h e same = (cc)
@@ -146,7 +144,8 @@ module _ (last : ℕ) (doc : Document) (stages : List Stage) (text : IsTextSound
       let f = ops-head doc o os u us e in
       let here = pieces-of front o u.stage u.sub_operation u.names (us ++ behind) p.0 f.0 same in
       let rest = sent-all (front ++ (u ∷ [])) us os p.1 f.1 (same ∙ sym (append_assoc front (u ∷ []) (us ++ behind))) in
-      let some : has_piece xs o ≡ has_any (pieces doc u) = sym (has-mapped (piece_op o.op) (tree_pieces o.stage xs)) ∙ sym (has-mapped (λ q. OnText q) (again_of xs o)) ∙ ap has_any here in (
+      let some : has_piece xs o ≡ has_any (pieces doc u) = sym (has-mapped (piece_op o.op) (tree_pieces o.stage xs))
+      ∙ sym (has-mapped (λ q. OnText q) (again_of xs o)) ∙ ap has_any here in (
         map-append (λ q. OnText q) (again_of xs o) (flat_map (again_of xs) os) ∙ ap (λ qs. qs ++ map (λ q. OnText q) (flat_map (again_of xs) os)) here
             ∙ ap (λ qs. pieces doc u ++ qs) rest.0,
         kept (has_piece xs o) (has_any (pieces doc u)) some f.0 rest.1 ∙ ap (λ vs. map (indexed_stage doc) (vs ++ flat_map (carried_stage doc) us)) (sym (goes-on u p.0)),

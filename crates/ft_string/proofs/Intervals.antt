@@ -131,7 +131,8 @@ module _ (es : List ListElement) where
       let sets = ap (λ (j : IndexedInterval). apply j.props props) q in
       rw (label, name, start, end, sets) refl
 
-  new-alike : (label name : Characters) (places : EndPair ℕ) (names : NamedElements) (props : PropertySet) → places.start ≡ place_in_list es (slide es names.first)
+  new-alike : (label name : Characters) (places : EndPair ℕ) (names : NamedElements) (props : PropertySet)
+      → places.start ≡ place_in_list es (slide es names.first)
       → places.end ≡ place_in_list es (slide es names.second)
       → IsAlike (record { label = label; id = name; ends = places; props = apply [] props })
       (record { label = label; id = name; start = names.first; end = names.second; props = apply [] props })

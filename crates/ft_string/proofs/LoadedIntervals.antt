@@ -99,7 +99,8 @@ adds i op xs c a =
     ∙ ap (after_adding xs i c) a.makes
 
 -- the call that applies it adds it
-pub interval-added : (i : IntervalRec) (op : TextOp) (at' : Perspective) (before after : TreeState TextContent) (old new : CollectionsState) (fits : Bool) → at' ≡ everybody
+pub interval-added : (i : IntervalRec) (op : TextOp) (at' : Perspective) (before after : TreeState TextContent)
+    (old new : CollectionsState) (fits : Bool) → at' ≡ everybody
     → IsAddOf i op → fits_on (text_elements before) i ≡ true → fits ≡ given_ends_fit (len (seen_in (At at')) (text_elements before)) (ends_of op)
     → (fits ≡ true → placed after.refs new
     ≡ with_effect op (map_ends (slid_end (text_elements before)) (places_of_given (seen_in (At at')) (text_elements before) (ends_of op))) (placed before.refs old))
@@ -119,7 +120,8 @@ interval-added i op at' before after old new fits same a fit told effect refs le
 
 -- ---- all of them
 
-pub none-on : (tree : TreeState TextContent) → IsTrue tree.usable → ((r : ℕ) → reference_at tree.refs r ≡ None) → HasIntervals [] tree tree (record { acked = []; pending = [] })
+pub none-on : (tree : TreeState TextContent) → IsTrue tree.usable → ((r : ℕ) → reference_at tree.refs r ≡ None)
+    → HasIntervals [] tree tree (record { acked = []; pending = [] })
 none-on tree usable bare = record {
   placed_are = refl;
   leaves = refl;

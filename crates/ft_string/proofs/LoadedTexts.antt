@@ -224,7 +224,8 @@ module _ (sum : SumDoc) (valid : IsValidSummary sum) where
   pub summary-fits : AllFitOn xs sum.intervals
   summary-fits = all-fit sum.intervals valid.intervals
 
-  place-alike : (z : ℤ) → place_in_list es (slide es (element_at_end (seen_by everybody.r everybody.c) es z)) ≡ place_in_list es (slide es (element_at_end is_unremoved es z))
+  place-alike : (z : ℤ) → place_in_list es (slide es (element_at_end (seen_by everybody.r everybody.c) es z))
+      ≡ place_in_list es (slide es (element_at_end is_unremoved es z))
   place-alike z = ap (λ o. place_in_list es (slide es o)) (end-same (seen_by everybody.r everybody.c) is_unremoved es same-seen z)
 
   intervals-alike : (is : List IntervalRec)
@@ -237,7 +238,8 @@ module _ (sum : SumDoc) (valid : IsValidSummary sum) where
       rw (start, end, intervals-alike is) refl
 
   -- it is held
-  pub summary-held : (old new : TreeState TextContent) (c : CollectionsState) → text_elements old ≡ xs → old.made ≡ length xs → HasIntervals sum.intervals old new c
+  pub summary-held : (old new : TreeState TextContent) (c : CollectionsState) → text_elements old ≡ xs → old.made ≡ length xs
+      → HasIntervals sum.intervals old new c
       → HoldsText (state_of new c [] 0 true) (doc_of sum) []
   summary-held old new c elements made h =
       let same : text_elements new ≡ xs = ap text_elements h.leaves ∙ elements in
@@ -261,7 +263,8 @@ pub record IsFilled (xs : TextElements) (tree : TreeState TextContent) : Type 0 
   pub floor : tree.floor ≡ 0
   pub usable : IsTrue tree.usable
 
-pub filled : (xs : TextElements) (old new : TreeState TextContent) → old ≡ record { leaves = []; refs = []; floor = 0; sweep = None; made = 0; depth = 0; usable = true }
+pub filled : (xs : TextElements) (old new : TreeState TextContent)
+    → old ≡ record { leaves = []; refs = []; floor = 0; sweep = None; made = 0; depth = 0; usable = true }
     → Appends xs old new → IsFilled xs new
 filled xs old new empty a = record {
   elements = a.elements ∙ ap (λ (t : TreeState TextContent). text_elements t ++ xs) empty;

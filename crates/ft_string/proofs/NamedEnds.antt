@@ -25,7 +25,8 @@ module _ (refs after : References) (es fs : List ListElement)
   of-name : (e : Option ℕ) (o : Option ElementId) → IsSettledIn es o → SameEnd refs es e o → IsOfOneName refs after es fs e
   of-name e o s h = record { name = o; settled = s; before = h; behind = moves e o s h }
 
-  pub named-ends : {is : List (Interval ℕ)} {ds : List NamedInterval} → AreSettledIn es ds → SameIntervals refs es is ds → HaveEnds (IsOfOneName refs after es fs) is
+  pub named-ends : {is : List (Interval ℕ)} {ds : List NamedInterval} → AreSettledIn es ds → SameIntervals refs es is ds
+      → HaveEnds (IsOfOneName refs after es fs) is
   named-ends s ends = tt
   named-ends s (next {x = i} {y = d} q qs) =
       ((of-name i.ends.start d.start s.0.0 (start-of refs es i d q), of-name i.ends.end d.end s.0.1 (end-of refs es i d q)), named-ends s.1 qs)
@@ -70,7 +71,8 @@ module _ {A : Type 0} (p q keep : A → Bool) (f : A → A) (first : (x : A) →
       both false true g rest = absurd (omega (arith, g))
       both false false g rest = (let more = rest (omega (arith, g)) in omega (arith, more))
 
-      step : (c : Bool) → keep x ≡ c → (at_most (retain_map keep f xs) → at_most xs) → at_most (cond c (f x ∷ retain_map keep f xs) (retain_map keep f xs)) → at_most (x ∷ xs)
+      step : (c : Bool) → keep x ≡ c → (at_most (retain_map keep f xs) → at_most xs)
+          → at_most (cond c (f x ∷ retain_map keep f xs) (retain_map keep f xs)) → at_most (x ∷ xs)
       step true e rest g =
           both (p x) (q x)
           (subst (λ b. at_most_if (p x) b (rank p (λ _. true) (retain_map keep f xs)) (rank q (λ _. true) (retain_map keep f xs))) (alike x)
@@ -86,7 +88,8 @@ pub rank-within : {A : Type 0} (p : A → Bool) (xs : List A) → 1 ≤ len p xs
 rank-within p [] h = absurd (omega (arith, h))
 rank-within p (x ∷ xs) h = step (p x) h (rank-within p xs)
   where
-    step : (b : Bool) → 1 ≤ one_more_if b (len p xs) → (1 ≤ len p xs → rank p (λ _. true) xs < length xs) → cond b 0 (suc (rank p (λ _. true) xs)) < suc (length xs)
+    step : (b : Bool) → 1 ≤ one_more_if b (len p xs) → (1 ≤ len p xs → rank p (λ _. true) xs < length xs)
+        → cond b 0 (suc (rank p (λ _. true) xs)) < suc (length xs)
     step true g rest = omega arith
     step false g rest = (let more = rest g in omega (arith, more))
 

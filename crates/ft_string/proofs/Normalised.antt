@@ -45,7 +45,7 @@ use Rattle.ft_string.specs.Holds.{HoldsText, IsTextSound, element_stages, is_on_
 use Rattle.ft_string.specs.Parts.{AreSound, state_of}
 use Rattle.ft_string.specs.State.{element_stage}
 use Rattle.ft_string.specs.declared.pending.PendingOp.{PendingOp}
-use Rattle.ft_string.proofs.Documents.{keeps-end, keeps-settled, sound-step, step-holds}
+use Rattle.ft_string.proofs.Documents.{keeps-end, keeps-settled, step-holds}
 use Rattle.ft_string.proofs.Ends.{HaveEnds, end-moved, from-placed, same-names}
 use Rattle.ft_string.proofs.NamedEnds.{IsOfOneName, beside-length, named-ends, names-gone, names-rise, names-some, names-within}
 use Rattle.ft_string.proofs.StandingIndexes.{live-changed, named-end}
@@ -73,7 +73,8 @@ module _ (doc : Document) (P : Stage → Type 0) where
       step [] = tt
       step (o ∷ os) = (p, tt)
 
-  pub carried-all : ((t : Stage) → P t → P (record t { names = settle_elements doc.text.items t.stage t.names })) → (ts : List Stage) → Each P ts → Each P (flat_map (carried_stage doc) ts)
+  pub carried-all : ((t : Stage) → P t → P (record t { names = settle_elements doc.text.items t.stage t.names })) → (ts : List Stage)
+      → Each P ts → Each P (flat_map (carried_stage doc) ts)
   carried-all f [] h = tt
   carried-all f (t ∷ ts) h =
       each-append P (carried_stage doc t) (flat_map (carried_stage doc) ts) (carried-one t.stage t.sub_operation t.names h.0 (f t h.0)) (carried-all f ts h.1)
@@ -109,7 +110,8 @@ most-of low last (t ∷ ts) h =
     (let up = h.0 in let more = rest.0 in omega arith, rw (from_self t.stage last rest.0, rest.1) refl)
 
 -- a number that no stage has
-other-number : (j : ℕ) (ts : List Stage) → list_any (nat_eq j) (map (λ t. t.stage) ts) ≡ false → list_any (λ t. nat_eq j t.stage && puts_text_in t.sub_operation) ts ≡ false
+other-number : (j : ℕ) (ts : List Stage) → list_any (nat_eq j) (map (λ t. t.stage) ts) ≡ false
+    → list_any (λ t. nat_eq j t.stage && puts_text_in t.sub_operation) ts ≡ false
 other-number j [] h = refl
 other-number j (t ∷ ts) h = step (nat_eq j t.stage) (list_any (nat_eq j) (map (λ t. t.stage) ts)) h refl (λ g. other-number j ts g)
   where
@@ -196,14 +198,16 @@ module _ (tree : TreeState TextContent) (c : CollectionsState) (ops : List Pendi
     pub text-stands : (idx : List LabelIndex) → (let x : IndexedState = record { state = c; indexes = idx } in StandsOn tree x → StandsOn new x)
     text-stands idx st = record {
       live = live-changed (with_place f) tree.refs new.refs refs c st.live;
-      listed = λ l. kept-listed (length (text_elements tree)) (length (text_elements new)) tree.refs new.refs (λ j. ends_of_name (l, j) c.acked) (index_of l idx) (λ r. Named (Some r))
+      listed = λ l. kept-listed (length (text_elements tree)) (length (text_elements new)) tree.refs new.refs
+          (λ j. ends_of_name (l, j) c.acked) (index_of l idx) (λ r. Named (Some r))
           (λ j r e. named-end Named c.acked have-names (l, j) r e)
           (λ r q e d w h. subst (λ u. IsAtMost u (reference_place new.refs q)) (sym e.behind) (subst (λ u. IsAtMost (place_in_list fs e.name) u) (sym d.behind)
           (names-rise es fs kept-order sequenced-stays e.name d.name e.settled d.settled
           (subst (λ u. IsAtMost u (place_in_list es d.name)) e.before (subst (λ u. IsAtMost (reference_place tree.refs r) u) d.before h)))))
           (λ r e w. subst (λ u. IsWithin (length (text_elements new)) u) (sym e.behind) (subst (λ n. IsWithin n (place_in_list fs e.name)) (sym new-length)
           (names-within es fs kept-order sequenced-stays e.name e.settled)))
-          (λ r q e d w v h. ap (λ u. is_some u) e.behind ∙ names-some es fs kept-order sequenced-stays e.name ∙ sym (ap (λ u. is_some u) e.before) ∙ h ∙ ap (λ u. is_some u) d.before
+          (λ r q e d w v h. ap (λ u. is_some u) e.behind ∙ names-some es fs kept-order sequenced-stays e.name
+          ∙ sym (ap (λ u. is_some u) e.before) ∙ h ∙ ap (λ u. is_some u) d.before
           ∙ sym (names-some es fs kept-order sequenced-stays d.name) ∙ sym (ap (λ u. is_some u) d.behind))
           (λ r e h. e.behind ∙ names-gone es fs kept-order sequenced-stays e.name (sym e.before ∙ h)) (st.listed l);
     }
@@ -220,7 +224,8 @@ module _ (tree : TreeState TextContent) (c : CollectionsState) (ops : List Pendi
 -- ---- the call
 
 -- operations of stages above zero
-ops-above : (doc : Document) (ops : List PendingOp) (us : List Stage) → Each (λ t. 0 < t.stage) us → map element_stage ops ≡ map (indexed_stage doc) us → All (λ t. 0 < t.stage) ops
+ops-above : (doc : Document) (ops : List PendingOp) (us : List Stage) → Each (λ t. 0 < t.stage) us
+    → map element_stage ops ≡ map (indexed_stage doc) us → All (λ t. 0 < t.stage) ops
 ops-above doc [] us h e = All-nil (λ (t : PendingOp). 0 < t.stage)
 ops-above doc (o ∷ os) [] h e = (cc)
 ops-above doc (o ∷ os) (u ∷ us) h e =
@@ -256,12 +261,9 @@ module _ (tree new : TreeState TextContent) (c : CollectionsState) (ops : List P
       record { elements = h.elements; made = h.made; intervals = h.intervals; ops = h.ops; interval_ops = h.interval_ops }
 
 -- the references stay sound
-pub rejoined-sound : (tree new : TreeState TextContent) (c : CollectionsState) (f : ℕ → ℕ) → ChangesReferences (with_place f) tree.refs new.refs → new.usable ≡ true
-    → AreSound tree c → AreSound new c
-rejoined-sound tree new c f refs usable sound = sound-step (with_place f) (λ x. refl) tree new c refs (usable ∙ sym sound.tree) sound
-
 -- the indexes stand
-pub rejoined-stands : (tree new : TreeState TextContent) (c : IndexedState) (ops : List PendingOp) (given : ℕ) (usable : Bool) (last : ℕ) (doc : Document) (stages : List Stage)
+pub rejoined-stands : (tree new : TreeState TextContent) (c : IndexedState) (ops : List PendingOp) (given : ℕ) (usable : Bool) (last : ℕ)
+    (doc : Document) (stages : List Stage)
     (text : IsTextSound last doc stages) → HoldsGiven (state_of tree c.state ops given usable) doc stages [] → text_elements new ≡ tree_rebuilt last (text_elements tree)
     → ChangesReferences (with_place (rebuilt_place stamps_in last (text_elements tree))) tree.refs new.refs → StandsOn tree c → StandsOn new c
 rejoined-stands tree new c ops given usable last doc stages text holds elements refs s =

@@ -18,7 +18,8 @@ pub reads-begin : (all : List BaseOp) (tree : TreeState TextContent) (steps : �
 reads-begin all tree steps op e short = record { ahead = λ r. (refl, refl); bound = omega arith }
 
 reads-one : (one : BaseOp) (i : ℕ) (op : BaseOp) (tree now next : TreeState TextContent) (before steps after : ℕ) → IsShort (One one)
-    → IsReadFor (one ∷ []) (drop i (one ∷ [])) tree now before steps → i < 1 → op ≡ get_or (one ∷ []) i op → (IsShort (One op) → after ≤ steps + 9 * (now.depth + 1))
+    → IsReadFor (one ∷ []) (drop i (one ∷ [])) tree now before steps → i < 1 → op ≡ get_or (one ∷ []) i op
+    → (IsShort (One op) → after ≤ steps + 9 * (now.depth + 1))
     → IsReadFor (one ∷ []) (drop (i + 1) (one ∷ [])) tree next before after
 reads-one one zero op tree now next before steps after short h l e read =
     let p = h.ahead refl in

@@ -85,13 +85,15 @@ one-interval k (t ∷ []) h =
     step (OnGrid op) g e same = (cc)
 
 -- what an edit that was given leaves
-pub record IsGiven (doc : Document) (front mine behind : List Stage) (new : TreeState TextContent) (d : CollectionsState) (rest kept : List PendingOp) (op : Option TextOp) : Type 0 where
+pub record IsGiven (doc : Document) (front mine behind : List Stage) (new : TreeState TextContent) (d : CollectionsState)
+    (rest kept : List PendingOp) (op : Option TextOp) : Type 0 where
   pub sends : option_map Text op ≡ op_of (flat_map (pieces doc) mine)
   pub holds : (more : ℕ) (other : Bool) → HoldsGiven (state_of new d (kept ++ rest) more other) doc (front ++ mine) behind
   pub ahead : AreOps doc rest (element_stages behind)
 
 module _ (given first end last : ℕ) (order : given < first) (some : first < end) (tree new : TreeState TextContent) (c d : CollectionsState) (again ops rest kept : List PendingOp)
-    (usable : Bool) (was : All (λ t. t.stage ≤ given) again) (ahead : All (λ t. given < t.stage) ops) (op : Option TextOp) (gives : Gives first end tree new c d ops rest again kept op)
+    (usable : Bool) (was : All (λ t. t.stage ≤ given) again) (ahead : All (λ t. given < t.stage) ops) (op : Option TextOp)
+    (gives : Gives first end tree new c d ops rest again kept op)
     (doc : Document) (front behind : List Stage) where
   on-elements : (mine : List Stage) → AreNext given first end front mine behind → IsTextSound last doc (front ++ (mine ++ behind))
       → HoldsGiven (state_of tree c (again ++ ops) given usable) doc front (mine ++ behind) → list_all (λ t. is_on_elements t.sub_operation) mine ≡ true
@@ -170,7 +172,8 @@ module _ (given first end last : ℕ) (order : given < first) (some : first < en
           ∙ ap (list_any (λ u. nat_eq u.stage first)) (filter-append (λ t. is_on_intervals t.sub_operation) gone (edit ∷ behind))
           ∙ any-at first (interval_stages gone) edit (interval_stages behind) refl in
           subst (λ ms. IsGiven doc front ms behind new d rest kept op) (sym i.is)
-          (on-interval i.op i.names (subst (λ ms. AreNext given first end front ms behind) i.is next) (subst (λ ms. IsTextSound last doc (front ++ (ms ++ behind))) i.is text) held there)
+          (on-interval i.op i.names (subst (λ ms. AreNext given first end front ms behind) i.is next)
+          (subst (λ ms. IsTextSound last doc (front ++ (ms ++ behind))) i.is text) held there)
 
       step : (a b : Bool) → list_all (λ t. is_on_elements t.sub_operation) mine ≡ a → is_interval_at first mine ≡ b → is_one_edit first mine ≡ true
           → IsGiven doc front mine behind new d rest kept op
@@ -253,7 +256,8 @@ from-end end [] h l = tt
 from-end end (u ∷ us) h l =
     (let up = All-head (λ (t : Stage). end ≤ t.stage) u us h in omega arith, from-end end us (All-tail (λ (t : Stage). end ≤ t.stage) u us h) l)
 
-pub given-ahead : (end : ℕ) (doc : Document) (front mine behind : List Stage) (new : TreeState TextContent) (d : CollectionsState) (rest kept : List PendingOp) (op : Option TextOp)
+pub given-ahead : (end : ℕ) (doc : Document) (front mine behind : List Stage) (new : TreeState TextContent) (d : CollectionsState)
+    (rest kept : List PendingOp) (op : Option TextOp)
     → 0 < end → AreFrom end behind → IsGiven doc front mine behind new d rest kept op → All (λ t. end - 1 < t.stage) rest
 given-ahead end doc front mine behind new d rest kept op l from h =
     ops-from doc (end - 1) rest (element_stages behind) (each-filter (λ t. end - 1 < t.stage) (λ t. is_on_elements t.sub_operation) behind (from-end end behind from l)) h.ahead
@@ -269,13 +273,16 @@ pub finds-pending : (k : ℕ) (ps : List Operation) → list_any (is_at_stage k)
 finds-pending k [] h = (cc)
 finds-pending k (p ∷ ps) h = step (is_at_stage k p) h (λ g. finds-pending k ps g)
   where
-    step : (b : Bool) → b || list_any (is_at_stage k) ps ≡ true → (list_any (is_at_stage k) ps ≡ true → IsSome (operation_at k ps)) → IsSome (cond b (Some p) (operation_at k ps))
+    step : (b : Bool) → b || list_any (is_at_stage k) ps ≡ true → (list_any (is_at_stage k) ps ≡ true → IsSome (operation_at k ps))
+        → IsSome (cond b (Some p) (operation_at k ps))
     step true g f = refl
     step false g f = f g
 
 -- nothing was given
-pub given-nothing : (tree : TreeState TextContent) (c : CollectionsState) (ops : List PendingOp) (given more : ℕ) (usable other : Bool) (doc : Document) (front mine behind : List Stage)
-    → mine ≡ [] → HoldsGiven (state_of tree c ops given usable) doc front (mine ++ behind) → HoldsGiven (state_of tree c ops more other) doc (front ++ mine) behind
+pub given-nothing : (tree : TreeState TextContent) (c : CollectionsState) (ops : List PendingOp) (given more : ℕ) (usable other : Bool)
+    (doc : Document) (front mine behind : List Stage)
+    → mine ≡ [] → HoldsGiven (state_of tree c ops given usable) doc front (mine ++ behind)
+    → HoldsGiven (state_of tree c ops more other) doc (front ++ mine) behind
 given-nothing tree c ops given more usable other doc front mine behind none h =
     holds-any tree c ops given more usable other doc (flat_map (carried_stage doc) (front ++ mine) ++ behind)
     (subst (λ ms. HoldsText (state_of tree c ops given usable) doc (flat_map (carried_stage doc) (front ++ ms) ++ behind)) (sym none)

@@ -98,7 +98,8 @@ module _ (R : Interval ℕ → NamedInterval → Type 0) (label-of : (i : Interv
         step Equal e rest = next (h i d q) (tail (none-behind n (same-before i is e r.0) qs))
         step Greater e rest = next q rest
 
-    drop-alike : {is : List (Interval ℕ)} {ds : List NamedInterval} → NamesRise is → Alike is ds → Alike (without_name n is) (filter (λ d. not (is_named n d)) ds)
+    drop-alike : {is : List (Interval ℕ)} {ds : List NamedInterval} → NamesRise is → Alike is ds
+        → Alike (without_name n is) (filter (λ d. not (is_named n d)) ds)
     drop-alike r ends = ends
     drop-alike r (next {x = i} {y = d} {xs = is} {ys = ds} q qs) =
         rw (same-name n i d q) (step (name_cmp n (name_of i)) refl (drop-alike r.1 qs))
@@ -135,7 +136,8 @@ module _ (R : Interval ℕ → NamedInterval → Type 0) (label-of : (i : Interv
 
   -- ---- an operation
 
-  choose-alike : (b c : Bool) → b ≡ c → {is js : List (Interval ℕ)} {ds fs : List NamedInterval} → Alike is ds → Alike js fs → Alike (cond b is js) (cond c ds fs)
+  choose-alike : (b c : Bool) → b ≡ c → {is js : List (Interval ℕ)} {ds fs : List NamedInterval} → Alike is ds → Alike js fs
+      → Alike (cond b is js) (cond c ds fs)
   choose-alike true true e p q = p
   choose-alike true false e p q = (cc)
   choose-alike false true e p q = (cc)

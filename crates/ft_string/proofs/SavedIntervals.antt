@@ -53,7 +53,8 @@ below-made : (made : ℕ) (all : List ListElement) → ((n : ℕ) → made ≤ n
 below-made made all h n true e l = e
 below-made made all h n false e l = let up : made ≤ n = grind (arith, nat_tests) in let none = h n up in absurd (omega arith)
 
-numbered-below : (made : ℕ) (all es : List ListElement) → ((n : ℕ) → made ≤ n → len (has_id (SequencedId n)) all ≡ 0) → Each (λ e. 1 ≤ len (has_id (id e)) all) es
+numbered-below : (made : ℕ) (all es : List ListElement) → ((n : ℕ) → made ≤ n → len (has_id (SequencedId n)) all ≡ 0)
+    → Each (λ e. 1 ≤ len (has_id (id e)) all) es
     → list_all is_settled es ≡ true → list_all (is_numbered_below made) es ≡ true
 numbered-below made all [] h t g = refl
 numbered-below made all (e ∷ es) h t g =

@@ -42,7 +42,8 @@ extended-length ends s [] = refl
 extended-length ends s (next ∷ segs) = by (not ends) (are_alike s next) refl
   where
     by : (t a : Bool) → are_alike s next ≡ a
-        → text_length (cond (t && a) (record next { body = joined_bodies s.body next.body } ∷ segs) (s ∷ next ∷ segs)) ≡ body_length s.body + text_length (next ∷ segs)
+        → text_length (cond (t && a) (record next { body = joined_bodies s.body next.body } ∷ segs) (s ∷ next ∷ segs)) ≡ body_length s.body
+        + text_length (next ∷ segs)
     by true true e =
         let joined = alike-length s next e in
         omega (arith, joined)
@@ -68,7 +69,8 @@ module _ (min : ℕ) where
       step (not (has_collectable_removal min x.stamps.dels)) (filter (λ (e : TreeElement ElementContent). not (has_collectable_removal min e.stamps.dels)) xs)
       (one-unit x.unit h.0) (kept-length xs h.1)
     where
-      step : (b : Bool) (behind : TextElements) → body_length (element_body x.unit) ≡ 1 → text_length (map (element_segment min) behind) ≡ length (map (element_segment min) behind)
+      step : (b : Bool) (behind : TextElements) → body_length (element_body x.unit) ≡ 1
+          → text_length (map (element_segment min) behind) ≡ length (map (element_segment min) behind)
           → text_length (map (element_segment min) (cond b (x ∷ behind) behind)) ≡ length (map (element_segment min) (cond b (x ∷ behind) behind))
       step true behind one ih = omega (arith, one, ih)
       step false behind one ih = ih

@@ -58,7 +58,8 @@ module _ (min : ℕ) where
   no-removal : (e : ListElement) → IsSettled e → e.dels ++ removal_stamp e.removal_stage ≡ e.dels
   no-removal e s = ap (λ o. e.dels ++ removal_stamp o) s.unmarked ∙ append-nil e.dels
 
-  segment-alike : (x : TreeElement ElementContent) (e : ListElement) → IsElement text_content x e → IsSettled e → element_segment min x ≡ segment_of (trim_element min e)
+  segment-alike : (x : TreeElement ElementContent) (e : ListElement) → IsElement text_content x e → IsSettled e
+      → element_segment min x ≡ segment_of (trim_element min e)
   segment-alike x e q s =
       ap nameless_segment q
       ∙ ap (λ dels. record { body = element_body e.content; props = e.props; by = author_mark e.by; ins = insertion_mark min e.ins; dels = map mark_of dels }) (no-removal e s)

@@ -71,7 +71,8 @@ module _ (kind : SubOperation → Bool) where
 
 -- ---- what is pending on elements is of its stages
 
-removal-of : (removes : SubOperation → Bool) (stages : List Stage) (k : ℕ) (o : Option ℕ) → is_stage_of removes stages k ≡ false → has_removal_of removes stages o ≡ true
+removal-of : (removes : SubOperation → Bool) (stages : List Stage) (k : ℕ) (o : Option ℕ) → is_stage_of removes stages k ≡ false
+    → has_removal_of removes stages o ≡ true
     → list_any (is_of_stage k) (removal_stamp o) ≡ false
 removal-of removes stages k None h g = refl
 removal-of removes stages k (Some j) h g = step (nat_eq j k) refl
@@ -116,7 +117,8 @@ none-changed stages k (e ∷ es) h g =
 
 -- ---- the elements of an insertion
 
-any-of-block : (is : ListElement → Bool) (props : PropertyList) (us : List ElementContent) (es : List ListElement) → IsBlockOf props us (filter is es) → list_any is es ≡ has_some us
+any-of-block : (is : ListElement → Bool) (props : PropertyList) (us : List ElementContent) (es : List ListElement)
+    → IsBlockOf props us (filter is es) → list_any is es ≡ has_some us
 any-of-block is props us es h = filtered es ∙ counted us (filter is es) h
   where
     counted : (us : List ElementContent) (fs : List ListElement) → IsBlockOf props us fs → list_any (λ e. true) fs ≡ has_some us
@@ -129,7 +131,8 @@ any-of-block is props us es h = filtered es ∙ counted us (filter is es) h
     filtered [] = refl
     filtered (e ∷ es) = step (is e) (filtered es)
       where
-        step : (b : Bool) → list_any is es ≡ list_any (λ e. true) (filter is es) → b || list_any is es ≡ list_any (λ e. true) (cond b (e ∷ filter is es) (filter is es))
+        step : (b : Bool) → list_any is es ≡ list_any (λ e. true) (filter is es)
+            → b || list_any is es ≡ list_any (λ e. true) (cond b (e ∷ filter is es) (filter is es))
         step true r = refl
         step false r = r
 
@@ -168,7 +171,8 @@ sent-changes op changes [] h = refl
 sent-changes op changes (r ∷ rs) h =
     ap (λ o. OnText o ∷ sent op (map (λ r. piece.Annotate r.0 r.1) rs)) (h r.0 r.1) ∙ ap (λ os. OnText (Annotate r.0 r.1 changes) ∷ os) (sent-changes op changes rs h)
 
-module _ (last : ℕ) (doc : Document) (stages : List Stage) (text : IsTextSound last doc stages) {xs : TextElements} (b : AreElements text_content xs doc.text.items) where
+module _ (last : ℕ) (doc : Document) (stages : List Stage) (text : IsTextSound last doc stages) {xs : TextElements}
+    (b : AreElements text_content xs doc.text.items) where
   abbrev items : List ListElement
   items = doc.text.items
 
@@ -193,7 +197,8 @@ module _ (last : ℕ) (doc : Document) (stages : List Stage) (text : IsTextSound
     pub pieces-alike : (op : BaseOp) → stages ≡ front ++ (here op ∷ behind) → sent op (pieces k xs) ≡ text_pieces k items op
     pieces-alike (Insert p seg props) e =
         let op = Insert p seg props in
-        let typed = each-at (λ t. IsTyped t.stage doc t.names t.sub_operation) front (here op) behind (subst (λ ss. Each (λ t. IsTyped t.stage doc t.names t.sub_operation) ss) e text.typed) in
+        let typed = each-at (λ t. IsTyped t.stage doc t.names t.sub_operation) front (here op) behind
+        (subst (λ ss. Each (λ t. IsTyped t.stage doc t.names t.sub_operation) ss) e text.typed) in
         ap (sent op) (three k b refl (no-removals k b acked (none-removed inserts_text removes_text stages k items (kind-is removes_text op e) text.place.marks))
         (no-changes k b (none-changed stages k items (kind-is annotates_text op e) text.changes)) ∙ append-nil (insertion_pieces k xs ++ []) ∙ append-nil (insertion_pieces k xs))
         ∙ insertion-case p seg props (segment_contents seg) (any-of-block (is_inserted_by k) (apply [] props) (segment_contents seg) items typed)

@@ -16,7 +16,8 @@ pub gives-begin : (xs : TextElements) (end : ℕ) (all kept : List PendingOp) (s
 gives-begin xs end all kept sent none = record { sends = ap (λ os. os ++ flat_map (again_of xs) (due end all)) none; rest = refl; keeps = refl }
 
 -- the first one is given, and goes on where something of it is sent
-pub gives-next : {E : Type 0} (xs : TextElements) (end : ℕ) (all left rest before kept more : List PendingOp) (sent now : List BaseOp) (op : PendingOp) (some : Result Bool E)
+pub gives-next : {E : Type 0} (xs : TextElements) (end : ℕ) (all left rest before kept more : List PendingOp) (sent now : List BaseOp)
+    (op : PendingOp) (some : Result Bool E)
     → GivesSoFar xs end all left before kept sent → left ≡ op ∷ rest → nat_lt op.stage end ≡ true → OnOk some (now ≡ sent ++ again_of xs op)
     → IfOk some (λ b. b ≡ has_piece xs op) → IsOkAnd some (λ b. more ≡ kept ++ cond b (op ∷ []) []) → GivesSoFar xs end all rest before more now
 gives-next xs end all left rest before kept more sent now op (Err f) h e t sends goes keeps = absurd keeps
@@ -40,7 +41,8 @@ pub shorter : (left rest : List PendingOp) (op : PendingOp) → left ≡ op ∷ 
 shorter left rest op e = let same = ap length e in omega arith
 
 -- nothing is due any more
-pub gives-done : (xs : TextElements) (end : ℕ) (all left before kept : List PendingOp) (sent : List BaseOp) → GivesSoFar xs end all left before kept sent → due end left ≡ []
+pub gives-done : (xs : TextElements) (end : ℕ) (all left before kept : List PendingOp) (sent : List BaseOp)
+    → GivesSoFar xs end all left before kept sent → due end left ≡ []
     → GivesOps xs end all left before kept sent
 gives-done xs end all left before kept sent h none = record {
   sends = sym (append-nil sent) ∙ sym (ap (λ os. sent ++ flat_map (again_of xs) os) none) ∙ h.sends;

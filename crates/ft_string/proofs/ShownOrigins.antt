@@ -21,7 +21,8 @@ use Rattle.ft_string.specs.Parts.{state_of}
 use Rattle.ft_string.specs.declared.pending.PendingOp.{PendingOp}
 use Rattle.ft_string.proofs.Standing.{sound-up_to}
 
-pub origins-alike : (tree : TreeState TextContent) (c : CollectionsState) (ops : List PendingOp) (given last : ℕ) (usable : Bool) (doc : Document) (stages : List Stage)
+pub origins-alike : (tree : TreeState TextContent) (c : CollectionsState) (ops : List PendingOp) (given last : ℕ) (usable : Bool)
+    (doc : Document) (stages : List Stage)
     → IsTextSound last doc stages → HoldsText (state_of tree c ops given usable) doc stages → origins_in tree.leaves ≡ map (λ e. origin_of e.by) (stage_view last doc.text.items)
 origins-alike tree c ops given last usable doc stages sound holds =
     same-map (λ (x : TreeElement ElementContent). origin_of x.by) (λ (e : ListElement). origin_of e.by) (λ x e q. ap (λ (n : NamelessElement). origin_of n.by) q.0)

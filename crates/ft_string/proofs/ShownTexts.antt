@@ -44,8 +44,10 @@ runs-alike last i (next {x = x} {y = e} {xs = xs} q qs) =
     ap (λ ps. extended_property_runs i ps (runs_of (i + 1) xs)) (ap (λ (n : NamelessElement). shown_props n.props n.pending) q.0)
     ∙ ap (extended_property_runs i (shown_props e.props e.pending)) (runs-alike last (i + 1) qs)
 
-pub seen-alike-all : (tree : TreeState TextContent) (c : CollectionsState) (ops : List PendingOp) (given last : ℕ) (usable : Bool) (doc : Document) (stages : List Stage)
-    → IsTextSound last doc stages → HoldsText (state_of tree c ops given usable) doc stages → AreSeen last (shown_elements tree.leaves) (stage_view last doc.text.items)
+pub seen-alike-all : (tree : TreeState TextContent) (c : CollectionsState) (ops : List PendingOp) (given last : ℕ) (usable : Bool)
+    (doc : Document) (stages : List Stage)
+    → IsTextSound last doc stages → HoldsText (state_of tree c ops given usable) doc stages
+    → AreSeen last (shown_elements tree.leaves) (stage_view last doc.text.items)
 seen-alike-all tree c ops given last usable doc stages sound holds =
     beside-filter (λ (x : TreeElement ElementContent). seen_at x.stamps 18446744073709551615) (seen last)
     (λ x e q. seen-last text_content last sound.fits x e q.0 q.1)

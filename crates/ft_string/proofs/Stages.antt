@@ -69,7 +69,8 @@ same-ops p q [] h = refl
 same-ops p q (t ∷ ts) h = step (is_on_elements t.sub_operation) refl (same-ops p q ts h.1)
   where
     step : (b : Bool) → is_on_elements t.sub_operation ≡ b → map (indexed_stage p) (element_stages ts) ≡ map (indexed_stage q) (element_stages ts)
-        → map (indexed_stage p) (cond b (t ∷ element_stages ts) (element_stages ts)) ≡ map (indexed_stage q) (cond b (t ∷ element_stages ts) (element_stages ts))
+        → map (indexed_stage p) (cond b (t ∷ element_stages ts) (element_stages ts))
+        ≡ map (indexed_stage q) (cond b (t ∷ element_stages ts) (element_stages ts))
     step true g rest =
         ap (λ s. s ∷ map (indexed_stage p) (element_stages ts)) (same-op p q t.sub_operation t.stage t.names g h.0) ∙ ap (λ ss. indexed_stage q t ∷ ss) rest
     step false g rest = rest
@@ -120,7 +121,8 @@ names-marked acked refs (i ∷ is) h = (
 module _ (refs after : References) (p q : Document) (P : Option ℕ → Type 0)
     (moves : (r : Option ℕ) (o : Option ElementId) → P r → StandsIn p.text.items o → SameEnd refs p.text.items r o → SameEnd after q.text.items r o) where
   moved-stage : (t : Operation) (k : ℕ) (o : SubOperation) (names : NamedElements) → P t.ends.start → P t.ends.end → AreNamesIn p.text.items o names
-      → SameStage refs p t (record { stage = k; sub_operation = o; names = names }) → SameStage after q t (record { stage = k; sub_operation = o; names = names })
+      → SameStage refs p t (record { stage = k; sub_operation = o; names = names })
+      → SameStage after q t (record { stage = k; sub_operation = o; names = names })
   moved-stage t k (OnIntervals op) names a b s h =
       let stage : t.stage ≡ k = ap (λ (u : IndexedStage). u.stage) h in
       let same : OnIntervals t.op ≡ OnIntervals op = ap (λ (u : IndexedStage). u.sub_operation) h in

@@ -43,7 +43,8 @@ use Rattle.ft_string.proofs.Wholes.{try-sound}
 
 -- ---- the ends of intervals
 
-have-named : (P : Option ℕ → Type 0) (is : List (Interval ℕ)) (n : Name) (i : Interval ℕ) → HaveEnds P is → interval_of n is ≡ Some i → P i.ends.start × P i.ends.end
+have-named : (P : Option ℕ → Type 0) (is : List (Interval ℕ)) (n : Name) (i : Interval ℕ) → HaveEnds P is → interval_of n is ≡ Some i
+    → P i.ends.start × P i.ends.end
 have-named P [] n i h e = (cc)
 have-named P (x ∷ is) n i h e = step (name_cmp n (name_of x)) e (λ k. have-named P is n i h.1 k)
   where
@@ -69,7 +70,8 @@ have-more : (P Q : Option ℕ → Type 0) → ((e : Option ℕ) → P e → Q e)
 have-more P Q f [] h = tt
 have-more P Q f (i ∷ is) h = ((f i.ends.start h.0.0, f i.ends.end h.0.1), have-more P Q f is h.1)
 
-pub live-changed : (g : Reference → Reference) (refs after : References) → ChangesReferences g refs after → (c : CollectionsState) → IsLive refs c → IsLive after c
+pub live-changed : (g : Reference → Reference) (refs after : References) → ChangesReferences g refs after → (c : CollectionsState)
+    → IsLive refs c → IsLive after c
 live-changed g refs after changes c live r k = subst (λ o. IsSome o) (sym (changes r)) (some-mapped g (reference_at refs r) (live r k))
 
 module _ (tree new : TreeState TextContent) (c : IndexedState) (live : IsLive new.refs c.state) (s : StandsOn tree c) where
@@ -88,7 +90,8 @@ module _ {A : Type 0} where
   length-past past new [] = omega arith
   length-past past new (x ∷ xs) = step (past x) (length-past past new xs)
     where
-      step : (b : Bool) → length (put_past past new xs) ≡ length xs + length new → length (cond b (x ∷ put_past past new xs) (new ++ (x ∷ xs))) ≡ length (x ∷ xs) + length new
+      step : (b : Bool) → length (put_past past new xs) ≡ length xs + length new
+          → length (cond b (x ∷ put_past past new xs) (new ++ (x ∷ xs))) ≡ length (x ∷ xs) + length new
       step true e = omega (arith, e)
       step false e = omega (arith, length-append new (x ∷ xs))
 
@@ -155,7 +158,8 @@ slid-stands tree new c same slides marked s =
 
 -- ---- a message of another client
 
-applied-stands : (s : ℕ) (at : Perspective) (op : BaseOp) (tree new : TreeState TextContent) (c : IndexedState) → AppliesOp s at op tree new → IsMarked tree.refs c.state
+applied-stands : (s : ℕ) (at : Perspective) (op : BaseOp) (tree new : TreeState TextContent) (c : IndexedState)
+    → AppliesOp s at op tree new → IsMarked tree.refs c.state
     → StandsOn tree c → StandsOn new c
 applied-stands s at (Insert p seg props) tree new c a marked st =
     let xs = text_elements tree in
@@ -190,12 +194,14 @@ tried-stands s at (op ∷ os) n tree new c t h st =
 -- ---- a stage that is acknowledged
 
 pub acked-stands : (k s conn : ℕ) (tree mid : TreeState TextContent) (c : IndexedState)
-    → text_elements mid ≡ map (acked_element k s conn (text_author s conn)) (text_elements tree) → ChangesReferences (slid_reference (text_elements mid)) tree.refs mid.refs
+    → text_elements mid ≡ map (acked_element k s conn (text_author s conn)) (text_elements tree)
+    → ChangesReferences (slid_reference (text_elements mid)) tree.refs mid.refs
     → IsMarked tree.refs c.state → StandsOn tree c → StandsOn mid c
 acked-stands k s conn tree mid c elements slides marked st =
     slid-stands tree mid c (ap (λ zs. length zs) elements ∙ length-map (text_elements tree) (acked_element k s conn (text_author s conn))) slides marked st
 
-pub acked-marked : (k s conn : ℕ) (tree new : TreeState TextContent) (c d : CollectionsState) (ops rest : List PendingOp) → AcksStage k s conn tree new c d ops rest
+pub acked-marked : (k s conn : ℕ) (tree new : TreeState TextContent) (c d : CollectionsState) (ops rest : List PendingOp)
+    → AcksStage k s conn tree new c d ops rest
     → IsMarked tree.refs c → IsMarked new.refs d
 acked-marked k s conn tree new c d ops rest a m = a.refs.marked (record { acked = λ r e. same r ∙ m.acked r e; pending = λ r e. same r ∙ m.pending r e })
   where

@@ -131,7 +131,8 @@ module _ (c : CollectionsState) (ops : List PendingOp) (given : ℕ) (usable : B
       (up : AreUpTo m doc.text.items) where
     moved-op : (op : BaseOp) (count : ℕ) (f : ℕ → ℕ) → AreElements text_content (text_elements new) (taken_items m op doc.text.items)
         → StepsList (m + 1) count f doc.text (taken_document m op doc).text → new.made ≡ tree.made + count
-        → ((r : Option ℕ) → place_of_end new.refs r ≡ option_map f (place_of_end tree.refs r)) → (g : Reference → Reference) → ((x : Reference) → (g x).acked ≡ x.acked)
+        → ((r : Option ℕ) → place_of_end new.refs r ≡ option_map f (place_of_end tree.refs r)) → (g : Reference → Reference)
+        → ((x : Reference) → (g x).acked ≡ x.acked)
         → ChangesReferences g tree.refs new.refs → new.usable ≡ tree.usable
         → Holds new c ops given usable (m + 1) (taken_document m op doc) stages
     moved-op op count f list step made moved g k changes same =
@@ -147,7 +148,8 @@ module _ (c : CollectionsState) (ops : List PendingOp) (given : ℕ) (usable : B
               (λ r o a t e. keeps-end (m + 1) count f doc.text after.text step tree.refs new.refs moved r o t e);
         }
 
-    unmoved : ChangesReferences (with_place (λ i. i)) tree.refs new.refs → (r : Option ℕ) → place_of_end new.refs r ≡ option_map (λ i. i) (place_of_end tree.refs r)
+    unmoved : ChangesReferences (with_place (λ i. i)) tree.refs new.refs → (r : Option ℕ)
+        → place_of_end new.refs r ≡ option_map (λ i. i) (place_of_end tree.refs r)
     unmoved changes r = end-moved (λ i. i) tree.refs new.refs changes r
 
     taken-op : (op : BaseOp) → TakesOp (m + 1) op tree new → Holds new c ops given usable (m + 1) (taken_document m op doc) stages
@@ -156,8 +158,10 @@ module _ (c : CollectionsState) (ops : List PendingOp) (given : ℕ) (usable : B
         let b = elements-of c ops given usable m stages tree doc h in
         let f = shifted_place (put_place (seen_in last_stage) no_run p (text_elements tree)) (length us) in
         moved-op (Insert p seg props) (length us) f
-        (subst (λ xs. AreElements text_content xs (taken_items m (Insert p seg props) doc.text.items)) (sym t.elements) (local-alike text_content m fits p (apply [] props) us us (same-contents us) up b))
-        (local-step text_content m fits p (apply [] props) us us (same-contents us) doc.text h.named.list up b) t.made (λ r. end-moved f tree.refs new.refs t.refs r) (with_place f) (λ x. refl) t.refs t.rest.usable
+        (subst (λ xs. AreElements text_content xs (taken_items m (Insert p seg props) doc.text.items)) (sym t.elements)
+        (local-alike text_content m fits p (apply [] props) us us (same-contents us) up b))
+        (local-step text_content m fits p (apply [] props) us us (same-contents us) doc.text h.named.list up b) t.made
+        (λ r. end-moved f tree.refs new.refs t.refs r) (with_place f) (λ x. refl) t.refs t.rest.usable
     taken-op (Remove p q) t =
         let b = elements-of c ops given usable m stages tree doc h in
         moved-op (Remove p q) 0 (λ i. i)
@@ -210,7 +214,8 @@ pub record TookOps (c : CollectionsState) (ops : List PendingOp) (given : ℕ) (
   pub counted : length more ≡ length os
 
 pub takes-ops : (c : CollectionsState) (ops : List PendingOp) (given : ℕ) (usable : Bool) (stages : List Stage) (m : ℕ) (os : List BaseOp)
-    → m + length os < 18446744073709551616 → (tree new : TreeState TextContent) (doc : Document) → Holds tree c ops given usable m doc stages → AreUpTo m doc.text.items
+    → m + length os < 18446744073709551616 → (tree new : TreeState TextContent) (doc : Document)
+    → Holds tree c ops given usable m doc stages → AreUpTo m doc.text.items
     → AreOrdered os → is_ok (count_after_all (len (seen m) doc.text.items) os) ≡ true → TakesOps (m + 1) os tree new
     → TookOps c ops given usable stages m os new doc
 takes-ops c ops given usable stages m [] l tree new doc h up o fits t = record {

@@ -62,7 +62,10 @@ abbrev pub AreNoted : List PendingOp → TextElements → Type 0
 AreNoted ops xs = list_all (λ e. list_all (is_noted ops) e.overlay.pending) xs ≡ true
 
 -- stages are acknowledged one after another, as long as one is below the end
-pub data AcksStages (end s c : ℕ) : TreeState TextContent → TreeState TextContent → CollectionsState → CollectionsState → List PendingOp → List PendingOp → Type 0 where
-  none : {tree : TreeState TextContent} {given : CollectionsState} {ops : List PendingOp} → next_below end given ops ≡ None → AcksStages end s c tree tree given given ops ops
-  next : {k : ℕ} {old mid new : TreeState TextContent} {before between after : CollectionsState} {ops more rest : List PendingOp} → next_below end before ops ≡ Some k
+pub data AcksStages (end s c : ℕ) : TreeState TextContent → TreeState TextContent → CollectionsState → CollectionsState → List PendingOp
+    → List PendingOp → Type 0 where
+  none : {tree : TreeState TextContent} {given : CollectionsState} {ops : List PendingOp} → next_below end given ops ≡ None
+      → AcksStages end s c tree tree given given ops ops
+  next : {k : ℕ} {old mid new : TreeState TextContent} {before between after : CollectionsState} {ops more rest : List PendingOp}
+      → next_below end before ops ≡ Some k
       → AcksStage k s c old mid before between ops more → AcksStages end s c mid new between after more rest → AcksStages end s c old new before after ops rest

@@ -75,7 +75,8 @@ pub record GivesInterval (k : ℕ) (old new : TreeState TextContent) (before aft
 
 -- what is given of the stages from `first` up to before `end`: an operation on an interval, if one of the first stage is pending, and
 -- else operations on elements
-pub record Gives (first end : ℕ) (old new : TreeState TextContent) (before after : CollectionsState) (ops rest again kept : List PendingOp) (op : Option TextOp) : Type 0 where
+pub record Gives (first end : ℕ) (old new : TreeState TextContent) (before after : CollectionsState) (ops rest again kept : List PendingOp)
+    (op : Option TextOp) : Type 0 where
   pub interval : list_any (is_at_stage first) before.pending ≡ true
       → (one : TextOp) × (op ≡ Some one) × GivesInterval first old new before after one × (rest ≡ ops) × (kept ≡ again)
   pub elements : list_any (is_at_stage first) before.pending ≡ false

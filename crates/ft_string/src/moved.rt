@@ -6,7 +6,7 @@ use ft_base::OutOfMemory;
 use std::collections::VecDeque;
 
 /// Adds an item behind the others, if it is told that it goes there.
-pub(crate) fn push_if<T: Drop>(
+pub(crate) fn push_behind_if<T: Drop>(
     items: &mut VecDeque<T>,
     item: T,
     goes: Result<bool, OutOfMemory>,

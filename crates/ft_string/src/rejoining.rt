@@ -12,7 +12,7 @@ ghost use Rattle.ft_string.specs.Calls.{AreNext, HoldsAllGiven, HoldsGiven, Hold
 ghost use Rattle.ft_string.specs.Holds.{IsTextSound};
 ghost use Rattle.ft_string.specs.Rejoins.{Gives, GivesOps, NextDue, again_of, due, has_any, has_piece, one_of, piece_op};
 
-use crate::moved::push_if;
+use crate::moved::push_behind_if;
 use crate::pending::PendingOp;
 use crate::strings::SharedString;
 use ft_base::moved::after;
@@ -26,6 +26,8 @@ use std::collections::VecDeque;
 use std::mem;
 
 // The piece as an operation: the original one at the places of now.
+//
+// Returns `OutOfMemory` where there is no room for it, or the piece is of another kind, as that of no pending operation is.
 fn operation_of(op: &BaseOp, piece: Piece) -> Result<BaseOp, OutOfMemory>
     ensures { IfOk result (λ again. again ≡ piece_op op.now piece) }
 {
@@ -89,7 +91,7 @@ fn give_due(
 {
     while let Some(op) = next_due(ops, last) {
         let some = push_again(tree, &op, again);
-        push_if(kept, op, some)?;
+        push_behind_if(kept, op, some)?;
     }
     Ok(())
 }

@@ -22,7 +22,7 @@ use ft_interval::Collections;
 use ft_msg::View;
 use ft_sumdoc::IntervalRec;
 use ft_text::lengths::made_in;
-use ft_text::moved::put;
+use ft_text::moved::assign;
 use ft_text::shown::{origins_of, show_elements};
 use ft_tree::{TextContent, Tree};
 use std::sync::ledger::Ledger;
@@ -41,7 +41,7 @@ fn show_intervals(
     ensures others { out.new ≡ record out.old { intervals = out.new.intervals } }
 {
     let all = intervals.all(tree)?;
-    put(&mut out.intervals, List::of(all));
+    assign(&mut out.intervals, List::of(all));
     Ok(())
 }
 

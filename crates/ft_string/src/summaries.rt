@@ -29,7 +29,7 @@ use ft_props::{PropSet, Props};
 use ft_sumdoc::{Ends2, IntervalRec, Seg, SegRec, SumDoc};
 use ft_text::contents::{Contents, runs_of};
 use ft_text::lengths::{have_room, made_in};
-use ft_text::moved::put;
+use ft_text::moved::assign;
 use ft_text::segments::segments_of;
 use ft_tree::{Content, TextContent, Tree};
 use std::alloc::Global;
@@ -270,9 +270,9 @@ impl SharedString {
         let _made = made_in(&self.tree);
         let _first = self.intervals.first_stage();
         let text = segments_of(&self.tree, doc.min)?;
-        put(&mut doc.text, text);
+        assign(&mut doc.text, text);
         let intervals = self.intervals.all(&self.tree)?;
-        put(&mut doc.intervals, List::of(intervals));
+        assign(&mut doc.intervals, List::of(intervals));
         Ok(())
     }
 }

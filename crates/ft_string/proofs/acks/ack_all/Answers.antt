@@ -27,21 +27,26 @@ ack_stage-requires-clause-marked c = c.loop-stage.invariant.marked
 
 pub loop-stage-preserved : goal.loop-stage-preserved
 loop-stage-preserved c = record {
-  so_far = acks-next (c.args.last + 1) c.in-Some.stage c.args.seq c.args.conn c.loop-stage.tree c.ack_stage.new.tree c.loop-stage.intervals.state c.ack_stage.new.intervals.state c.loop-stage.ops.items
-      c.ack_stage.new.ops.items (sym c.next_up_to.ensures ∙ c.in-Some.is) c.in_ok-ack_stage.ensures.stage c.args.tree.now c.args.intervals.now.state c.args.ops.now.items c.loop-stage.invariant.so_far;
+  so_far = acks-next (c.args.last + 1) c.in-Some.stage c.args.seq c.args.conn c.loop-stage.tree c.ack_stage.new.tree
+      c.loop-stage.intervals.state c.ack_stage.new.intervals.state c.loop-stage.ops.items
+      c.ack_stage.new.ops.items (sym c.next_up_to.ensures ∙ c.in-Some.is) c.in_ok-ack_stage.ensures.stage c.args.tree.now
+      c.args.intervals.now.state c.args.ops.now.items c.loop-stage.invariant.so_far;
   stands = c.in_ok-ack_stage.ensures.stands;
-  marked = acked-marked c.in-Some.stage c.args.seq c.args.conn c.loop-stage.tree c.ack_stage.new.tree c.loop-stage.intervals.state c.ack_stage.new.intervals.state c.loop-stage.ops.items
+  marked = acked-marked c.in-Some.stage c.args.seq c.args.conn c.loop-stage.tree c.ack_stage.new.tree c.loop-stage.intervals.state
+      c.ack_stage.new.intervals.state c.loop-stage.ops.items
       c.ack_stage.new.ops.items c.in_ok-ack_stage.ensures.stage c.loop-stage.invariant.marked;
 }
 
 pub loop-stage-smaller : goal.loop-stage-smaller
 loop-stage-smaller c =
-    acks-fewer (c.args.last + 1) c.in-Some.stage c.args.seq c.args.conn c.loop-stage.tree c.ack_stage.new.tree c.loop-stage.intervals.state c.ack_stage.new.intervals.state c.loop-stage.ops.items
+    acks-fewer (c.args.last + 1) c.in-Some.stage c.args.seq c.args.conn c.loop-stage.tree c.ack_stage.new.tree c.loop-stage.intervals.state
+    c.ack_stage.new.intervals.state c.loop-stage.ops.items
     c.ack_stage.new.ops.items (sym c.next_up_to.ensures ∙ c.in-Some.is) c.in_ok-ack_stage.ensures.stage
 
 pub returns-clause-stages : goal.returns-clause-stages
 returns-clause-stages c =
-    acks-done (c.args.last + 1) c.args.seq c.args.conn c.args.tree.now c.loop-stage.tree c.args.intervals.now.state c.loop-stage.intervals.state c.args.ops.now.items c.loop-stage.ops.items
+    acks-done (c.args.last + 1) c.args.seq c.args.conn c.args.tree.now c.loop-stage.tree c.args.intervals.now.state
+    c.loop-stage.intervals.state c.args.ops.now.items c.loop-stage.ops.items
     c.loop-stage.invariant.so_far (sym c.next_up_to.ensures ∙ c.in_default.is)
 
 pub returns-clause-stands : goal.returns-clause-stands

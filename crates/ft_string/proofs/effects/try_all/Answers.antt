@@ -11,4 +11,5 @@ loop-op-preserved g c =
 
 pub returns : goal.returns
 returns g c =
-    tries-done c.args.seq c.args.at c.args.ops.now (drop c.loop-op.op-index c.args.ops.now) c.loop-op.skipped c.args.tree.now c.loop-op.tree c.loop-op.invariant (drop_of_length-le c.args.ops.now c.loop-op-test.false)
+    tries-done c.args.seq c.args.at c.args.ops.now (drop c.loop-op.op-index c.args.ops.now) c.loop-op.skipped c.args.tree.now
+    c.loop-op.tree c.loop-op.invariant (drop_of_length-le c.args.ops.now c.loop-op-test.false)

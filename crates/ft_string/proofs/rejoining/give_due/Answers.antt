@@ -16,8 +16,8 @@ pub loop-op-preserved : goal.loop-op-preserved
 loop-op-preserved c =
     let n = subst (λ r. NextDue (c.args.last + 1) c.loop-op.ops.items c.next_due.new.ops.items r) c.in-Some.is c.next_due.ensures in
     gives-next (text_elements c.args.tree.now) (c.args.last + 1) c.args.ops.now.items c.loop-op.ops.items c.next_due.new.ops.items c.args.kept.now.items
-    c.loop-op.kept.items c.push_if.new.items.items c.loop-op.again c.push_again-some.new.again c.in-Some.op c.push_again-some.result
-    c.loop-op.invariant n.0 n.1 c.push_again-some.ensures.sends c.push_again-some.ensures.some c.in_ok-push_if.ensures
+    c.loop-op.kept.items c.push_behind_if.new.items.items c.loop-op.again c.push_again-some.new.again c.in-Some.op c.push_again-some.result
+    c.loop-op.invariant n.0 n.1 c.push_again-some.ensures.sends c.push_again-some.ensures.some c.in_ok-push_behind_if.ensures
 
 pub returns : goal.returns
 returns c =

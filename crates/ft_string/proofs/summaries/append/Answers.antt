@@ -10,7 +10,8 @@ append_content-requires c = subst (λ b. IsTrue b) (sym c.in_ok-append_contents.
 pub returns-in-Some : goal.returns-in-Some
 returns-in-Some c =
     let before = c.in_ok-before.field-0.before.items in
-    with-last c.append_content.result c.args.seg.now (segment_bodies c.args.seg.now.body) before c.in-Some.content c.args.tree.now c.append_contents.new.tree c.append_content.new.tree
+    with-last c.append_content.result c.args.seg.now (segment_bodies c.args.seg.now.body) before c.in-Some.content c.args.tree.now
+    c.append_contents.new.tree c.append_content.new.tree
     (ap (λ o. flat_map text_units (before ++ option_to_list o)) (sym c.in-Some.is) ∙ c.in_ok-before.ensures) c.in_ok-append_contents.ensures c.append_content.ensures
 
 pub returns-in-None : goal.returns-in-None

@@ -62,5 +62,6 @@ returns-clause-stands c = c.intervals_on.ensures.stands
 pub returns-clause-floor : goal.returns-clause-floor
 returns-clause-floor c =
     let made = filled (summary_elements c.as_slice.result.now) c.args.tree.now c.append_all.new.tree c.requires.none c.in_ok-append_all.ensures in
-    whenever c.intervals_on.result (c.intervals_on.new.tree.floor ≡ 0) (λ (s : IndexedState). HasIntervals c.as_slice-2.result.now c.append_all.new.tree c.intervals_on.new.tree s.state)
+    whenever c.intervals_on.result (c.intervals_on.new.tree.floor ≡ 0)
+    (λ (s : IndexedState). HasIntervals c.as_slice-2.result.now c.append_all.new.tree c.intervals_on.new.tree s.state)
     (λ s has. ap (λ (t : TreeState TextContent). t.floor) has.leaves ∙ made.floor) c.intervals_on.ensures.has

@@ -10,13 +10,15 @@ use Rattle.ft_string.proofs.summaries.intervals_on.Goals as goal
 
 pub loop-i-init : goal.loop-i-init
 loop-i-init c = record {
-  has = subst (λ (s : IndexedState). HasIntervals [] c.args.tree.now c.args.tree.now s.state) (sym c.new-intervals.ensures.value) (none-on c.args.tree.now c.requires.usable c.requires.bare);
+  has = subst (λ (s : IndexedState). HasIntervals [] c.args.tree.now c.args.tree.now s.state) (sym c.new-intervals.ensures.value)
+      (none-on c.args.tree.now c.requires.usable c.requires.bare);
   stands = c.new-intervals.ensures.stands c.args.tree.now;
 }
 
 pub loop-i-preserved : goal.loop-i-preserved
 loop-i-preserved c = record {
-  has = interval-next c.args.recs.now c.loop-i.i-index c.i-item.result c.args.tree.now c.loop-i.tree c.add_interval.new.tree c.loop-i.intervals.state c.add_interval.new.intervals.state
+  has = interval-next c.args.recs.now c.loop-i.i-index c.i-item.result c.args.tree.now c.loop-i.tree c.add_interval.new.tree
+      c.loop-i.intervals.state c.add_interval.new.intervals.state
       c.requires.rise c.loop-i-test.true c.i-item.is c.loop-i.invariant.has c.in_ok-add_interval.ensures.adds;
   stands = c.in_ok-add_interval.ensures.stands;
 }

@@ -11,22 +11,26 @@ use Rattle.ft_string.proofs.strings.SharedString.ack.Goals as goal
 pub ack_all-requires-clause-rise : goal.ack_all-requires-clause-rise
 ack_all-requires-clause-rise c =
     let a = c.self.inside in
-    (is-ready a c.args.self.now c.args.first (c.args.first + c.args.count) c.self.view_is c.self.invariant c.requires.usable c.requires.none_given c.requires.held.0 c.requires.held.1).rise
+    (is-ready a c.args.self.now c.args.first (c.args.first + c.args.count) c.self.view_is c.self.invariant c.requires.usable
+    c.requires.none_given c.requires.held.0 c.requires.held.1).rise
 
 pub ack_all-requires-clause-noted : goal.ack_all-requires-clause-noted
 ack_all-requires-clause-noted c =
     let a = c.self.inside in
-    (is-ready a c.args.self.now c.args.first (c.args.first + c.args.count) c.self.view_is c.self.invariant c.requires.usable c.requires.none_given c.requires.held.0 c.requires.held.1).noted
+    (is-ready a c.args.self.now c.args.first (c.args.first + c.args.count) c.self.view_is c.self.invariant c.requires.usable
+    c.requires.none_given c.requires.held.0 c.requires.held.1).noted
 
 pub ack_all-requires-clause-stands : goal.ack_all-requires-clause-stands
 ack_all-requires-clause-stands c =
     let a = c.self.inside in
-    (is-ready a c.args.self.now c.args.first (c.args.first + c.args.count) c.self.view_is c.self.invariant c.requires.usable c.requires.none_given c.requires.held.0 c.requires.held.1).stands
+    (is-ready a c.args.self.now c.args.first (c.args.first + c.args.count) c.self.view_is c.self.invariant c.requires.usable
+    c.requires.none_given c.requires.held.0 c.requires.held.1).stands
 
 pub ack_all-requires-clause-marked : goal.ack_all-requires-clause-marked
 ack_all-requires-clause-marked c =
     let a = c.self.inside in
-    (is-ready a c.args.self.now c.args.first (c.args.first + c.args.count) c.self.view_is c.self.invariant c.requires.usable c.requires.none_given c.requires.held.0 c.requires.held.1).parts.marked
+    (is-ready a c.args.self.now c.args.first (c.args.first + c.args.count) c.self.view_is c.self.invariant c.requires.usable
+    c.requires.none_given c.requires.held.0 c.requires.held.1).parts.marked
 
 pub invariant_of-self-2 : goal.invariant_of-self-2
 invariant_of-self-2 c =
@@ -37,7 +41,8 @@ invariant_of-self-2 c =
     let r = is-ready a c.args.self.now c.args.first end c.self.view_is c.self.invariant c.requires.usable c.requires.none_given c.requires.held.0 c.requires.held.1 in
     let before = c.self.invariant (subst (λ b. IsTrue b) (sym (ap (λ (s : TextState). s.usable) c.self.view_is)) c.requires.usable) in
     λ t. record {
-      parts = acked-sound end c.args.seq c.args.conn a.tree c.ack_all.new.tree a.intervals.state c.ack_all.new.intervals.state a.ops.items c.ack_all.new.ops.items a.given a.given a.usable a.usable
+      parts = acked-sound end c.args.seq c.args.conn a.tree c.ack_all.new.tree a.intervals.state c.ack_all.new.intervals.state a.ops.items
+          c.ack_all.new.ops.items a.given a.given a.usable a.usable
           c.args.first r.parts acks r.last r.held;
       stands = c.in_ok-ack_all.ensures.stands;
       again = before.again;
@@ -53,8 +58,10 @@ returns-clause-acked c last doc mine rest old sound holds =
     let r = is-ready a c.args.self.now c.args.first end c.self.view_is c.self.invariant c.requires.usable c.requires.none_given c.requires.held.0 c.requires.held.1 in
     let held = subst (λ os. HoldsText (state_of a.tree a.intervals.state (os ++ a.ops.items) a.given a.usable) doc (mine ++ rest)) r.none
     (subst (λ s. HoldsText s doc (mine ++ rest)) (sym c.self.view_is) holds) in
-    subst (λ os. HoldsAcked (state_of c.ack_all.new.tree c.ack_all.new.intervals.state (os ++ c.ack_all.new.ops.items) a.given true) c.args.seq c.args.conn mine rest doc) (sym r.none)
-    (acked-whole end c.args.seq c.args.conn a.tree c.ack_all.new.tree a.intervals.state c.ack_all.new.intervals.state a.ops.items c.ack_all.new.ops.items a.given a.given a.usable true
+    subst (λ os. HoldsAcked (state_of c.ack_all.new.tree c.ack_all.new.intervals.state (os ++ c.ack_all.new.ops.items) a.given true)
+    c.args.seq c.args.conn mine rest doc) (sym r.none)
+    (acked-whole end c.args.seq c.args.conn a.tree c.ack_all.new.tree a.intervals.state c.ack_all.new.intervals.state a.ops.items
+    c.ack_all.new.ops.items a.given a.given a.usable true
     c.args.first r.parts acks last doc mine rest old sound held)
 
 pub returns-clause-rest : goal.returns-clause-rest

@@ -10,8 +10,10 @@ invariant_of-self-2 g c =
     let usable : IsTrue c.self.inside.usable = subst (λ b. IsTrue b) (sym (ap (λ (s : TextState). s.usable) c.self.view_is)) c.requires.usable in
     let before = c.self.invariant usable in
     λ t. record {
-      parts = tried-sound c.args.seq c.args.at c.args.ops.now c.in_ok-skipped.skipped c.self.inside.tree c.try_all.new.tree c.self.inside.intervals.state c.in_ok-skipped.ensures before.parts;
-      stands = tried-stands c.args.seq c.args.at c.args.ops.now c.in_ok-skipped.skipped c.self.inside.tree c.try_all.new.tree c.self.inside.intervals c.in_ok-skipped.ensures before.parts
+      parts = tried-sound c.args.seq c.args.at c.args.ops.now c.in_ok-skipped.skipped c.self.inside.tree c.try_all.new.tree
+          c.self.inside.intervals.state c.in_ok-skipped.ensures before.parts;
+      stands = tried-stands c.args.seq c.args.at c.args.ops.now c.in_ok-skipped.skipped c.self.inside.tree c.try_all.new.tree
+          c.self.inside.intervals c.in_ok-skipped.ensures before.parts
           before.stands;
       again = before.again;
       ahead = before.ahead;

@@ -15,11 +15,13 @@ returns-clause-applied c last doc stages sound holds =
     elim c.if-fits.branch [
       | then-fits w ↦
           rw (w.result-is)
-          (interval-applied c.self.inside.tree c.apply.new.tree c.self.inside.intervals.state c.apply.new.self.state ops c.self.inside.given c.self.inside.usable c.args.op.now c.args.seq
+          (interval-applied c.self.inside.tree c.apply.new.tree c.self.inside.intervals.state c.apply.new.self.state ops
+          c.self.inside.given c.self.inside.usable c.args.op.now c.args.seq
           c.args.at before.parts e.rest c.first_stage-first.ensures.names last doc stages sound held (sym e.fits ∙ w.if-fits.true) (e.effect w.if-fits.true))
       | else-fits w ↦
           rw (w.result-is)
           (let misfit = e.misfit w.if-fits.false in
-          interval-skipped c.self.inside.tree c.apply.new.tree c.self.inside.intervals.state c.apply.new.self.state ops c.self.inside.given c.self.inside.usable c.args.op.now c.args.seq
+          interval-skipped c.self.inside.tree c.apply.new.tree c.self.inside.intervals.state c.apply.new.self.state ops c.self.inside.given
+          c.self.inside.usable c.args.op.now c.args.seq
           c.args.at before.parts e.rest c.first_stage-first.ensures.names last doc stages sound held (sym e.fits ∙ w.if-fits.false) misfit.0 misfit.1)
     ]

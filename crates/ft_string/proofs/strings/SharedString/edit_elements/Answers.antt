@@ -33,7 +33,8 @@ invariant_of-self g c =
       parts = took-sound c.args.first c.args.ops.now c.self.inside.tree c.take_all.new.tree c.self.inside.intervals.state c.in-Ok-take_all.ensures.taken before.parts;
       stands = took-stands c.args.first c.args.ops.now c.self.inside.tree c.take_all.new.tree c.self.inside.intervals c.in-Ok-take_all.ensures.taken before.stands;
       again = before.again;
-      ahead = took-ahead c.self.inside.given c.args.first none c.requires.some c.args.ops.now c.self.inside.ops.items c.take_all.new.pending.items c.in-Ok-take_all.ensures.noted before.ahead;
+      ahead = took-ahead c.self.inside.given c.args.first none c.requires.some c.args.ops.now c.self.inside.ops.items
+          c.take_all.new.pending.items c.in-Ok-take_all.ensures.noted before.ahead;
     }
 
 pub returns-in-Ok-take_all-clause-answers : goal.returns-in-Ok-take_all-clause-answers

@@ -20,7 +20,8 @@ invariant_of-self c =
     let usable : IsTrue c.self.inside.usable = subst (λ b. IsTrue b) (sym (ap (λ (s : TextState). s.usable) c.self.view_is)) c.requires.usable in
     let before = c.self.invariant usable in
     λ t. record {
-      parts = kept-sound c.self.inside.tree c.take_interval.new.tree c.self.inside.intervals.state c.take_interval.new.intervals.state before.parts c.in-Ok.ensures.taken.rest c.in-Ok.ensures.taken.refs;
+      parts = kept-sound c.self.inside.tree c.take_interval.new.tree c.self.inside.intervals.state c.take_interval.new.intervals.state
+          before.parts c.in-Ok.ensures.taken.rest c.in-Ok.ensures.taken.refs;
       stands = c.in-Ok.ensures.stands;
       again = before.again;
       ahead = before.ahead;

@@ -6,7 +6,8 @@ use Rattle.ft_string.specs.State.{TextState}
 use Rattle.ft_string.specs.declared.pending.PendingOp.{PendingOp}
 use Rattle.std.specs.declared.collections.VecDeque.{VecDeque}
 use Rattle.std.proofs.Common.{Global}
-use Rattle.ft_string.proofs.Normalised.{given-side, given-up_to, rejoined-ahead, rejoined-sound, rejoined-stands, rejoined-whole}
+use Rattle.ft_string.proofs.Documents.{moved-sound}
+use Rattle.ft_string.proofs.Normalised.{given-side, given-up_to, rejoined-ahead, rejoined-stands, rejoined-whole}
 use Rattle.ft_string.proofs.strings.SharedString.normalise.Goals as goal
 
 pub normalise-requires-clause-side : goal.normalise-requires-clause-side
@@ -28,8 +29,9 @@ invariant_of-self-2 c =
     let moved = ap (λ (q : VecDeque PendingOp Global). q.items) c.swap.ensures.x_after ∙ c.in_ok-join.ensures.joined in
     let none = ap (λ (q : VecDeque PendingOp Global). q.items) c.swap.ensures.y_after ∙ c.in_ok-join.ensures.none in
     λ t. record {
-      parts = rejoined-sound a.tree c.normalise.new.tree a.intervals.state _ (e.places last up) e.usable before.parts;
-      stands = rejoined-stands a.tree c.normalise.new.tree a.intervals all a.given a.usable last h.doc h.stages h.sound h.holds (e.elements last up) (e.places last up) before.stands;
+      parts = moved-sound a.tree c.normalise.new.tree a.intervals.state _ (e.places last up) e.usable before.parts;
+      stands = rejoined-stands a.tree c.normalise.new.tree a.intervals all a.given a.usable last h.doc h.stages h.sound h.holds
+          (e.elements last up) (e.places last up) before.stands;
       again = subst (λ os. All (λ (t : PendingOp). t.stage ≤ 0) os) (sym none) (All-nil (λ (t : PendingOp). t.stage ≤ 0));
       ahead = subst (λ os. All (λ (t : PendingOp). 0 < t.stage) os) (sym moved) (rejoined-ahead last a.tree a.intervals.state all a.given a.usable h);
     }
@@ -45,4 +47,5 @@ returns-clause-holds c last doc stages sound holds =
     let moved = ap (λ (q : VecDeque PendingOp Global). q.items) c.swap.ensures.x_after ∙ c.in_ok-join.ensures.joined in
     let none = ap (λ (q : VecDeque PendingOp Global). q.items) c.swap.ensures.y_after ∙ c.in_ok-join.ensures.none in
     subst (λ os. HoldsRejoined (state_of c.normalise.new.tree a.intervals.state os 0 true) doc stages) (sym (ap (λ os. os ++ c.swap.new.x.items) none ∙ moved))
-    (rejoined-whole a.tree c.normalise.new.tree a.intervals.state all a.given 0 a.usable true last doc stages sound held (e.elements last up) (e.places last up) e.made before.parts)
+    (rejoined-whole a.tree c.normalise.new.tree a.intervals.state all a.given 0 a.usable true last doc stages sound held
+    (e.elements last up) (e.places last up) e.made before.parts)

@@ -30,7 +30,8 @@ returns-clause-cost g c last doc stages sound holds =
     let all : length a.intervals.state.acked ≡ length c.args.self.now.intervals =
     sym (length-map (placed_intervals a.tree.refs a.intervals.state.acked) _ ∙ length-map a.intervals.state.acked _) ∙ ap (λ (s : TextState). length s.intervals) c.self.view_is in
     let waiting : length a.intervals.state.pending ≡ length c.args.self.now.interval_ops =
-    sym (length-map (placed_operations a.tree.refs a.intervals.state.pending) _ ∙ length-map a.intervals.state.pending _) ∙ ap (λ (s : TextState). length s.interval_ops) c.self.view_is in
+    sym (length-map (placed_operations a.tree.refs a.intervals.state.pending) _ ∙ length-map a.intervals.state.pending _)
+    ∙ ap (λ (s : TextState). length s.interval_ops) c.self.view_is in
     let cost = subst (λ (rs : List IntervalRec). c.overlapping.new.steps ≤ c.args.steps.now + 9 * (d + 1) * (length (filter test rs) + length a.intervals.state.pending + 1))
     (intervals-alike a.tree a.intervals.state (a.again.items ++ a.ops.items) a.given last a.usable doc stages sound here c.first_stage-first.ensures.names
     (c.made_in-made.ensures.few 18446744073709551615)) e.cost in (

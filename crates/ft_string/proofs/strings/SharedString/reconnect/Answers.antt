@@ -34,17 +34,21 @@ invariant_of-self-2 c =
     c.in_ok-op.ensures.gives in
     let low : end - 1 ≡ top = omega (arith, c.if-count-eq0.false) in
     let h = subst (λ s. HoldsSomeGiven last c.args.first end s) (sym c.self.view_is) c.requires.held.1 in
-    let g = is-given a.given c.args.first end last order some a.tree c.give.new.tree a.intervals.state c.give.new.intervals.state a.again.items a.ops.items c.give.new.ops.items c.give.new.kept.items
+    let g = is-given a.given c.args.first end last order some a.tree c.give.new.tree a.intervals.state c.give.new.intervals.state
+    a.again.items a.ops.items c.give.new.ops.items c.give.new.kept.items
     a.usable before.again before.ahead c.in_ok-op.op gives h.doc h.front h.rest h.mine h.next h.sound h.holds in
     λ t. record {
-      parts = given-sound a.given c.args.first end order some a.tree c.give.new.tree a.intervals.state c.give.new.intervals.state a.again.items a.ops.items c.give.new.ops.items c.give.new.kept.items
+      parts = given-sound a.given c.args.first end order some a.tree c.give.new.tree a.intervals.state c.give.new.intervals.state
+          a.again.items a.ops.items c.give.new.ops.items c.give.new.kept.items
           c.in_ok-op.op gives before.parts;
       stands = c.in_ok-op.ensures.stands;
       again = subst (λ n. All (λ (t : PendingOp). t.stage ≤ n) c.give.new.kept.items) low
-          (kept-low a.given c.args.first end order some a.tree c.give.new.tree a.intervals.state c.give.new.intervals.state a.again.items a.ops.items c.give.new.ops.items c.give.new.kept.items
+          (kept-low a.given c.args.first end order some a.tree c.give.new.tree a.intervals.state c.give.new.intervals.state a.again.items
+          a.ops.items c.give.new.ops.items c.give.new.kept.items
           c.in_ok-op.op gives before.again);
       ahead = subst (λ n. All (λ (t : PendingOp). n < t.stage) c.give.new.ops.items) low
-          (given-ahead end h.doc h.front h.mine h.rest c.give.new.tree c.give.new.intervals.state c.give.new.ops.items c.give.new.kept.items c.in_ok-op.op (omega arith) h.next.behind g);
+          (given-ahead end h.doc h.front h.mine h.rest c.give.new.tree c.give.new.intervals.state c.give.new.ops.items
+          c.give.new.kept.items c.in_ok-op.op (omega arith) h.next.behind g);
     }
 
 pub returns-clause-op : goal.returns-clause-op
@@ -59,7 +63,8 @@ returns-clause-op c last doc front mine behind next sound holds =
     let up : top + 1 ≡ end = omega (arith, c.if-count-eq0.false) in
     let gives = subst (λ n. Gives c.args.first n a.tree c.give.new.tree a.intervals.state c.give.new.intervals.state a.ops.items c.give.new.ops.items a.again.items c.give.new.kept.items c.in_ok-op.op) up
     c.in_ok-op.ensures.gives in
-    (is-given a.given c.args.first end last order some a.tree c.give.new.tree a.intervals.state c.give.new.intervals.state a.again.items a.ops.items c.give.new.ops.items c.give.new.kept.items
+    (is-given a.given c.args.first end last order some a.tree c.give.new.tree a.intervals.state c.give.new.intervals.state a.again.items
+    a.ops.items c.give.new.ops.items c.give.new.kept.items
     a.usable before.again before.ahead c.in_ok-op.op gives doc front behind mine (subst (λ n. AreNext n c.args.first end front mine behind) (sym s) next) sound
     (subst (λ s. HoldsGiven s doc front (mine ++ behind)) (sym c.self.view_is) holds)).sends
 
@@ -75,6 +80,7 @@ returns-clause-holds c last doc front mine behind next sound holds =
     let up : top + 1 ≡ end = omega (arith, c.if-count-eq0.false) in
     let gives = subst (λ n. Gives c.args.first n a.tree c.give.new.tree a.intervals.state c.give.new.intervals.state a.ops.items c.give.new.ops.items a.again.items c.give.new.kept.items c.in_ok-op.op) up
     c.in_ok-op.ensures.gives in
-    (is-given a.given c.args.first end last order some a.tree c.give.new.tree a.intervals.state c.give.new.intervals.state a.again.items a.ops.items c.give.new.ops.items c.give.new.kept.items
+    (is-given a.given c.args.first end last order some a.tree c.give.new.tree a.intervals.state c.give.new.intervals.state a.again.items
+    a.ops.items c.give.new.ops.items c.give.new.kept.items
     a.usable before.again before.ahead c.in_ok-op.op gives doc front behind mine (subst (λ n. AreNext n c.args.first end front mine behind) (sym s) next) sound
     (subst (λ s. HoldsGiven s doc front (mine ++ behind)) (sym c.self.view_is) holds)).holds top true

@@ -16,10 +16,11 @@ returns-clause-saves c last held sound holds =
     let a = c.self.inside in
     let here = subst (λ s. HoldsText s held []) (sym c.self.view_is) holds in
     record {
-      text = ◌∙◌ {c = segments_from 0 (trim_list c.args.doc.now.min held.text).items} (c.put.ensures ∙ c.in_ok-text.ensures)
+      text = ◌∙◌ {c = segments_from 0 (trim_list c.args.doc.now.min held.text).items} (c.assign.ensures ∙ c.in_ok-text.ensures)
           (text-saved c.args.doc.now.min (text_elements a.tree) held.text.items (from-bare text_content (text_elements a.tree) held.text.items here.elements) sound.place.marks);
-      intervals = intervals-saved c.args.doc.now.min last a.tree a.intervals.state (a.again.items ++ a.ops.items) a.given a.usable held sound here c.first_stage-first.ensures.names (c.made_in-made.ensures.few 18446744073709551615)
-          c.put-2.new.place c.in_ok-intervals.intervals.items (c.put-2.ensures ∙ c.of.ensures) c.in_ok-intervals.ensures;
-      count = ap text_length (c.put.ensures ∙ c.in_ok-text.ensures)
+      intervals = intervals-saved c.args.doc.now.min last a.tree a.intervals.state (a.again.items ++ a.ops.items) a.given a.usable held
+          sound here c.first_stage-first.ensures.names (c.made_in-made.ensures.few 18446744073709551615)
+          c.assign-2.new.place c.in_ok-intervals.intervals.items (c.assign-2.ensures ∙ c.of.ensures) c.in_ok-intervals.ensures;
+      count = ap text_length (c.assign.ensures ∙ c.in_ok-text.ensures)
           ∙ segments-length c.args.doc.now.min a.tree.leaves held.text.items (from-bare text_content (text_elements a.tree) held.text.items here.elements) sound.place.marks;
     }

@@ -5,7 +5,8 @@ use Rattle.ft_string.specs.Holds.{HoldsText}
 use Rattle.ft_string.specs.State.{TextState}
 use Rattle.ft_zamboni.specs.Scours.{swept}
 use Rattle.ft_zamboni.proofs.SweptElements.{swept-go, swept-list}
-use Rattle.ft_string.proofs.Compacted.{compacted-sound, compacted-stands, compacts-text, text-clear}
+use Rattle.ft_string.proofs.Compacted.{compacted-stands, compacts-text, text-clear}
+use Rattle.ft_string.proofs.Documents.{moved-sound}
 use Rattle.ft_string.proofs.strings.SharedString.tidy.Goals as goal
 
 pub scour-requires-clause-clear : goal.scour-requires-clause-clear
@@ -25,8 +26,9 @@ invariant_of-self-2 c =
     let h = c.requires.held.1 in
     let by = λ (x : TextContent). x.by in
     λ t. record {
-      parts = compacted-sound a.tree c.scour.new.tree a.intervals.state _ e.refs e.usable before.parts;
-      stands = compacted-stands a.tree c.scour.new.tree a.intervals (a.again.items ++ a.ops.items) a.given a.usable c.args.floor c.requires.held.0 h.doc h.stages before.parts h.sound
+      parts = moved-sound a.tree c.scour.new.tree a.intervals.state _ e.refs e.usable before.parts;
+      stands = compacted-stands a.tree c.scour.new.tree a.intervals (a.again.items ++ a.ops.items) a.given a.usable c.args.floor
+          c.requires.held.0 h.doc h.stages before.parts h.sound
           (subst (λ s. HoldsText s h.doc h.stages) (sym c.self.view_is) h.holds) h.free (swept text_units by c.args.floor c.args.budget a.tree.leaves a.tree.sweep)
           (swept-go text_units by c.args.floor c.args.budget a.tree.leaves a.tree.sweep) (swept-list text_units by c.args.floor c.args.budget a.tree.leaves a.tree.sweep)
           e.elements e.refs before.stands;
