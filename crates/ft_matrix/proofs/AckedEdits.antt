@@ -1,5 +1,5 @@
 -- The stages of an edit acknowledged one after another: names go on to fit, and each renaming comes after those before.
-use Rattle.std.proofs.Common.{◌≡◌, ℕ, zero, suc, ◌+◌, ◌≤◌, ◌<◌, All, true, false, nat_eq, List, [], ◌∷◌, ◌++◌, Option, Some, None, refl, sym, ◌∙◌, ap, subst, map, drop, arith, append-nil}
+use Rattle.std.proofs.Common.{◌≡◌, ℕ, zero, suc, ◌+◌, ◌≤◌, ◌<◌, All, true, false, nat_eq, List, [], ◌∷◌, ◌++◌, refl, sym, ◌∙◌, ap, subst, map, drop, arith, append-nil}
 use Rattle.std.proofs.lemmas.Bool.Decides.{nat_tests}
 use Rattle.std.proofs.lemmas.List.Elements.{recursion_from_All}
 use Rattle.ft_base.specs.Scan.{len}
@@ -19,6 +19,7 @@ use Rattle.ft_laws_names.proofs.Beside.{ends, next}
 use Rattle.ft_laws_names.proofs.ClientsAlike.{ClientsAlike}
 use Rattle.ft_laws_names.proofs.OwnAlike.{AckedEdits, edit-alike, put-in-back, put-in-renamed, rise-renamed, stages-twice}
 use Rattle.ft_laws_names.specs.GridFacts.{AreCounted, IsCounted}
+use Rattle.ft_laws_agreement.proofs.NamedByPlace.{not-renamed}
 use Rattle.ft_matrix.specs.declared.grid.Grid.{Grid}
 use Rattle.ft_matrix.specs.declared.stages.GridStage.{GridStage}
 use Rattle.ft_matrix.specs.Acked.{AcksSome, AcksStage}
@@ -32,15 +33,12 @@ use Rattle.ft_matrix.proofs.HeldGrids.{alike-self, client_of, self-alike}
 
 -- ---- renamed stages
 
-renamed-itself : (o : Option ElementId) → renamed (λ i. i) o ≡ o
-renamed-itself None = refl
-renamed-itself (Some a) = refl
-
 pub stages-itself : (ts : List Stage) → map (renamed_stage (λ i. i)) ts ≡ ts
 stages-itself [] = refl
 stages-itself (t ∷ ts) =
-    ap (λ o. record t { names = record { first = o; second = renamed (λ i. i) t.names.second } } ∷ map (renamed_stage (λ i. i)) ts) (renamed-itself t.names.first)
-    ∙ ap (λ o. record t { names = record { first = t.names.first; second = o } } ∷ map (renamed_stage (λ i. i)) ts) (renamed-itself t.names.second) ∙ ap (λ us. t ∷ us) (stages-itself ts)
+    ap (λ o. record t { names = record { first = o; second = renamed (λ i. i) t.names.second } } ∷ map (renamed_stage (λ i. i)) ts) (not-renamed t.names.first)
+    ∙ ap (λ o. record t { names = record { first = t.names.first; second = o } } ∷ map (renamed_stage (λ i. i)) ts)
+    (not-renamed t.names.second) ∙ ap (λ us. t ∷ us) (stages-itself ts)
 
 rise-back : (f : ElementId → ElementId) (low last : ℕ) (ts : List Stage) → RiseTo low last (map (renamed_stage f) ts) → RiseTo low last ts
 rise-back f low last [] h = h
@@ -68,8 +66,10 @@ module _ (last s c : ℕ) (f : ElementId → ElementId) (t : Stage) (ts : List S
       e : AckedEdits last 0 ts ts (ack_stages s c f (t ∷ []) doc) (ack_stages s c f (t ∷ []) doc)
       e = edit-alike last s c 0 ts ts f f (t ∷ []) (t ∷ []) doc doc refl a.doc (first-stages a.pending) (put-in-back f (t ∷ ts) doc h.own) (rise-back f 0 last (t ∷ ts) h.rise)
 
-  pub one-acked : (old new : Grid) → IsSound old → AllByRecursion (λ (u : GridStage). t.stage ≤ u.stage) old.stages.items → Holds last old doc (map (renamed_stage f) (t ∷ ts))
-      → IsCounted doc t.stage t.sub_operation → AcksStage t.stage s c old new → Holds last new (ack_stage s c f t doc) (map (renamed_stage (λ x. later-name x)) ts)
+  pub one-acked : (old new : Grid) → IsSound old → AllByRecursion (λ (u : GridStage). t.stage ≤ u.stage) old.stages.items
+      → Holds last old doc (map (renamed_stage f) (t ∷ ts))
+      → IsCounted doc t.stage t.sub_operation → AcksStage t.stage s c old new
+      → Holds last new (ack_stage s c f t doc) (map (renamed_stage (λ x. later-name x)) ts)
   one-acked old new sound lowest h counted acks = record {
     named = acked-named h.named;
     holds = subst (λ us. HoldsGrid (grid_state new 0 true) (ack_stage s c f t doc) us) (stages-twice f (acked_id t.stage (made_before doc t.sub_operation)) ts)
@@ -78,13 +78,15 @@ module _ (last s c : ℕ) (f : ElementId → ElementId) (t : Stage) (ts : List S
 
 -- ---- the stages of an edit
 
-same-count : (k last s c : ℕ) (list : Sequence) (j : ℕ) → IsWellNumbered last list → k < j → len (is_inserted_by j) (acked_list k s c list).items ≡ len (is_inserted_by j) list.items
+same-count : (k last s c : ℕ) (list : Sequence) (j : ℕ) → IsWellNumbered last list → k < j
+    → len (is_inserted_by j) (acked_list k s c list).items ≡ len (is_inserted_by j) list.items
 same-count k last s c list j w l = stage-count last k s c list w j false (apart j l)
   where
     apart : (j : ℕ) → k < j → nat_eq j k ≡ false
     apart j l = grind (arith, nat_tests)
 
-one-counted : (last s c : ℕ) (f : ElementId → ElementId) (t : Stage) (doc : Document) (j : ℕ) (o : SubOperation) → IsWellNumbered last doc.rows → IsWellNumbered last doc.cols → t.stage < j
+one-counted : (last s c : ℕ) (f : ElementId → ElementId) (t : Stage) (doc : Document) (j : ℕ) (o : SubOperation)
+    → IsWellNumbered last doc.rows → IsWellNumbered last doc.cols → t.stage < j
     → IsCounted doc j o → IsCounted (ack_stage s c f t doc) j o
 one-counted last s c f t doc j (OnText op) w v l g = tt
 one-counted last s c f t doc j (OnIntervals op) w v l g = tt
@@ -93,7 +95,8 @@ one-counted last s c f t doc j (OnGrid (SpliceIn Cols i count)) w v l g = same-c
 one-counted last s c f t doc j (OnGrid (SpliceOut target i n)) w v l g = tt
 one-counted last s c f t doc j (OnGrid (Set i n value)) w v l g = tt
 
-later-counted : (last s c : ℕ) (f : ElementId → ElementId) (t : Stage) (doc : Document) (low : ℕ) (ts rest : List Stage) → IsWellNumbered last doc.rows → IsWellNumbered last doc.cols
+later-counted : (last s c : ℕ) (f : ElementId → ElementId) (t : Stage) (doc : Document) (low : ℕ) (ts rest : List Stage)
+    → IsWellNumbered last doc.rows → IsWellNumbered last doc.cols
     → t.stage ≤ low → RiseTo low last (ts ++ rest) → AllByRecursion (λ (u : Stage). IsCounted doc u.stage u.sub_operation) ts
     → AllByRecursion (λ (u : Stage). IsCounted (ack_stage s c f t doc) u.stage u.sub_operation) ts
 later-counted last s c f t doc low [] rest w v l r a = tt
@@ -147,7 +150,8 @@ module _ (last s c : ℕ) (doc : Document) (acked rest : List Stage) where
     counted = recursion_from_All (λ (t : Stage). IsCounted doc t.stage t.sub_operation) acked n;
   }
 
-  with-next : (k : ℕ) (old new : Grid) (left : List Stage) (t : Stage) (ts : List Stage) → left ≡ t ∷ ts → t.stage ≡ k → IsSound old → AllByRecursion (λ (u : GridStage). k ≤ u.stage) old.stages.items
+  with-next : (k : ℕ) (old new : Grid) (left : List Stage) (t : Stage) (ts : List Stage) → left ≡ t ∷ ts → t.stage ≡ k → IsSound old
+      → AllByRecursion (λ (u : GridStage). k ≤ u.stage) old.stages.items
       → AcksStage k s c old new → AcksSome last s c old doc acked left rest → AcksSome last s c new doc acked ts rest
   with-next k old new left t ts e m sound lowest acks p =
       let now = subst (λ us. Holds last old p.between (map (renamed_stage p.rename) (us ++ rest))) e p.now in
@@ -155,20 +159,25 @@ module _ (last s c : ℕ) (doc : Document) (acked rest : List Stage) where
       record {
         between = ack_stage s c p.rename t p.between;
         rename = λ x. acked_id t.stage (made_before p.between t.sub_operation) (p.rename x);
-        now = one-acked last s c p.rename t (ts ++ rest) p.between old new sound (subst (λ i. AllByRecursion (λ (u : GridStage). i ≤ u.stage) old.stages.items) (sym m) lowest) now counted.0
+        now = one-acked last s c p.rename t (ts ++ rest) p.between old new sound
+            (subst (λ i. AllByRecursion (λ (u : GridStage). i ≤ u.stage) old.stages.items) (sym m) lowest) now counted.0
             (subst (λ i. AcksStage i s c old new) (sym m) acks);
         same = ap (λ us. ack_stages s c p.rename us p.between) (sym e) ∙ p.same;
-        counted = later-counted last s c p.rename t p.between t.stage ts rest now.named.rows now.named.cols (omega arith) (rise-back p.rename t.stage last (ts ++ rest) now.named.rise.1) counted.1;
+        counted = later-counted last s c p.rename t p.between t.stage ts rest now.named.rows now.named.cols (omega arith)
+            (rise-back p.rename t.stage last (ts ++ rest) now.named.rise.1) counted.1;
       }
 
-  pub one-more-acked : (first count i k : ℕ) (old new : Grid) → k ≡ first + i → i < count → IsSound old → All (λ (u : GridStage). k ≤ u.stage) old.stages.items → AcksStage k s c old new
-      → map (λ (t : Stage). t.stage) acked ≡ numbers_from first count → AcksSome last s c old doc acked (drop i acked) rest → AcksSome last s c new doc acked (drop (i + 1) acked) rest
+  pub one-more-acked : (first count i k : ℕ) (old new : Grid) → k ≡ first + i → i < count → IsSound old
+      → All (λ (u : GridStage). k ≤ u.stage) old.stages.items → AcksStage k s c old new
+      → map (λ (t : Stage). t.stage) acked ≡ numbers_from first count → AcksSome last s c old doc acked (drop i acked) rest
+      → AcksSome last s c new doc acked (drop (i + 1) acked) rest
   one-more-acked first count i k old new e l sound lowest acks numbers p =
       let n = next-of acked first count i numbers l in
       subst (λ us. AcksSome last s c new doc acked us rest) (sym n.after)
       (with-next k old new (drop i acked) n.stage n.left n.is (n.number ∙ sym e) sound (recursion_from_All (λ (u : GridStage). k ≤ u.stage) old.stages.items lowest) acks p)
 
-  pub all-acked : (first count i : ℕ) (g : Grid) → count ≤ i → map (λ (t : Stage). t.stage) acked ≡ numbers_from first count → AcksSome last s c g doc acked (drop i acked) rest
+  pub all-acked : (first count i : ℕ) (g : Grid) → count ≤ i → map (λ (t : Stage). t.stage) acked ≡ numbers_from first count
+      → AcksSome last s c g doc acked (drop i acked) rest
       → HoldsGrid (grid_state g 0 true) (ack_stages s c (λ i. i) acked doc).0 (map (renamed_stage (ack_stages s c (λ i. i) acked doc).1) rest)
   all-acked first count i g l numbers p =
       let none = none-left acked first count i numbers l in

@@ -7,6 +7,7 @@ use Rattle.ft_op.specs.declared.operations.CellOp.{CellOp}
 use Rattle.ft_op.specs.declared.operations.CellOp.TheVariants.{SpliceIn, SpliceOut, Set}
 use Rattle.ft_props.specs.Properties.{ValueBytes}
 use Rattle.ft_cells.specs.CellTables.{CellState, acked_write, cell_at}
+use Rattle.ft_laws_agreement.proofs.NumberTests.{same_number}
 use Rattle.ft_matrix.specs.declared.grid.Grid.{Grid}
 use Rattle.ft_matrix.specs.declared.stages.GridStage.{GridStage}
 use Rattle.ft_matrix.specs.GridStates.{shown_stage}
@@ -18,9 +19,6 @@ use Rattle.ft_matrix.specs.Sound.{IsSound, IsSoundVector, StagesRise, is_handle,
 
 other-stage : (n k : ℕ) → k < n → nat_eq n k ≡ false
 other-stage n k l = grind (arith, nat_tests)
-
-same-stage : (n k : ℕ) → nat_eq n k ≡ true → n ≡ k
-same-stage n k e = grind (arith, nat_tests)
 
 higher-stage : (n k : ℕ) → k ≤ n → nat_eq n k ≡ false → k < n
 higher-stage n k l e = grind (arith, nat_tests)
@@ -34,7 +32,8 @@ written : (k n : ℕ) (value : ValueBytes) (b : Bool) (ws : List (ℕ × ValueBy
 written k n value true ws e = ap (λ c. cond (not c) ((n, value) ∷ without k ws) (without k ws)) e
 written k n value false ws e = refl
 
-dropped : (k n : ℕ) (value : ValueBytes) (b : Bool) (ws : List (ℕ × ValueBytes)) → nat_eq n k ≡ true → without k (cond b ((n, value) ∷ []) [] ++ ws) ≡ without k ws
+dropped : (k n : ℕ) (value : ValueBytes) (b : Bool) (ws : List (ℕ × ValueBytes)) → nat_eq n k ≡ true
+    → without k (cond b ((n, value) ∷ []) [] ++ ws) ≡ without k ws
 dropped k n value true ws e = ap (λ c. cond (not c) ((n, value) ∷ without k ws) (without k ws)) e
 dropped k n value false ws e = refl
 
@@ -67,7 +66,7 @@ module _ (row col k : ℕ) where
     where
       step : (b : Bool) → nat_eq t.stage k ≡ b → without k (write_of row col t ++ writes_to row col stages) ≡ writes_to row col (cond b stages (t ∷ stages))
       step true e = one-dropped t (writes_to row col stages) e
-          ∙ later-kept t.stage stages (let s = same-stage t.stage k e in omega arith) r.1
+          ∙ later-kept t.stage stages (let s = same_number t.stage k e in omega arith) r.1
       step false e = one-kept t (writes_to row col stages) e ∙ ap (λ ws. write_of row col t ++ ws) (later-kept t.stage stages a.0 r.1)
 
 -- ---- the stages left
@@ -94,12 +93,13 @@ above-after k [] a r = tt
 above-after k (t ∷ stages) a r = step (nat_eq t.stage k) refl
   where
     step : (b : Bool) → nat_eq t.stage k ≡ b → AllByRecursion (λ (t : GridStage). k + 1 ≤ t.stage) (cond b stages (t ∷ stages))
-    step true e = rise-above k t.stage stages (let s = same-stage t.stage k e in omega arith) r.1
+    step true e = rise-above k t.stage stages (let s = same_number t.stage k e in omega arith) r.1
     step false e = (let h = higher-stage t.stage k a.0 e in omega arith, rise-above k t.stage stages a.0 r.1)
 
 -- ---- the grid
 
-module _ (k s c : ℕ) (old new : Grid) (sound : IsSound old) (lowest : All (λ (t : GridStage). k ≤ t.stage) old.stages.items) (acks : AcksStage k s c old new) where
+module _ (k s c : ℕ) (old new : Grid) (sound : IsSound old) (lowest : All (λ (t : GridStage). k ≤ t.stage) old.stages.items)
+    (acks : AcksStage k s c old new) where
   pub acked-lowest : All (λ (t : GridStage). k + 1 ≤ t.stage) new.stages.items
   acked-lowest = All-from_recursion (λ (t : GridStage). k + 1 ≤ t.stage) new.stages.items
       (subst (AllByRecursion (λ (t : GridStage). k + 1 ≤ t.stage)) (sym acks.stages)
@@ -130,7 +130,8 @@ module _ (k s c : ℕ) (old before mid : Grid) (front : before.stages.items ≡ 
     (cells : (r g : ℕ) → cell_at before.cells r g ≡ acked_write k (cell_at old.cells r g)) (sound : IsSound old)
     (lowest : All (λ (t : GridStage). k ≤ t.stage) old.stages.items) (row-sound : IsSoundVector before.rows) (col-sound : IsSoundVector before.cols)
     (rest : mid ≡ record before { stages = mid.stages }) (stages : mid.stages.items ≡ after_stage k before.stages.items) where
-  counted : (t : Option GridStage) (new : Grid) → t ≡ acked_stage k before.stages.items → new ≡ record mid { rows_made = new.rows_made; cols_made = new.cols_made }
+  counted : (t : Option GridStage) (new : Grid) → t ≡ acked_stage k before.stages.items
+      → new ≡ record mid { rows_made = new.rows_made; cols_made = new.cols_made }
       → new.rows_made ≡ mid.rows_made + rows_put_by t → new.cols_made ≡ mid.cols_made + cols_put_by t → AcksStage k s c old new
   counted t new taken after r g = record {
     rows = subst (AcksUnits k s c old.rows) (sym (ap (λ (x : Grid). x.rows) after ∙ ap (λ (x : Grid). x.rows) rest)) rows;
@@ -163,6 +164,7 @@ all-back : {A B : Type 0} (P : B → Type 0) (f : A → B) (xs : List A) → All
 all-back P f [] a = tt
 all-back P f (x ∷ xs) a = (a.0, all-back P f xs a.1)
 
-pub lowest-stages : (k : ℕ) (g : Grid) → All (λ t. k ≤ t.stage) (map (shown_stage g.rows g.cols) g.stages.items) → All (λ (t : GridStage). k ≤ t.stage) g.stages.items
+pub lowest-stages : (k : ℕ) (g : Grid) → All (λ t. k ≤ t.stage) (map (shown_stage g.rows g.cols) g.stages.items)
+    → All (λ (t : GridStage). k ≤ t.stage) g.stages.items
 lowest-stages k g a = All-from_recursion (λ (t : GridStage). k ≤ t.stage) g.stages.items
     (all-back (λ t. k ≤ t.stage) (shown_stage g.rows g.cols) g.stages.items (recursion_from_All (λ t. k ≤ t.stage) (map (shown_stage g.rows g.cols) g.stages.items) a))

@@ -78,7 +78,8 @@ list-name : (last k m : ℕ) (list : Sequence) (a : ElementId) → IsWellNumbere
     → acked_id k list.made a ≡ acked_id k m a
 list-name last k m list a w l z = unstaged last k list.made list a w z l ∙ sym (unstaged last k m list a w z l)
 
-rows-name : (last k : ℕ) (doc : Document) (o : SubOperation) → IsWellNumbered last doc.rows → (inserts_rows o ≡ false → len (is_inserted_by k) doc.rows.items ≡ 0)
+rows-name : (last k : ℕ) (doc : Document) (o : SubOperation) → IsWellNumbered last doc.rows
+    → (inserts_rows o ≡ false → len (is_inserted_by k) doc.rows.items ≡ 0)
     → (a : ElementId) → 1 ≤ len (has_id a) doc.rows.items → acked_id k doc.rows.made a ≡ acked_id k (made_before doc o) a
 rows-name last k doc (OnText op) w z a l = list-name last k _ doc.rows a w l (z refl)
 rows-name last k doc (OnIntervals op) w z a l = list-name last k _ doc.rows a w l (z refl)
@@ -87,7 +88,8 @@ rows-name last k doc (OnGrid (SpliceIn Cols i count)) w z a l = list-name last k
 rows-name last k doc (OnGrid (SpliceOut target i j)) w z a l = list-name last k _ doc.rows a w l (z refl)
 rows-name last k doc (OnGrid (Set i j value)) w z a l = list-name last k _ doc.rows a w l (z refl)
 
-cols-name : (last k : ℕ) (doc : Document) (o : SubOperation) → IsWellNumbered last doc.cols → (inserts_cols o ≡ false → len (is_inserted_by k) doc.cols.items ≡ 0)
+cols-name : (last k : ℕ) (doc : Document) (o : SubOperation) → IsWellNumbered last doc.cols
+    → (inserts_cols o ≡ false → len (is_inserted_by k) doc.cols.items ≡ 0)
     → (a : ElementId) → 1 ≤ len (has_id a) doc.cols.items → acked_id k doc.cols.made a ≡ acked_id k (made_before doc o) a
 cols-name last k doc (OnText op) w z a l = list-name last k _ doc.cols a w l (z refl)
 cols-name last k doc (OnIntervals op) w z a l = list-name last k _ doc.cols a w l (z refl)
@@ -130,7 +132,8 @@ record Front (k : ℕ) (o : SubOperation) (n : NamedElements) (doc : Document) (
 same-operation : {o p : CellOp} → OnGrid o ≡ OnGrid p → o ≡ p
 same-operation e = cc e
 
-front : (last k : ℕ) (o : SubOperation) (n : NamedElements) (doc : Document) (us : List Stage) (rows cols : VectorState) (items : List GridStage) → RiseTo k last us
+front : (last k : ℕ) (o : SubOperation) (n : NamedElements) (doc : Document) (us : List Stage) (rows cols : VectorState)
+    (items : List GridStage) → RiseTo k last us
     → grid_stages doc (record { stage = k; sub_operation = o; names = n } ∷ us) ≡ map (shown_stage rows cols) items → Front k o n doc us rows cols items
 front last k (OnText op) n doc us rows cols items r e =
     let f = later-front last k k doc rows cols us (omega arith) r items e in
@@ -157,7 +160,8 @@ abbrev Renames : (ElementId → ElementId) → List ListElement → List (TreeEl
 Renames f xs es ys gs = (a : ElementId) (h : ℕ) → 1 ≤ len (has_id a) xs → rank (has_id a) (λ _. true) xs ≡ rank (has_handle h) (λ _. true) es
     → rank (has_id (f a)) (λ _. true) ys ≡ rank (has_handle h) (λ _. true) gs
 
-end-renamed : (f : ElementId → ElementId) (xs ys : List ListElement) (v w : VectorState) → Renames f xs (units_of v) ys (units_of w) → (o : Option ElementId) (p : Option ℕ)
+end-renamed : (f : ElementId → ElementId) (xs ys : List ListElement) (v w : VectorState) → Renames f xs (units_of v) ys (units_of w)
+    → (o : Option ElementId) (p : Option ℕ)
     → StandsIn xs o → place_in_list xs o ≡ place_of_handle v p → place_in_list ys (renamed f o) ≡ place_of_handle w p
 end-renamed f xs ys v w m None None t e = refl
 end-renamed f xs ys v w m None (Some h) t e = (cc)
@@ -194,8 +198,10 @@ module _ (f : ElementId → ElementId) (doc later : Document) (rows cols rows' c
     where
       step : (k : ℕ) (o : SubOperation) (names : NamedElements) (vs : List GridStage) → AreThere doc o names
           → grid_stages doc (record { stage = k; sub_operation = o; names = names } ∷ stages) ≡ map (shown_stage rows cols) vs
-          → ((ws : List GridStage) → grid_stages doc stages ≡ map (shown_stage rows cols) ws → grid_stages later (map (renamed_stage f) stages) ≡ map (shown_stage rows' cols') ws)
-          → grid_stages later (record { stage = k; sub_operation = o; names = renamed_names f names } ∷ map (renamed_stage f) stages) ≡ map (shown_stage rows' cols') vs
+          → ((ws : List GridStage) → grid_stages doc stages ≡ map (shown_stage rows cols) ws
+          → grid_stages later (map (renamed_stage f) stages) ≡ map (shown_stage rows' cols') ws)
+          → grid_stages later (record { stage = k; sub_operation = o; names = renamed_names f names } ∷ map (renamed_stage f) stages)
+          ≡ map (shown_stage rows' cols') vs
       step k (OnText op) names vs th g ih = ih vs g
       step k (OnIntervals op) names vs th g ih = ih vs g
       step k (OnGrid op) names [] th g ih = (cc)
@@ -227,7 +233,8 @@ written_by h g None = None
 written_by h g (Some t) = written_op h g t.row t.col t.op
 
 module _ (h g k : ℕ) where
-  other-lookup : (t : GridStage) (ws : List (ℕ × ValueBytes)) → nat_eq t.stage k ≡ false → lookup (λ j. nat_eq j k) (write_of h g t ++ ws) ≡ lookup (λ j. nat_eq j k) ws
+  other-lookup : (t : GridStage) (ws : List (ℕ × ValueBytes)) → nat_eq t.stage k ≡ false
+      → lookup (λ j. nat_eq j k) (write_of h g t ++ ws) ≡ lookup (λ j. nat_eq j k) ws
   other-lookup t ws e = by t.op
     where
       by : (op : CellOp) → lookup (λ j. nat_eq j k) (write_of h g (record t { op = op }) ++ ws) ≡ lookup (λ j. nat_eq j k) ws
@@ -265,7 +272,8 @@ FrontWrites (OnGrid (Set i j value)) n doc rows cols t = (v : GridStage) × ((t 
 FrontWrites _ n doc rows cols t = (h g : ℕ) → written_by h g t ≡ None
 
 front-op : (k : ℕ) (op : CellOp) (n : NamedElements) (doc : Document) (rows cols : VectorState) (v : GridStage)
-    → indexed_stage doc (record { stage = k; sub_operation = OnGrid op; names = n }) ≡ shown_stage rows cols v → FrontWrites (OnGrid op) n doc rows cols (Some v)
+    → indexed_stage doc (record { stage = k; sub_operation = OnGrid op; names = n }) ≡ shown_stage rows cols v
+    → FrontWrites (OnGrid op) n doc rows cols (Some v)
 front-op k (SpliceIn list p count) n doc rows cols v e = λ h g. ap (written_op h g v.row v.col) (sym (same-operation (ap (λ (s : IndexedStage). s.sub_operation) e)))
 front-op k (SpliceOut list p q) n doc rows cols v e = λ h g. ap (written_op h g v.row v.col) (sym (same-operation (ap (λ (s : IndexedStage). s.sub_operation) e)))
 front-op k (Set i j value) n doc rows cols v e = (
@@ -279,8 +287,10 @@ front-op k (Set i j value) n doc rows cols v e = (
   ),
 )
 
-front-writes : (last k : ℕ) (o : SubOperation) (n : NamedElements) (doc : Document) (us : List Stage) (rows cols : VectorState) (items : List GridStage) → RiseTo k last us
-    → grid_stages doc (record { stage = k; sub_operation = o; names = n } ∷ us) ≡ map (shown_stage rows cols) items → FrontWrites o n doc rows cols (acked_stage k items)
+front-writes : (last k : ℕ) (o : SubOperation) (n : NamedElements) (doc : Document) (us : List Stage) (rows cols : VectorState)
+    (items : List GridStage) → RiseTo k last us
+    → grid_stages doc (record { stage = k; sub_operation = o; names = n } ∷ us) ≡ map (shown_stage rows cols) items
+    → FrontWrites o n doc rows cols (acked_stage k items)
 front-writes last k (OnText op) n doc us rows cols items r e = λ h g. ap (written_by h g) (later-front last k k doc rows cols us (omega arith) r items e).0
 front-writes last k (OnIntervals op) n doc us rows cols items r e = λ h g. ap (written_by h g) (later-front last k k doc rows cols us (omega arith) r items e).0
 front-writes last k (OnGrid op) n doc us rows cols [] r e = (cc)
@@ -289,7 +299,8 @@ front-writes last k (OnGrid op) n doc us rows cols (v ∷ vs) r e =
     let number : nat_eq v.stage k ≡ true = ap (λ i. nat_eq i k) (sym (ap (λ (s : IndexedStage). s.stage) here)) ∙ same-number k in
     subst (λ b. FrontWrites (OnGrid op) n doc rows cols (cond b (Some v) None)) (sym number) (front-op k op n doc rows cols v here)
 
-row-value : (k : ℕ) (doc : Document) → HasNoCellsAhead doc → (i col : ElementId) → cell_value (acked_id k doc.rows.made i) col doc.cells ≡ cell_value i col doc.cells
+row-value : (k : ℕ) (doc : Document) → HasNoCellsAhead doc → (i col : ElementId)
+    → cell_value (acked_id k doc.rows.made i) col doc.cells ≡ cell_value i col doc.cells
 row-value k doc n (SequencedId m) col = refl
 row-value k doc n (PendingId j m) col = step (nat_eq j k)
   where
@@ -297,7 +308,8 @@ row-value k doc n (PendingId j m) col = step (nat_eq j k)
     step true = n.rows (SequencedId (doc.rows.made + m)) col (omega arith) ∙ sym (n.rows (PendingId j m) col tt)
     step false = refl
 
-col-value : (k : ℕ) (doc : Document) → HasNoCellsAhead doc → (row i : ElementId) → cell_value row (acked_id k doc.cols.made i) doc.cells ≡ cell_value row i doc.cells
+col-value : (k : ℕ) (doc : Document) → HasNoCellsAhead doc → (row i : ElementId)
+    → cell_value row (acked_id k doc.cols.made i) doc.cells ≡ cell_value row i doc.cells
 col-value k doc n row (SequencedId m) = refl
 col-value k doc n row (PendingId j m) = step (nat_eq j k)
   where
@@ -306,7 +318,8 @@ col-value k doc n row (PendingId j m) = step (nat_eq j k)
     step false = refl
 
 -- a name that stands and is of a stage before k stays
-old-same : (inserts : SubOperation → Bool) (last k s c : ℕ) (t : Stage) (us : List Stage) (list : Sequence) → t.stage ≡ k → IsWellNumbered last list → RiseTo 0 last (t ∷ us)
+old-same : (inserts : SubOperation → Bool) (last k s c : ℕ) (t : Stage) (us : List Stage) (list : Sequence) → t.stage ≡ k
+    → IsWellNumbered last list → RiseTo 0 last (t ∷ us)
     → ArePutIn inserts (t ∷ us) list.items → (a : ElementId) → 1 ≤ len (has_id a) list.items → IsNamedBefore k (Some a) → (u : ElementId) → IsBelow list.made u
     → same_id a (acked_id k list.made u) ≡ same_id a u
 old-same inserts last k s c t us list e w r h (SequencedId m) l b u g = same-acked k list.made (SequencedId m) u (stands-below last k s c list w (SequencedId m) l) g
@@ -315,7 +328,8 @@ old-same inserts last k s c t us list e w r h (PendingId j n) l b u g =
     let absent = w.counted j n (omega arith) in
     absurd (omega arith)
 
-both-named : (P Q : ElementId → ℕ → Type 0) {xs : List ListElement} {es : List (TreeElement ℕ)} → BesideUnits (HandleNamed P) xs es → BesideUnits (HandleNamed Q) xs es
+both-named : (P Q : ElementId → ℕ → Type 0) {xs : List ListElement} {es : List (TreeElement ℕ)} → BesideUnits (HandleNamed P) xs es
+    → BesideUnits (HandleNamed Q) xs es
     → BesideUnits (HandleNamed (λ a h. P a h × Q a h)) xs es
 both-named P Q p q = beside-more (λ x e u. (u.0.0, (u.0.1, u.1.1))) (beside-both p q)
 
@@ -324,13 +338,16 @@ module _ (last k s c : ℕ) (doc : Document) (w : IsWellNumbered last doc.rows) 
     (pc : BesideUnits (HandleNamed Pc) doc.cols.items gs)
     (value-of : (a b : ElementId) (h g : ℕ) → IsBelow doc.rows.made a → IsBelow doc.cols.made b → Pr a h → Pc b g → cell_value a b doc.cells ≡ handle_value old h g
     → cell_value (acked_id k doc.rows.made a) (acked_id k doc.cols.made b) cells ≡ handle_value new h g) where
-  later-cells : HoldsUnits (acked_list k s c doc.rows).items (acked_list k s c doc.cols).items cells (map (tree.acked_element k s c None) es) (map (tree.acked_element k s c None) gs) new
+  later-cells : HoldsUnits (acked_list k s c doc.rows).items (acked_list k s c doc.cols).items cells
+      (map (tree.acked_element k s c None) es) (map (tree.acked_element k s c None) gs) new
   later-cells = record {
     rows = units-acked k s c doc.rows.made (λ a h. Pr a h × RowHolds doc.cols.items gs doc.cells old a h)
         (RowHolds (acked_list k s c doc.cols).items (map (tree.acked_element k s c None) gs) cells new)
         (λ a h l q. units-acked k s c doc.cols.made (λ b g. Pc b g × (cell_value a b doc.cells ≡ handle_value old h g))
         (λ b g. cell_value (acked_id k doc.rows.made a) b cells ≡ handle_value new h g)
-        (λ b g m r. value-of a b h g l m q.0 r.0 r.1) (below k s c last doc.cols v) (both-named Pc (λ b g. cell_value a b doc.cells ≡ handle_value old h g) pc q.1)) (below k s c last doc.rows w) (both-named Pr (RowHolds doc.cols.items gs doc.cells old) pr hu.rows);
+        (λ b g m r. value-of a b h g l m q.0 r.0 r.1) (below k s c last doc.cols v)
+        (both-named Pc (λ b g. cell_value a b doc.cells ≡ handle_value old h g) pc q.1)) (below k s c last doc.rows w)
+        (both-named Pr (RowHolds doc.cols.items gs doc.cells old) pr hu.rows);
     cols = beside-more (λ x e q. q.0) (units-acked k s c doc.cols.made (λ b g. Unit {0}) (λ b g. Unit {0}) (λ b g m r. tt) (below k s c last doc.cols v)
         (beside-more (λ x e u. (u, tt)) hu.cols));
   }
@@ -394,9 +411,11 @@ module _ (last s c : ℕ) (old new : Grid) (doc : Document) (k : ℕ) (o : SubOp
 
     both : (a b : ElementId) (x y : ℕ) → v.row ≡ Some x → v.col ≡ Some y → 1 ≤ len (has_id a) doc.rows.items → 1 ≤ len (has_id b) doc.cols.items
         → IsNamedBefore k (Some a) → IsNamedBefore k (Some b) → rank (has_id a) (λ _. true) doc.rows.items ≡ rank (has_handle x) (λ _. true) (units_of old.rows)
-        → rank (has_id b) (λ _. true) doc.cols.items ≡ rank (has_handle y) (λ _. true) (units_of old.cols) → AckedUnits (write_cell (record { row = a; col = b; value = value }) doc.cells)
+        → rank (has_id b) (λ _. true) doc.cols.items ≡ rank (has_handle y) (λ _. true) (units_of old.cols)
+        → AckedUnits (write_cell (record { row = a; col = b; value = value }) doc.cells)
     both a b x y e f there here before other p q =
-        later-cells last k s c doc h.named.rows h.named.cols (units_of old.rows) (units_of old.cols) old.cells new.cells (write_cell (record { row = a; col = b; value = value }) doc.cells) hu
+        later-cells last k s c doc h.named.rows h.named.cols (units_of old.rows) (units_of old.cols) old.cells new.cells
+        (write_cell (record { row = a; col = b; value = value }) doc.cells) hu
         (MeetsAt a x) (MeetsAt b y) (meet-at a x h.named.rows.once sound.rows.proper.once (rows-beside hu) p) (meet-at b y h.named.cols.once sound.cols.proper.once hu.cols q)
         (λ u w r g l m t z g'.
         value-write (acked_id k doc.rows.made u) (acked_id k doc.cols.made w) (record { row = a; col = b; value = value }) doc.cells
@@ -411,8 +430,10 @@ module _ (last s c : ℕ) (old new : Grid) (doc : Document) (k : ℕ) (o : SubOp
         (writes r g ∙ ap (λ d. cond (is_handle r d && is_handle g v.col) (Some value) None) e ∙ ap (λ d. cond (nat_eq r x && is_handle g d) (Some value) None) f)
         ∙ value-written value (nat_eq r x && nat_eq g y) (cell_at old.cells r g).acked))
 
-    some-write : (a b : Option ElementId) (x y : Option ℕ) → v.row ≡ x → v.col ≡ y → StandsIn doc.rows.items a → StandsIn doc.cols.items b → IsNamedBefore k a → IsNamedBefore k b
-        → place_in_list doc.rows.items a ≡ place_of_handle old.rows x → place_in_list doc.cols.items b ≡ place_of_handle old.cols y → AckedUnits (write_named_cell a b value doc.cells)
+    some-write : (a b : Option ElementId) (x y : Option ℕ) → v.row ≡ x → v.col ≡ y → StandsIn doc.rows.items a → StandsIn doc.cols.items b
+        → IsNamedBefore k a → IsNamedBefore k b
+        → place_in_list doc.rows.items a ≡ place_of_handle old.rows x → place_in_list doc.cols.items b ≡ place_of_handle old.cols y
+        → AckedUnits (write_named_cell a b value doc.cells)
     some-write None b x y e f t z before other p q = no-row (e ∙ none-placed old.rows x p)
     some-write (Some a) None x y e f t z before other p q = no-col (f ∙ none-placed old.cols y q)
     some-write (Some a) (Some b) None y e f t z before other p q = (cc)
@@ -439,10 +460,12 @@ module _ (last s c : ℕ) (old new : Grid) (doc : Document) (k : ℕ) (o : SubOp
     cells = cells_after_stage o n doc.cells;
   })
 
-  later-units : HoldsUnits (acked_list k s c doc.rows).items (acked_list k s c doc.cols).items (cells_after_stage o n doc.cells) (units_of new.rows) (units_of new.cols) new.cells
+  later-units : HoldsUnits (acked_list k s c doc.rows).items (acked_list k s c doc.cols).items (cells_after_stage o n doc.cells)
+      (units_of new.rows) (units_of new.cols) new.cells
   later-units = subst (λ es. HoldsUnits (acked_list k s c doc.rows).items (acked_list k s c doc.cols).items (cells_after_stage o n doc.cells) es (units_of new.cols) new.cells)
       (sym acks.rows.units)
-      (subst (λ gs. HoldsUnits (acked_list k s c doc.rows).items (acked_list k s c doc.cols).items (cells_after_stage o n doc.cells) (map (tree.acked_element k s c None) (units_of old.rows)) gs new.cells)
+      (subst (λ gs. HoldsUnits (acked_list k s c doc.rows).items (acked_list k s c doc.cols).items (cells_after_stage o n doc.cells)
+      (map (tree.acked_element k s c None) (units_of old.rows)) gs new.cells)
       (sym acks.cols.units)
       (cells-acked o h.named.stages.0.0 (front-writes last k o n doc us old.rows old.cols old.stages.items h.named.rise.1 h.holds.stages) refl))
 

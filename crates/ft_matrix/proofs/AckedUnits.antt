@@ -15,9 +15,10 @@ use Rattle.ft_laws_agreement.proofs.SlidEnds.{true-false}
 use Rattle.ft_laws_names.specs.WellNamed.{IsWellNumbered, has_odd_removal}
 use Rattle.ft_laws_names.proofs.AckedLists.{IsBelow, acked-id, same-acked, stands-below}
 use Rattle.ft_laws_names.proofs.Beside.{ends, next}
+use Rattle.ft_laws_names.proofs.ForeignAlike.{all-behind}
 use Rattle.ft_matrix.specs.Units.{has_handle}
 use Rattle.ft_matrix.proofs.HeldGrids.{HandlesOnce, MeetsAt, meet-at, meets-rank}
-use Rattle.ft_matrix.proofs.UnitLists.{BesideUnits, HandleNamed, IsUnit, all-behind}
+use Rattle.ft_matrix.proofs.UnitLists.{BesideUnits, HandleNamed, IsUnit}
 
 module _ (k s c : ℕ) where
   -- ---- one unit
@@ -108,7 +109,8 @@ module _ (k s c : ℕ) where
 
     pub meets-acked : (a : ElementId) (h : ℕ) → 1 ≤ len (has_id a) list.items → {es : List (TreeElement ℕ)} → HandlesOnce es → BesideUnits IsUnit list.items es
         → rank (has_id a) (λ _. true) list.items ≡ rank (has_handle h) (λ _. true) es
-        → rank (has_id (acked_id k list.made a)) (λ _. true) (acked_list k s c list).items ≡ rank (has_handle h) (λ _. true) (map (tree.acked_element k s c None) es)
+        → rank (has_id (acked_id k list.made a)) (λ _. true) (acked_list k s c list).items
+        ≡ rank (has_handle h) (λ _. true) (map (tree.acked_element k s c None) es)
     meets-acked a h there o us r =
         meets-rank (acked_id k list.made a) h (units-acked list.made (MeetsAt a h) (MeetsAt (acked_id k list.made a) h)
         (λ b g l q. same-acked k list.made a b (stands-below last k s c list w a there) l ∙ q) below (meet-at a h w.once o us r))

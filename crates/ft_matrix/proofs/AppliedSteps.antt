@@ -23,7 +23,8 @@ drop-all [] (suc i) l = refl
 drop-all (x ∷ xs) zero l = absurd (omega arith)
 drop-all (x ∷ xs) (suc i) l = drop-all xs i (omega arith)
 
-pub all-rest : {A : Type 0} (P : A → Type 0) (xs : List A) (i : ℕ) (x : A) → i < length xs → x ≡ get_or xs i x → AllByRecursion P (drop i xs) → P x × AllByRecursion P (drop (i + 1) xs)
+pub all-rest : {A : Type 0} (P : A → Type 0) (xs : List A) (i : ℕ) (x : A) → i < length xs → x ≡ get_or xs i x
+    → AllByRecursion P (drop i xs) → P x × AllByRecursion P (drop (i + 1) xs)
 all-rest P xs i x l e a = subst (AllByRecursion P) (drop-item xs i x l e) a
 
 module _ (last s c r : ℕ) where

@@ -15,6 +15,7 @@ use Rattle.ft_props.specs.Properties.{ValueBytes}
 use Rattle.ft_msg.specs.Content.{cell_record}
 use Rattle.ft_cells.specs.declared.cells.CellKey.{CellKey}
 use Rattle.ft_cells.specs.CellTables.{CellList, CellState, cell_at, holds_value, is_key, last_value, shown_value, unless_null}
+use Rattle.ft_laws_agreement.proofs.SideBySideStages.{none-counted}
 use Rattle.ft_matrix.specs.declared.seen.SeenRuns.{SeenRuns}
 use Rattle.ft_matrix.specs.Seen.{ArePlaced, HoldsRuns, PlacesCell, PlacesHandle, cell_of, place_cmp, shown_among, shown_at, value_at}
 use Rattle.ft_matrix.specs.Units.{placed_cells, placed_row}
@@ -126,14 +127,6 @@ one-placed cells rows cols key old new x y v f g s n hs gs keys a b p i j =
 
 -- ---- all keys
 
-none-any : {A : Type 0} (test : A → Bool) (xs : List A) → len test xs ≡ 0 → list_any test xs ≡ false
-none-any test [] e = refl
-none-any test (x ∷ xs) e = step (test x) e (none-any test xs)
-  where
-    step : (b : Bool) → one_more_if b (len test xs) ≡ 0 → (len test xs ≡ 0 → list_any test xs ≡ false) → b || list_any test xs ≡ false
-    step true n r = absurd (omega arith)
-    step false n r = r n
-
 some-any : {A : Type 0} (test : A → Bool) (xs : List A) → 1 ≤ len test xs → list_any test xs ≡ true
 some-any test [] l = absurd (omega arith)
 some-any test (x ∷ xs) l = step (test x) l (some-any test xs)
@@ -144,7 +137,7 @@ some-any test (x ∷ xs) l = step (test x) l (some-any test xs)
 
 any-once : {A : Type 0} (test : A → Bool) (xs : List A) (b : Bool) → len test xs ≡ one_more_if b 0 → list_any test xs ≡ b
 any-once test xs true e = some-any test xs (omega arith)
-any-once test xs false e = none-any test xs e
+any-once test xs false e = none-counted test xs e
 
 shown-held : (cell : CellState) → cond (holds_value cell) (shown_value cell) None ≡ shown_value cell
 shown-held cell = step (last_value cell.acked cell.pending)
@@ -160,7 +153,8 @@ all-among cells keys hs gs placed once p i j =
     p i j ∙ value-same (shown_among keys cells) (shown_at cells) hs gs i j (λ r c d e.
     ap (λ b. cond b (shown_at cells r c) None) (any-once (is_key r c) keys (holds_value (cell_at cells r c)) (once r c)) ∙ shown-held (cell_at cells r c))
 
-pub none-among : (cells : CellList) (hs gs : List ℕ) (placed : BTreeMap (ℕ × ℕ) ValueBytes) → placed.entries ≡ [] → ArePlaced (shown_among [] cells) hs gs placed
+pub none-among : (cells : CellList) (hs gs : List ℕ) (placed : BTreeMap (ℕ × ℕ) ValueBytes) → placed.entries ≡ []
+    → ArePlaced (shown_among [] cells) hs gs placed
 none-among cells hs gs placed e i j =
     ap (λ (es : List ((ℕ × ℕ) × ValueBytes)). lookup (is_at (place_cmp (i, j))) es) e ∙ step (slice_get hs i) (slice_get gs j)
   where
@@ -241,7 +235,8 @@ none-behind k (e ∷ es) a = ap (λ o. cond (is_eq o) (Some e.1) (look k es)) a.
 look-head : (e : Entry) (es : List Entry) → look e.0 (e ∷ es) ≡ Some e.1
 look-head e es = ap (λ b. cond b (Some e.1) (look e.0 es)) (at-itself e.0)
 
-none-below : (k : ℕ × ℕ) (e : Entry) (es : List Entry) → place_cmp k e.0 ≡ Less → AllByRecursion (λ y. place_cmp e.0 y ≡ Less) (keys_of es) → look k (e ∷ es) ≡ None
+none-below : (k : ℕ × ℕ) (e : Entry) (es : List Entry) → place_cmp k e.0 ≡ Less → AllByRecursion (λ y. place_cmp e.0 y ≡ Less) (keys_of es)
+    → look k (e ∷ es) ≡ None
 none-below k e es l a =
     none-behind k (e ∷ es) (l, all-weaker (λ (y : ℕ × ℕ). place_cmp e.0 y ≡ Less) (λ (y : ℕ × ℕ). place_cmp k y ≡ Less) (λ y m. less-chain k e.0 y l m) (keys_of es) a)
 
@@ -259,7 +254,8 @@ apart-keys x y = step (nat_lt x.0 y.0) (nat_lt y.0 x.0) (nat_lt x.1 y.1) (nat_lt
         let second : x.1 ≡ y.1 = grind (arith, nat_tests) in
         inr (inl (ap (λ (i : ℕ). (i, x.1)) first ∙ ap (λ (j : ℕ). (y.0, j)) second))
 
-same-entries : (es fs : List Entry) → IsStrictlySortedBy place_cmp (keys_of es) → IsStrictlySortedBy place_cmp (keys_of fs) → ((q : ℕ × ℕ) → look q es ≡ look q fs) → es ≡ fs
+same-entries : (es fs : List Entry) → IsStrictlySortedBy place_cmp (keys_of es) → IsStrictlySortedBy place_cmp (keys_of fs)
+    → ((q : ℕ × ℕ) → look q es ≡ look q fs) → es ≡ fs
 unfolding IsStrictlySortedBy
 same-entries [] [] s t h = refl
 same-entries [] (f ∷ fs) s t h = let found = look-head f fs in let e = h f.0 in absurd (cc)
@@ -356,7 +352,8 @@ module _ (v : ℕ → ℕ → Value) where
   keys-behind i j [] a = tt
   keys-behind i j (c ∷ cs) a = (a.0, keys-behind i j cs a.1)
 
-  rises-one : (i j : ℕ) (o : Value) (cs : List CellRec) → Rises cs → AllByRecursion (λ c. place_cmp (i, j) (c.row, c.col) ≡ Less) cs → Rises (cell_record i j o ++ cs)
+  rises-one : (i j : ℕ) (o : Value) (cs : List CellRec) → Rises cs → AllByRecursion (λ c. place_cmp (i, j) (c.row, c.col) ≡ Less) cs
+      → Rises (cell_record i j o ++ cs)
   unfolding IsStrictlySortedBy
   rises-one i j None cs s a = s
   rises-one i j (Some w) cs s a = (keys-behind i j cs a, s)
@@ -396,7 +393,8 @@ module _ (v : ℕ → ℕ → Value) where
       ∙ cells-back (placed_cells v gs 0 hs)
 
 pub listed-all : (r : Result (List CellRec) OutOfMemory) (target : List CellRec) (placed : BTreeMap (ℕ × ℕ) ValueBytes)
-    → IfOk r (λ cells. cells ≡ map cell_of placed.entries) → IfOk r (λ cells. tree.IsOrdered place_cmp placed) → (tree.IsOrdered place_cmp placed → map cell_of placed.entries ≡ target)
+    → IfOk r (λ cells. cells ≡ map cell_of placed.entries) → IfOk r (λ cells. tree.IsOrdered place_cmp placed)
+    → (tree.IsOrdered place_cmp placed → map cell_of placed.entries ≡ target)
     → IfOk r (λ cells. cells ≡ target)
 listed-all (Ok cells) target placed a o f = a ∙ f o
 listed-all (Err e) target placed a o f = tt

@@ -46,7 +46,8 @@ use Rattle.ft_matrix.specs.Units.{acked_value, has_handle, place_of_handle, show
 use Rattle.ft_matrix.proofs.Effects.{units}
 use Rattle.ft_matrix.proofs.Freed.{none-left, none-right}
 use Rattle.ft_matrix.proofs.HeldGrids.{HoldsUnits, Moves, RowHolds, handle_value, restate, rows-beside, stages-move, step-moves, units-held}
-use Rattle.ft_matrix.proofs.ScouredUnits.{are-gone, here-once, place-free, same-number, second, still-there, taken-goes}
+use Rattle.ft_matrix.proofs.ScouredUnits.{are-gone, place-free, same-number, second, taken-goes}
+use Rattle.ft_matrix.proofs.Writes.{one-more, some-more}
 use Rattle.ft_matrix.proofs.UnitLists.{BesideUnits, HandleNamed, beside-units, shown-stamps}
 
 -- ---- which named units may go
@@ -61,7 +62,7 @@ AtFrom i whole xs = (a : ElementId) → 1 ≤ len (has_id a) xs → rank (has_id
 
 at-tail : (i : ℕ) (whole : List ListElement) (e : ListElement) (xs : List ListElement) → Once (e ∷ xs) → AtFrom i whole (e ∷ xs) → AtFrom (i + 1) whole xs
 at-tail i whole e xs once f a l =
-    f a (still-there (has_id a e) (len (has_id a) xs) l) ∙ step (has_id a e) (once a)
+    f a (some-more (has_id a e) (len (has_id a) xs) l) ∙ step (has_id a e) (once a)
   where
     step : (b : Bool) → one_more_if b (len (has_id a) xs) ≤ 1 → i + cond b 0 (suc (rank (has_id a) (λ _. true) xs)) ≡ i + 1 + rank (has_id a) (λ _. true) xs
     step true o = absurd (omega (arith, o, l))
@@ -69,14 +70,15 @@ at-tail i whole e xs once f a l =
 
 at-head : (i : ℕ) (whole : List ListElement) (e : ListElement) (xs : List ListElement) → AtFrom i whole (e ∷ xs) → rank (has_id (id e)) (λ _. true) whole ≡ i
 at-head i whole e xs f =
-    f (id e) (here-once (has_id (id e) e) (len (has_id (id e)) xs) (same_id-refl (id e)))
+    f (id e) (one-more (has_id (id e) e) (len (has_id (id e)) xs) (same_id-refl (id e)))
     ∙ ap (λ b. i + cond b 0 (suc (rank (has_id (id e)) (λ _. true) xs))) (same_id-refl (id e)) ∙ plus-none i
   where
     plus-none : (n : ℕ) → n + 0 ≡ n
     plus-none n = omega arith
 
 -- a removal at or below the floor is sequenced
-gone-acked : (floor : ℕ) (ds : List Stamp) (o : Option ℕ) → has_collectable_removal floor (ds ++ removal_stamp o) ≡ true → has_collectable_removal floor ds ≡ true
+gone-acked : (floor : ℕ) (ds : List Stamp) (o : Option ℕ) → has_collectable_removal floor (ds ++ removal_stamp o) ≡ true
+    → has_collectable_removal floor ds ≡ true
 gone-acked floor [] None h = cc h
 gone-acked floor [] (Some k) h = cc h
 gone-acked floor (Acked s c ∷ ds) o h = h
@@ -101,7 +103,8 @@ module _ (floor : ℕ) (held : ElementId → Bool) (named : List (Option ℕ)) (
 
 -- ---- names at places that no stage has
 
-unnamed : (xs : List ListElement) (a : ElementId) (o : Option ElementId) → is_place (rank (has_id a) (λ _. true) xs) (place_in_list xs o) ≡ false → is_named_by a o ≡ false
+unnamed : (xs : List ListElement) (a : ElementId) (o : Option ElementId)
+    → is_place (rank (has_id a) (λ _. true) xs) (place_in_list xs o) ≡ false → is_named_by a o ≡ false
 unnamed xs a None h = refl
 unnamed xs a (Some b) h = step (same_id a b) refl
   where
@@ -153,7 +156,8 @@ col-unheld doc a (t ∷ ts) h = step t.stage t.sub_operation t.names h (λ g. co
 
 module _ (floor : ℕ) (held : ElementId → Bool) (P : ElementId → ℕ → Type 0) where
   -- what held of name and handle at each place still holds
-  carried : {ms : List (Bool × TreeElement ℕ)} {es : List ListElement} {xs : List (TreeElement ℕ)} {ks : List ListElement} → Compacts grid_content floor held ms es xs ks
+  carried : {ms : List (Bool × TreeElement ℕ)} {es : List ListElement} {xs : List (TreeElement ℕ)} {ks : List ListElement}
+      → Compacts grid_content floor held ms es xs ks
       → BesideUnits (HandleNamed P) es (map second ms) → BesideUnits (HandleNamed P) ks xs
   carried kept_none b = b
   carried (kept_same q h) (next u us) = next u (carried h us)
@@ -206,7 +210,8 @@ handle-unplaced v h (Some x) e = step (nat_eq h x) refl
 
 module _ (rows cols : VectorState) (h g : ℕ) where
   row-unwritten : (ts : List GridStage)
-      → list_any (is_place (rank (has_handle h) (λ _. true) (units_of rows))) (map (λ (t : IndexedStage). t.places.first) (map (shown_stage rows cols) ts)) ≡ false
+      → list_any (is_place (rank (has_handle h) (λ _. true) (units_of rows))) (map (λ (t : IndexedStage). t.places.first)
+      (map (shown_stage rows cols) ts)) ≡ false
       → writes_to h g ts ≡ []
   row-unwritten [] e = refl
   row-unwritten (t ∷ ts) e =
@@ -218,7 +223,8 @@ module _ (rows cols : VectorState) (h g : ℕ) where
       by (Set i j value) f = ap (λ b. cond (b && is_handle g t.col) ((t.stage, value) ∷ []) []) f
 
   col-unwritten : (ts : List GridStage)
-      → list_any (is_place (rank (has_handle g) (λ _. true) (units_of cols))) (map (λ (t : IndexedStage). t.places.second) (map (shown_stage rows cols) ts)) ≡ false
+      → list_any (is_place (rank (has_handle g) (λ _. true) (units_of cols))) (map (λ (t : IndexedStage). t.places.second)
+      (map (shown_stage rows cols) ts)) ≡ false
       → writes_to h g ts ≡ []
   col-unwritten [] e = refl
   col-unwritten (t ∷ ts) e =
@@ -450,7 +456,8 @@ module _ (floor : ℕ) (rr rc : List HandleRun) (old mid half new : Grid) (sound
 
 pub compacts-grid : (floor : ℕ) (rr rc : List HandleRun) (old mid half new : Grid) → IsSound old → AreFreeUnits floor (grid_state old 0 true)
     → mid ≡ record old { rows = mid.rows; cols = mid.cols } → ScoursUnits floor rr old.rows mid.rows → ScoursUnits floor rc old.cols mid.cols
-    → IsSoundVector mid.rows → IsSoundVector mid.cols → FreesUnits Rows (is_in_runs rr) mid half → FreesUnits Cols (is_in_runs rc) half new → CompactsGrid floor old new
+    → IsSoundVector mid.rows → IsSoundVector mid.cols → FreesUnits Rows (is_in_runs rr) mid half → FreesUnits Cols (is_in_runs rc) half new
+    → CompactsGrid floor old new
 compacts-grid floor rr rc old mid half new sound free same sr sc vr vc fr fc = record {
   sound = compacted-sound floor rr rc old mid half new sound free same sr sc vr vc fr fc;
   floor = compacted-floor floor rr rc old mid half new sound free same sr sc vr vc fr fc;

@@ -31,6 +31,7 @@ use Rattle.ft_laws_names.proofs.ForeignAlike.{effects-alike}
 use Rattle.ft_laws_names.proofs.LocalAlike.{StagesBeside, stages-stay}
 use Rattle.ft_laws_names.proofs.RejoinAlike.{EditsBeside}
 use Rattle.ft_laws_names.proofs.StageCounts.{entry-stages, has-stages}
+use Rattle.ft_laws_agreement.proofs.NumberTests.{from_self}
 use Rattle.ft_matrix.specs.declared.grid.Grid.{Grid}
 use Rattle.ft_matrix.specs.Units.{acked_value, units_of}
 use Rattle.ft_matrix.specs.GridStates.{grid_state}
@@ -55,7 +56,8 @@ message_of s c r op = record {
 pub first-stages : {p q : Document} {e f : PendingEdit} → EditsBeside p q (e ∷ []) (f ∷ []) → StagesBeside p q e.stages f.stages
 first-stages (next r rs) = r.stages
 
-pub named-effect : (last s c r : ℕ) (doc : Document) (stages : List Stage) (op : CellOp) → AreWellNamed last doc stages → AreWellNamed last (grid_effect doc s c r op) stages
+pub named-effect : (last s c r : ℕ) (doc : Document) (stages : List Stage) (op : CellOp) → AreWellNamed last doc stages
+    → AreWellNamed last (grid_effect doc s c r op) stages
 named-effect last s c r doc stages op h =
     let a = alike-self last doc stages h in
     let later = grid_effect doc s c r op in
@@ -83,7 +85,8 @@ module _ (last s : ℕ) (at : Perspective) (old new : VectorState) (list : Seque
   }
     where
       news : (P : ElementId → ℕ → Type 0) → ((a : ElementId) (h : ℕ) → IsUnused list.made last a → in_use old h ≡ false → P a h)
-          → BesideUnits (HandleNamed P) (new_elements list.made (Acked s at.c) [] None [] (replicate count GridUnit)) (tree.new_elements (Acked s at.c) None [] (handles_of puts.run))
+          → BesideUnits (HandleNamed P) (new_elements list.made (Acked s at.c) [] None [] (replicate count GridUnit))
+          (tree.new_elements (Acked s at.c) None [] (handles_of puts.run))
       news P f = subst (λ n. BesideUnits (HandleNamed P) (new_elements list.made (Acked s at.c) [] None [] (replicate count GridUnit))
           (tree.new_elements (Acked s at.c) None [] (numbers_from puts.run.first n))) (sym puts.count_is)
           (new-units P (Acked s at.c) list.made puts.run.first count
@@ -98,7 +101,8 @@ module _ (last s : ℕ) (at : Perspective) (old new : VectorState) (list : Seque
   }
 
 -- the perspective sees as many
-pub seen-count : (at : Perspective) {xs : List ListElement} {es : List (TreeElement ℕ)} → BesideUnits IsUnit xs es → len (seen_by at.r at.c) xs ≡ len (seen_in (At at)) es
+pub seen-count : (at : Perspective) {xs : List ListElement} {es : List (TreeElement ℕ)} → BesideUnits IsUnit xs es
+    → len (seen_by at.r at.c) xs ≡ len (seen_in (At at)) es
 seen-count at h = beside-len (seen_by at.r at.c) (seen_in (At at)) (λ x e u. unit-seen_by x e u at) h
 
 -- ---- a step of the rows or of the columns
@@ -126,7 +130,8 @@ module _ (last : ℕ) (old : Grid) (doc : Document) (stages : List Stage) (sound
         (λ a g t r. r) stages old.stages.items h.named.stages h.holds.stages;
   }
     where
-      empty : (a : ElementId) (g : ℕ) → IsUnused doc.rows.made last a → in_use old.rows g ≡ false → RowHolds doc.cols.items (units_of old.cols) doc.cells old.cells a g
+      empty : (a : ElementId) (g : ℕ) → IsUnused doc.rows.made last a → in_use old.rows g ≡ false
+          → RowHolds doc.cols.items (units_of old.cols) doc.cells old.cells a g
       empty a g u n = beside-more (λ x e v. (
         v,
         h.named.cells.rows a (id x) (unused-ahead last doc.rows.made a u)
@@ -163,7 +168,8 @@ module _ (last : ℕ) (old : Grid) (doc : Document) (stages : List Stage) (sound
 
   -- other rows or columns, so many of them new
   pub side-held : (target : Target) (v : VectorState) (n : ℕ) (list : Sequence)
-      → UnitStep last (rows_or_cols target doc).made (units_at target old) (rows_or_cols target doc).items list.items (units_of (units_at target old)) (units_of v)
+      → UnitStep last (rows_or_cols target doc).made (units_at target old) (rows_or_cols target doc).items list.items
+      (units_of (units_at target old)) (units_of v)
       → list.made ≡ (rows_or_cols target doc).made + n
       → HoldsGrid (grid_state (with_more_made target n (with_units_at target old v)) 0 true) (with_rows_or_cols target doc list) stages
   side-held Rows v n list step m = rows-held v (old.rows_made + n) list step (m ∙ ap (λ k. k + n) h.holds.rows_made)
@@ -171,7 +177,8 @@ module _ (last : ℕ) (old : Grid) (doc : Document) (stages : List Stage) (sound
 
   -- the same with no new ones
   pub side-kept : (target : Target) (v : VectorState) (list : Sequence)
-      → UnitStep last (rows_or_cols target doc).made (units_at target old) (rows_or_cols target doc).items list.items (units_of (units_at target old)) (units_of v)
+      → UnitStep last (rows_or_cols target doc).made (units_at target old) (rows_or_cols target doc).items list.items
+      (units_of (units_at target old)) (units_of v)
       → list.made ≡ (rows_or_cols target doc).made
       → HoldsGrid (grid_state (with_units_at target old v) 0 true) (with_rows_or_cols target doc list) stages
   side-kept Rows v list step m = rows-held v old.rows_made list step (m ∙ h.holds.rows_made)
@@ -189,7 +196,8 @@ module _ (last : ℕ) (old : Grid) (doc : Document) (stages : List Stage) (sound
   }
 
   -- the grid after an operation holds what the operation makes
-  pub passes : (s c r : ℕ) (op : CellOp) (later : Document) (new : Grid) (count : ℕ) → grid_effect doc s c r op ≡ later → HoldsGrid (grid_state new 0 true) later stages
+  pub passes : (s c r : ℕ) (op : CellOp) (later : Document) (new : Grid) (count : ℕ) → grid_effect doc s c r op ≡ later
+      → HoldsGrid (grid_state new 0 true) later stages
       → later.skipped ≡ doc.skipped + count → Passes last new doc (grid_effect doc s c r op) stages count
   passes s c r op later new count e held n = record {
     now = record {
@@ -205,11 +213,8 @@ replicated : (n : ℕ) → length (replicate n GridUnit) ≡ n
 replicated zero = refl
 replicated (suc n) = ap suc (replicated n)
 
-above-test : (p n : ℕ) → n < p → nat_le p n ≡ false
+pub above-test : (p n : ℕ) → n < p → nat_le p n ≡ false
 above-test p n l = grind (arith, nat_tests)
-
-within-test : (p n : ℕ) → p ≤ n → nat_le p n ≡ true
-within-test p n l = grind (arith, nat_tests)
 
 module _ (last s : ℕ) (at : Perspective) (old : Grid) (doc : Document) (stages : List Stage) (sound : IsSound old) (h : Holds last old doc stages) where
   count-at : (target : Target) → len (seen_by at.r at.c) (rows_or_cols target doc).items ≡ len (seen_in (At at)) (units_of (units_at target old))
@@ -232,7 +237,7 @@ module _ (last s : ℕ) (at : Perspective) (old : Grid) (doc : Document) (stages
   insert-taken target p count v i =
       let list = after_insertion s at.c at.r p None [] (replicate count GridUnit) (rows_or_cols target doc) in
       passes last old doc stages sound h s at.c at.r (SpliceIn target p count) (with_rows_or_cols target doc list) (with_more_made target count (with_units_at target old v)) 0
-      (ap (λ b. cond b (with_rows_or_cols target doc list) (with_skip doc)) (ap (nat_le p) (count-at target) ∙ within-test p _ i.0))
+      (ap (λ b. cond b (with_rows_or_cols target doc list) (with_skip doc)) (ap (nat_le p) (count-at target) ∙ from_self p _ i.0))
       (side-held last old doc stages sound h target v count list (insert-step last s at (units_at target old) v (rows_or_cols target doc) p count i.1)
       (ap (λ n. (rows_or_cols target doc).made + n) (replicated count))) (side-skipped target doc list)
 
@@ -245,5 +250,5 @@ module _ (last s : ℕ) (at : Perspective) (old : Grid) (doc : Document) (stages
   remove-done target p q v true i =
       let list = after_removal s at.c at.r p q (rows_or_cols target doc) in
       passes last old doc stages sound h s at.c at.r (SpliceOut target p q) (with_rows_or_cols target doc list) (with_units_at target old v) 0
-      (ap (λ b. cond b (with_rows_or_cols target doc list) (with_skip doc)) (ap (nat_le q) (count-at target) ∙ within-test q _ i.0))
+      (ap (λ b. cond b (with_rows_or_cols target doc list) (with_skip doc)) (ap (nat_le q) (count-at target) ∙ from_self q _ i.0))
       (side-kept last old doc stages sound h target v list (remove-step last s at (units_at target old) v (rows_or_cols target doc) p q i.1) refl) (side-skipped target doc list)

@@ -1,5 +1,6 @@
 -- Handles that are freed one run after another, with the cells of their lines.
 use Rattle.std.proofs.Common.{◌≡◌, ℕ, ◌+◌, ◌≤◌, All, Bool, true, false, cond, not, ◌&&◌, ◌||◌, nat_eq, nat_le, nat_lt, List, [], ◌∷◌, ◌++◌, refl, sym, ◌∙◌, ap, subst, arith}
+use Rattle.std.proofs.lemmas.Bool.{or_left, or_right}
 use Rattle.std.proofs.lemmas.Bool.Decides.{nat_tests}
 use Rattle.std.proofs.lemmas.List.Elements.{All-from_recursion, recursion_from_All}
 use Rattle.ft_base.specs.Scan.{one_more_if}
@@ -35,7 +36,8 @@ not-last r n e = step (nat_lt r n) refl
     step true h = grind (arith, nat_tests)
     step false h = grind (arith, nat_tests)
 
-pub cleared-more : {A : Type 0} (f r n : ℕ) (x y : A) → f ≤ n → cond (nat_eq r n) x (cond (nat_le f r && nat_lt r n) x y) ≡ cond (nat_le f r && nat_lt r (n + 1)) x y
+pub cleared-more : {A : Type 0} (f r n : ℕ) (x y : A) → f ≤ n
+    → cond (nat_eq r n) x (cond (nat_le f r && nat_lt r n) x y) ≡ cond (nat_le f r && nat_lt r (n + 1)) x y
 cleared-more f r n x y l = step (nat_eq r n) refl
   where
     step : (b : Bool) → nat_eq r n ≡ b → cond b x (cond (nat_le f r && nat_lt r n) x y) ≡ cond (nat_le f r && nat_lt r (n + 1)) x y
@@ -51,13 +53,15 @@ cleared-more f r n x y l = step (nat_eq r n) refl
 row-end : (f n row end : ℕ) → end ≡ f + n → end ≤ row → (f ≤ end → row ≤ end) → row ≡ f + n
 row-end f n row end e l m = let k = m (omega (arith, e)) in omega (arith, e)
 
-in-run-same : (f n row end : ℕ) (run : HandleRun) → record { first = f; count = n } ≡ run → end ≡ f + n → end ≤ row → (f ≤ end → row ≤ end) → (r : ℕ) → nat_le f r && nat_lt r row ≡ in_run r run
+in-run-same : (f n row end : ℕ) (run : HandleRun) → record { first = f; count = n } ≡ run → end ≡ f + n → end ≤ row → (f ≤ end → row ≤ end)
+    → (r : ℕ) → nat_le f r && nat_lt r row ≡ in_run r run
 in-run-same f n row end run e p l m r = ap (λ i. nat_le f r && nat_lt r i) (row-end f n row end p l m) ∙ ap (in_run r) e
 
 module _ (f n row end : ℕ) (run : HandleRun) (same-run : record { first = f; count = n } ≡ run) (is-end : end ≡ f + n) (least : end ≤ row) (most : f ≤ end → row ≤ end) (old mid : Grid)
     (rest : mid ≡ record old { cells = mid.cells }) where
   pub freed-units : (target : Target) (v : VectorState) → ((r c : ℕ) → cell_at mid.cells r c ≡ cond (nat_le f (line_of target r c) && nat_lt (line_of target r c) row) empty_cell (cell_at old.cells r c))
-      → ((h : ℕ) → in_use v h ≡ (in_use (units_at target mid) h && not (in_run h run))) → v.tree ≡ (units_at target mid).tree → v.next ≡ (units_at target mid).next
+      → ((h : ℕ) → in_use v h ≡ (in_use (units_at target mid) h && not (in_run h run))) → v.tree ≡ (units_at target mid).tree
+      → v.next ≡ (units_at target mid).next
       → (All (λ (e : TreeElement ℕ). in_run e.unit run ≡ false) (units_of (units_at target mid)) → IsProper (units_at target mid) → IsProper v)
       → All (λ (e : TreeElement ℕ). in_run e.unit run ≡ false) (units_of (units_at target old)) → IsProper (units_at target old)
       → FreesUnits target (λ h. in_run h run) old (with_units_at target mid v)
@@ -65,7 +69,8 @@ module _ (f n row end : ℕ) (run : HandleRun) (same-run : record { first = f; c
       freed-side (at-side target mid v) (side-cells target mid v) (ap (λ (x : Grid). units_at target x) rest ∙ side-rest target old mid.cells) (side-again target old mid v rest)
     where
       freed-side : units_at target (with_units_at target mid v) ≡ v → (with_units_at target mid v).cells ≡ mid.cells → units_at target mid ≡ units_at target old
-          → with_units_at target mid v ≡ record (with_units_at target old v) { cells = mid.cells } → FreesUnits target (λ h. in_run h run) old (with_units_at target mid v)
+          → with_units_at target mid v ≡ record (with_units_at target old v) { cells = mid.cells }
+          → FreesUnits target (λ h. in_run h run) old (with_units_at target mid v)
       freed-side is same kept again = record {
         cells = λ r c. ap (λ t. cell_at t r c) same ∙ cells r c
             ∙ ap (λ b. cond b empty_cell (cell_at old.cells r c)) (in-run-same f n row end run same-run is-end least most (line_of target r c));
@@ -122,14 +127,6 @@ apart-runs h xs run l e = step (in_run h run) (subst (λ n. n ≤ 1) (held-appen
     step true m = absurd (omega (arith, some, m))
     step false m = refl
 
-or-right : (a b : Bool) → b ≡ true → (a || b) ≡ true
-or-right true b h = refl
-or-right false b h = h
-
-or-left : (a b : Bool) → a ≡ true → (a || b) ≡ true
-or-left true b h = refl
-or-left false b h = cc h
-
 pub none-left : (a b : Bool) → (a || b) ≡ false → a ≡ false
 none-left true b h = h
 none-left false b h = refl
@@ -145,7 +142,7 @@ all-of P Q f xs a = All-from_recursion Q xs (all-weaker P Q f xs (recursion_from
 
 module _ (xs : List HandleRun) (run : HandleRun) (v w : VectorState) (g : AreGone (xs ++ (run ∷ [])) v) where
   pub last-used : (h : ℕ) → in_run h run ≡ true → in_use v h ≡ true
-  last-used h e = g.used h (any-append h xs run ∙ or-right (is_in_runs xs h) (in_run h run) e)
+  last-used h e = g.used h (any-append h xs run ∙ or_right (is_in_runs xs h) (in_run h run) e)
 
   pub last-gone : All (λ (e : TreeElement ℕ). in_run e.unit run ≡ false) (units_of v)
   last-gone = all-of (λ (e : TreeElement ℕ). is_in_runs (xs ++ (run ∷ [])) e.unit ≡ false) (λ (e : TreeElement ℕ). in_run e.unit run ≡ false)
@@ -153,7 +150,7 @@ module _ (xs : List HandleRun) (run : HandleRun) (v w : VectorState) (g : AreGon
 
   pub rest-gone : ((h : ℕ) → in_use w h ≡ (in_use v h && not (in_run h run))) → w.tree ≡ v.tree → IsProper w → AreGone xs w
   rest-gone used tree p = record {
-    used = λ h e. used h ∙ ap (λ b. b && not (in_run h run)) (g.used h (any-append h xs run ∙ or-left (is_in_runs xs h) (in_run h run) e))
+    used = λ h e. used h ∙ ap (λ b. b && not (in_run h run)) (g.used h (any-append h xs run ∙ or_left (is_in_runs xs h) (in_run h run) e))
         ∙ ap not (apart-runs h xs run (g.once h) e);
     once = λ h. (let o = g.once h in let s = held-append h xs run in omega (arith, o, s));
     gone = subst (λ t. All (λ (e : TreeElement ℕ). is_in_runs xs e.unit ≡ false) (vector_elements t)) (sym tree)
@@ -181,11 +178,13 @@ not-twice false a b = refl
 
 -- what the changed grid is, after both
 rest-twice : (target : Target) (old mid new : Grid) → mid ≡ record (with_units_at target old (units_at target mid)) { cells = mid.cells }
-    → new ≡ record (with_units_at target mid (units_at target new)) { cells = new.cells } → new ≡ record (with_units_at target old (units_at target new)) { cells = new.cells }
+    → new ≡ record (with_units_at target mid (units_at target new)) { cells = new.cells }
+    → new ≡ record (with_units_at target old (units_at target new)) { cells = new.cells }
 rest-twice Rows old mid new f g = g ∙ ap (λ (x : Grid). record x { rows = new.rows; cells = new.cells }) f
 rest-twice Cols old mid new f g = g ∙ ap (λ (x : Grid). record x { cols = new.cols; cells = new.cells }) f
 
-pub units-twice : (target : Target) (a b : ℕ → Bool) (old mid new : Grid) → FreesUnits target a old mid → FreesUnits target b mid new → FreesUnits target (λ h. a h || b h) old new
+pub units-twice : (target : Target) (a b : ℕ → Bool) (old mid new : Grid) → FreesUnits target a old mid → FreesUnits target b mid new
+    → FreesUnits target (λ h. a h || b h) old new
 units-twice target a b old mid new f g = record {
   cells = λ r c. g.cells r c ∙ ap (cond (b (line_of target r c)) empty_cell) (f.cells r c)
       ∙ cond-twice (a (line_of target r c)) (b (line_of target r c)) empty_cell (cell_at old.cells r c);
@@ -221,7 +220,8 @@ no-units target g p = record {
 }
 
 -- one run more
-pub partly-more : (done : ℕ → Bool) (xs : List HandleRun) (run : HandleRun) (all : List HandleRun) → IsPartly done (xs ++ (run ∷ [])) all → IsPartly (λ h. done h || in_run h run) xs all
+pub partly-more : (done : ℕ → Bool) (xs : List HandleRun) (run : HandleRun) (all : List HandleRun) → IsPartly done (xs ++ (run ∷ [])) all
+    → IsPartly (λ h. done h || in_run h run) xs all
 partly-more done xs run all p h = turned (done h) (in_run h run) (is_in_runs xs h) ∙ ap (λ b. done h || b) (sym (any-append h xs run)) ∙ p h
   where
     turned : (a b c : Bool) → (a || b) || c ≡ a || (c || b)

@@ -27,6 +27,7 @@ use Rattle.ft_laws_names.proofs.ClientsAlike.{ClientsAlike}
 use Rattle.ft_laws_names.proofs.Indexing.{alike-itself, well-named}
 use Rattle.ft_laws_names.proofs.ListSteps.{unused-other}
 use Rattle.ft_laws_names.specs.GridFacts.{grid_stages}
+use Rattle.ft_laws_names.proofs.Twins.{none-more}
 use Rattle.ft_matrix.specs.declared.grid.Grid.{Grid}
 use Rattle.ft_matrix.specs.declared.stages.GridStage.{GridStage}
 use Rattle.ft_matrix.specs.Units.{acked_value, has_handle, place_of_handle, placed_cells, shown_unit, unit_value, units_of}
@@ -66,10 +67,12 @@ named-client last doc stages h = record {
 }
 
 -- such a client differs in names alone from itself
-pub alike-self : (last : ℕ) (doc : Document) (stages : List Stage) → AreWellNamed last doc stages → ClientsAlike (client_of last doc stages) (client_of last doc stages)
+pub alike-self : (last : ℕ) (doc : Document) (stages : List Stage) → AreWellNamed last doc stages
+    → ClientsAlike (client_of last doc stages) (client_of last doc stages)
 alike-self last doc stages h = alike-itself (client_of last doc stages) (client-named last doc stages h)
 
-pub self-alike : (last : ℕ) (doc : Document) (stages : List Stage) → ClientsAlike (client_of last doc stages) (client_of last doc stages) → AreWellNamed last doc stages
+pub self-alike : (last : ℕ) (doc : Document) (stages : List Stage) → ClientsAlike (client_of last doc stages) (client_of last doc stages)
+    → AreWellNamed last doc stages
 self-alike last doc stages h = named-client last doc stages (well-named (client_of last doc stages) (client_of last doc stages) h)
 
 -- ---- the relation
@@ -102,14 +105,16 @@ held-units last doc rows cols table r c e f g =
     }
 
 -- and back
-pub units-held : (doc : Document) (rows cols : VectorState) (table : CellList) → HoldsUnits doc.rows.items doc.cols.items doc.cells (units_of rows) (units_of cols) table
+pub units-held : (doc : Document) (rows cols : VectorState) (table : CellList)
+    → HoldsUnits doc.rows.items doc.cols.items doc.cells (units_of rows) (units_of cols) table
     → all_cells doc.cells [] doc.cols.items 0 doc.rows.items ≡ placed_cells (unit_value table) (units_of cols) 0 (units_of rows)
 units-held doc rows cols table h =
     all-placed doc.cells [] doc.cols.items 0 doc.rows.items
     ∙ placed-cells (shown_at doc.cells []) (unit_value table) doc.cols.items (units_of cols) 0
     (beside-more (λ x y q. beside-more (λ u v s. s.1) q.1) h.rows)
 
-pub rows-beside : {rows cols : List ListElement} {cells : List Cell} {es gs : List (TreeElement ℕ)} {table : CellList} → HoldsUnits rows cols cells es gs table → BesideUnits IsUnit rows es
+pub rows-beside : {rows cols : List ListElement} {cells : List Cell} {es gs : List (TreeElement ℕ)} {table : CellList}
+    → HoldsUnits rows cols cells es gs table → BesideUnits IsUnit rows es
 rows-beside h = beside-more (λ x y q. q.0) h.rows
 
 -- ---- a named element and a handle at the same place
@@ -132,10 +137,6 @@ handles-tail e es o h = step (nat_eq e.unit h) (o h)
 pub only-here : (b : Bool) (n : ℕ) → one_more_if b n ≤ 1 → b ≡ true → n ≡ 0
 only-here true n l h = omega arith
 only-here false n l h = (cc)
-
-none-more : (b : Bool) (n : ℕ) → one_more_if b n ≡ 0 → (b ≡ false) × (n ≡ 0)
-none-more true n h = absurd (omega arith)
-none-more false n h = (refl, h)
 
 pub absent-both : (a : ElementId) (h : ℕ) {xs : List ListElement} {es : List (TreeElement ℕ)} → len (has_id a) xs ≡ 0 → len (λ e. nat_eq e.unit h) es ≡ 0
     → BesideUnits IsUnit xs es → BesideUnits (HandleNamed (MeetsAt a h)) xs es
@@ -168,7 +169,8 @@ pub meets-rank : (a : ElementId) (h : ℕ) {xs : List ListElement} {es : List (T
 meets-rank a h m = beside-rank (has_id a) (has_handle h) (λ x e q. q.1) (λ _. true) (λ _. true) (λ x e q. refl) m
 
 -- a handle that stands is in use
-pub used-handle : (used : ℕ → Bool) (h : ℕ) (es : List (TreeElement ℕ)) → AllByRecursion (λ e. used e.unit ≡ true) es → 1 ≤ len (λ e. nat_eq e.unit h) es → used h ≡ true
+pub used-handle : (used : ℕ → Bool) (h : ℕ) (es : List (TreeElement ℕ)) → AllByRecursion (λ e. used e.unit ≡ true) es
+    → 1 ≤ len (λ e. nat_eq e.unit h) es → used h ≡ true
 used-handle used h [] u l = absurd (omega arith)
 used-handle used h (e ∷ es) u l = step (nat_eq e.unit h) refl l (λ g. used-handle used h es u.1 g)
   where
@@ -210,7 +212,8 @@ Moves xs es ys gs = (a : ElementId) (h : ℕ) → 1 ≤ len (has_id a) xs → ra
     → rank (has_id a) (λ _. true) ys ≡ rank (has_handle h) (λ _. true) gs
 
 pub step-moves : (last : ℕ) (list : Sequence) (v w : VectorState) (ys : List ListElement) → IsWellNumbered last list → IsProper v
-    → BesideUnits IsUnit list.items (units_of v) → UnitStep last list.made v list.items ys (units_of v) (units_of w) → Moves list.items (units_of v) ys (units_of w)
+    → BesideUnits IsUnit list.items (units_of v) → UnitStep last list.made v list.items ys (units_of v) (units_of w)
+    → Moves list.items (units_of v) ys (units_of w)
 step-moves last list v w ys n p b s a h there r =
     let m = meet-at a h n.once p.once b r in
     let used = handle-used v p a h m there in
@@ -232,7 +235,8 @@ end-moves xs ys v w m None (Some h) t e = (cc)
 end-moves xs ys v w m (Some a) None t e = (cc)
 end-moves xs ys v w m (Some a) (Some h) t e = ap Some (m a h t (some-rank e))
 
-pub there-names : (doc : Document) (op : CellOp) (n : NamedElements) → AreThere doc (OnGrid op) n → StandsIn doc.rows.items n.first × StandsIn doc.cols.items n.second
+pub there-names : (doc : Document) (op : CellOp) (n : NamedElements) → AreThere doc (OnGrid op) n
+    → StandsIn doc.rows.items n.first × StandsIn doc.cols.items n.second
 there-names doc (SpliceIn target i count) n h = subst (λ m. StandsIn doc.rows.items m.first × StandsIn doc.cols.items m.second) (sym h) (tt, tt)
 there-names doc (SpliceOut target i j) n h = subst (λ m. StandsIn doc.rows.items m.first × StandsIn doc.cols.items m.second) (sym h) (tt, tt)
 there-names doc (Set i j value) n h = h
@@ -274,7 +278,8 @@ module _ (doc later : Document) (rows cols rows' cols' : VectorState) (r : Moves
 
 -- ---- the given stage and use are no part of it
 
-pub restate : (g : Grid) (n m : ℕ) (b c : Bool) (doc : Document) (stages : List Stage) → HoldsGrid (grid_state g n b) doc stages → HoldsGrid (grid_state g m c) doc stages
+pub restate : (g : Grid) (n m : ℕ) (b c : Bool) (doc : Document) (stages : List Stage) → HoldsGrid (grid_state g n b) doc stages
+    → HoldsGrid (grid_state g m c) doc stages
 restate g n m b c doc stages h = record {
   rows = h.rows;
   cols = h.cols;

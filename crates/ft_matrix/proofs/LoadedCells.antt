@@ -54,7 +54,8 @@ one-same None p v t u e r c = e r c
 one-same (Some h) None v t u e r c = e r c
 one-same (Some h) (Some k) v t u e r c = ap (λ cell. cond (nat_eq r h && nat_eq c k) (given_value v cell) cell) (e r c)
 
-pub loaded-same : (hs gs : List ℕ) (cells : List CellRec) (t u : CellTable) → ((r c : ℕ) → t r c ≡ u r c) → (r c : ℕ) → loaded_cells hs gs cells t r c ≡ loaded_cells hs gs cells u r c
+pub loaded-same : (hs gs : List ℕ) (cells : List CellRec) (t u : CellTable) → ((r c : ℕ) → t r c ≡ u r c) → (r c : ℕ)
+    → loaded_cells hs gs cells t r c ≡ loaded_cells hs gs cells u r c
 loaded-same hs gs [] t u e r c = e r c
 loaded-same hs gs (x ∷ cells) t u e r c =
     loaded-same hs gs cells (loaded_cell (slice_get hs x.row) (slice_get gs x.col) x.value t) (loaded_cell (slice_get hs x.row) (slice_get gs x.col) x.value u)
@@ -98,13 +99,15 @@ one-pending (Some h) (Some k) v t e r c = step (nat_eq r h && nat_eq c k) (is_so
     step true false = e r c
     step false b = e r c
 
-pub loaded-pending : (hs gs : List ℕ) (cells : List CellRec) (t : CellTable) → ((r c : ℕ) → (t r c).pending ≡ []) → (r c : ℕ) → (loaded_cells hs gs cells t r c).pending ≡ []
+pub loaded-pending : (hs gs : List ℕ) (cells : List CellRec) (t : CellTable) → ((r c : ℕ) → (t r c).pending ≡ []) → (r c : ℕ)
+    → (loaded_cells hs gs cells t r c).pending ≡ []
 loaded-pending hs gs [] t e r c = e r c
 loaded-pending hs gs (x ∷ cells) t e r c =
     loaded-pending hs gs cells (loaded_cell (slice_get hs x.row) (slice_get gs x.col) x.value t) (one-pending (slice_get hs x.row) (slice_get gs x.col) x.value t e) r c
 
 -- another row or column than all that are written stays empty
-one-row : (hs gs : List ℕ) (i j : ℕ) (v : ValueBytes) (t : CellTable) (r c : ℕ) → ((i h : ℕ) → slice_get hs i ≡ Some h → nat_eq r h ≡ false) → t r c ≡ empty_cell
+one-row : (hs gs : List ℕ) (i j : ℕ) (v : ValueBytes) (t : CellTable) (r c : ℕ)
+    → ((i h : ℕ) → slice_get hs i ≡ Some h → nat_eq r h ≡ false) → t r c ≡ empty_cell
     → loaded_cell (slice_get hs i) (slice_get gs j) v t r c ≡ empty_cell
 one-row hs gs i j v t r c a e = step (slice_get hs i) (slice_get gs j) refl
   where
@@ -113,7 +116,8 @@ one-row hs gs i j v t r c a e = step (slice_get hs i) (slice_get gs j) refl
     step (Some h) None q = e
     step (Some h) (Some k) q = ap (λ b. cond (b && nat_eq c k) (given_value v (t r c)) (t r c)) (a i h q) ∙ e
 
-one-col : (hs gs : List ℕ) (i j : ℕ) (v : ValueBytes) (t : CellTable) (r c : ℕ) → ((i h : ℕ) → slice_get gs i ≡ Some h → nat_eq c h ≡ false) → t r c ≡ empty_cell
+one-col : (hs gs : List ℕ) (i j : ℕ) (v : ValueBytes) (t : CellTable) (r c : ℕ)
+    → ((i h : ℕ) → slice_get gs i ≡ Some h → nat_eq c h ≡ false) → t r c ≡ empty_cell
     → loaded_cell (slice_get hs i) (slice_get gs j) v t r c ≡ empty_cell
 one-col hs gs i j v t r c a e = step (slice_get hs i) (slice_get gs j) refl
   where
@@ -124,15 +128,18 @@ one-col hs gs i j v t r c a e = step (slice_get hs i) (slice_get gs j) refl
     step : (o p : Option ℕ) → slice_get gs j ≡ p → loaded_cell o p v t r c ≡ empty_cell
     step None p q = e
     step (Some h) None q = e
-    step (Some h) (Some k) q = ap (λ b. cond (nat_eq r h && b) (given_value v (t r c)) (t r c)) (a j k q) ∙ ap (λ b. cond b (given_value v (t r c)) (t r c)) (never (nat_eq r h)) ∙ e
+    step (Some h) (Some k) q = ap (λ b. cond (nat_eq r h && b) (given_value v (t r c)) (t r c)) (a j k q)
+        ∙ ap (λ b. cond b (given_value v (t r c)) (t r c)) (never (nat_eq r h)) ∙ e
 
-pub loaded-row : (hs gs : List ℕ) (cells : List CellRec) (t : CellTable) (r c : ℕ) → ((i h : ℕ) → slice_get hs i ≡ Some h → nat_eq r h ≡ false) → t r c ≡ empty_cell
+pub loaded-row : (hs gs : List ℕ) (cells : List CellRec) (t : CellTable) (r c : ℕ)
+    → ((i h : ℕ) → slice_get hs i ≡ Some h → nat_eq r h ≡ false) → t r c ≡ empty_cell
     → loaded_cells hs gs cells t r c ≡ empty_cell
 loaded-row hs gs [] t r c a e = e
 loaded-row hs gs (x ∷ cells) t r c a e =
     loaded-row hs gs cells (loaded_cell (slice_get hs x.row) (slice_get gs x.col) x.value t) r c a (one-row hs gs x.row x.col x.value t r c a e)
 
-pub loaded-col : (hs gs : List ℕ) (cells : List CellRec) (t : CellTable) (r c : ℕ) → ((i h : ℕ) → slice_get gs i ≡ Some h → nat_eq c h ≡ false) → t r c ≡ empty_cell
+pub loaded-col : (hs gs : List ℕ) (cells : List CellRec) (t : CellTable) (r c : ℕ)
+    → ((i h : ℕ) → slice_get gs i ≡ Some h → nat_eq c h ≡ false) → t r c ≡ empty_cell
     → loaded_cells hs gs cells t r c ≡ empty_cell
 loaded-col hs gs [] t r c a e = e
 loaded-col hs gs (x ∷ cells) t r c a e =
@@ -140,7 +147,8 @@ loaded-col hs gs (x ∷ cells) t r c a e =
 
 -- ---- beside the cells of a document
 
-value-last : (a b : ElementId) (cells : List Cell) (c : Cell) → cell_value a b (cells ++ c ∷ []) ≡ option_or (cell_value a b cells) (cond (is_cell a b c) (Some c.value) None)
+value-last : (a b : ElementId) (cells : List Cell) (c : Cell)
+    → cell_value a b (cells ++ c ∷ []) ≡ option_or (cell_value a b cells) (cond (is_cell a b c) (Some c.value) None)
 value-last a b [] c = step (is_cell a b c)
   where
     step : (i : Bool) → (let none : Option Cell = None in option_map (λ (d : Cell). d.value) (cond i (Some c) none)) ≡ (let none : Option ValueBytes = None in cond i (Some c.value) none)
@@ -169,7 +177,8 @@ given true v cell o n p e =
     acked_or : List (ℕ × List ℕ) → Option ValueBytes
     acked_or ws = shown_value (record { acked = cell.acked; pending = ws })
 
-    step : (o s : Option ValueBytes) → acked_value cell ≡ s → o ≡ acked_value cell → option_or o (Some v) ≡ acked_value (cond (is_some (acked_value cell)) cell (with_acked v cell))
+    step : (o s : Option ValueBytes) → acked_value cell ≡ s → o ≡ acked_value cell
+        → option_or o (Some v) ≡ acked_value (cond (is_some (acked_value cell)) cell (with_acked v cell))
     step None None f g =
         let plain : acked_value (with_acked v cell) ≡ Some v = ap (λ b. cond b None (Some v)) n in
         sym (ap (λ s. acked_value (cond (is_some s) cell (with_acked v cell))) f ∙ plain)
@@ -207,20 +216,24 @@ module _ (xs ys : List ListElement) (es gs : List (TreeElement ℕ)) where
       (beside-both q.0 k.0.meets)) (beside-both m r.0.meets)
 
   module _ (once-x : Once xs) (once-y : Once ys) (once-e : HandlesOnce es) (once-g : HandlesOnce gs)
-      (rows : BesideUnits (λ x e. IsUnit x e × (is_unremoved x ≡ seen_in (Stage 0) e)) xs es) (cols : BesideUnits (λ x e. IsUnit x e × (is_unremoved x ≡ seen_in (Stage 0) e)) ys gs) where
+      (rows : BesideUnits (λ x e. IsUnit x e × (is_unremoved x ≡ seen_in (Stage 0) e)) xs es)
+      (cols : BesideUnits (λ x e. IsUnit x e × (is_unremoved x ≡ seen_in (Stage 0) e)) ys gs) where
     abbrev handles : List (TreeElement ℕ) → List ℕ
     handles ds = retain_map (seen_in (Stage 0)) (λ e. e.unit) ds
 
-    found : (us : List ListElement) (ds : List (TreeElement ℕ)) → Once us → HandlesOnce ds → BesideUnits (λ x e. IsUnit x e × (is_unremoved x ≡ seen_in (Stage 0) e)) us ds → (i : ℕ)
+    found : (us : List ListElement) (ds : List (TreeElement ℕ)) → Once us → HandlesOnce ds
+        → BesideUnits (λ x e. IsUnit x e × (is_unremoved x ≡ seen_in (Stage 0) e)) us ds → (i : ℕ)
         → Found us ds (at is_unremoved i us) (at (seen_in (Stage 0)) i ds)
     found us ds a b h i = both-weaker (both-at is_unremoved (seen_in (Stage 0)) (λ x e q. q.1.1) i (beside-both (each-meets a b (beside-more (λ x e q. q.0) h)) h))
       where
         both-weaker : {o : Option ListElement} {p : Option (TreeElement ℕ)}
-            → Both ListElement (TreeElement ℕ) (λ x e. (StandsHere us ds x e × (IsUnit x e × (is_unremoved x ≡ seen_in (Stage 0) e))) × (is_unremoved x ≡ true)) o p → Found us ds o p
+            → Both ListElement (TreeElement ℕ) (λ x e. (StandsHere us ds x e × (IsUnit x e × (is_unremoved x ≡ seen_in (Stage 0) e)))
+            × (is_unremoved x ≡ true)) o p → Found us ds o p
         both-weaker neither = neither
         both-weaker (each q) = each (q.0.0, q.1)
 
-    pub cells-meet : (done : List Cell) (t : CellTable) (cells : List CellRec) → AllByRecursion (λ c. is_null c.value ≡ false) cells → ((r k : ℕ) → (t r k).pending ≡ []) → ValuesMeet done t
+    pub cells-meet : (done : List Cell) (t : CellTable) (cells : List CellRec) → AllByRecursion (λ c. is_null c.value ≡ false) cells
+        → ((r k : ℕ) → (t r k).pending ≡ []) → ValuesMeet done t
         → ValuesMeet (done ++ cells_of xs ys cells) (loaded_cells (handles es) (handles gs) cells t)
     cells-meet done t [] n p m = subst (λ ds. ValuesMeet ds t) (sym (append-nil done)) m
     cells-meet done t (c ∷ cells) n p m =
@@ -228,7 +241,8 @@ module _ (xs ys : List ListElement) (es gs : List (TreeElement ℕ)) where
         let q = at is_unremoved c.col ys in
         let h = handle (at (seen_in (Stage 0)) c.row es) in
         let k = handle (at (seen_in (Stage 0)) c.col gs) in
-        let here = one-meets done t c n.0 p m o q (at (seen_in (Stage 0)) c.row es) (at (seen_in (Stage 0)) c.col gs) (found xs es once-x once-e rows c.row) (found ys gs once-y once-g cols c.col) in
+        let here = one-meets done t c n.0 p m o q (at (seen_in (Stage 0)) c.row es) (at (seen_in (Stage 0)) c.col gs)
+        (found xs es once-x once-e rows c.row) (found ys gs once-y once-g cols c.col) in
         let a : h ≡ slice_get (handles es) c.row = sym (seen-get (seen_in (Stage 0)) (λ (d : TreeElement ℕ). d.unit) es c.row) in
         let b : k ≡ slice_get (handles gs) c.col = sym (seen-get (seen_in (Stage 0)) (λ (d : TreeElement ℕ). d.unit) gs c.col) in
         let next = subst (λ z. ValuesMeet (done ++ summary.cell_at o q c) (loaded_cell (slice_get (handles es) c.row) z c.value t)) b

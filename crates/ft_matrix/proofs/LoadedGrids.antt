@@ -69,7 +69,8 @@ acked-occurs (Local k) h = (cc)
 
 acked-alike : (ds : List Stamp) → list_all is_acked ds ≡ true → list_any is_acked ds ≡ list_any (has_occurred_at_stage 0) ds
 acked-alike [] h = refl
-acked-alike (d ∷ ds) h = let p = both (is_acked d) (list_all is_acked ds) h in ap (λ b. b || list_any is_acked ds) (p.0 ∙ sym (acked-occurs d p.0)) ∙ ap (λ b. has_occurred_at_stage 0 d || b) (acked-alike ds p.1)
+acked-alike (d ∷ ds) h = let p = both (is_acked d) (list_all is_acked ds) h in ap (λ b. b || list_any is_acked ds)
+    (p.0 ∙ sym (acked-occurs d p.0)) ∙ ap (λ b. has_occurred_at_stage 0 d || b) (acked-alike ds p.1)
 
 unremoved-seen : (x : ListElement) (e : TreeElement ℕ) → IsUnit x e → IsPlain x → is_unremoved x ≡ seen_in (Stage 0) e
 unremoved-seen x e u p =
@@ -114,7 +115,8 @@ module _ (sum : SumDoc) (valid : IsValidSummary sum) (rows0 cols0 : VectorState)
 
   values : ValuesMeet doc.rows.items doc.cols.items (units_of g.rows) (units_of g.cols) doc.cells
       (loaded_cells (seen_handles (Stage 0) g.rows.tree) (seen_handles (Stage 0) g.cols.tree) sum.cells (cell_at g.cells))
-  values = cells-meet doc.rows.items doc.cols.items (units_of g.rows) (units_of g.cols) named.rows.once named.cols.once rs.proper.once cs.proper.once rows-agree cols-agree [] (cell_at g.cells) sum.cells
+  values = cells-meet doc.rows.items doc.cols.items (units_of g.rows) (units_of g.cols) named.rows.once named.cols.once rs.proper.once
+      cs.proper.once rows-agree cols-agree [] (cell_at g.cells) sum.cells
       (no-nulls _ _ sum.cells valid.cells) (λ i j. ap (λ (cell : CellState). cell.pending) (empty i j)) no-values
 
   units : HoldsUnits doc.rows.items doc.cols.items doc.cells (units_of g.rows) (units_of g.cols) table
@@ -150,7 +152,8 @@ module _ (sum : SumDoc) (valid : IsValidSummary sum) (rows0 cols0 : VectorState)
           (λ k h e. other-handle (in_use g.cols) h j (used g.cols cs k h e) n) (empty i j);
     };
     writes = λ i j. ap (λ (cell : CellState). cell.pending) (l i j)
-        ∙ loaded-pending (seen_handles (Stage 0) g.rows.tree) (seen_handles (Stage 0) g.cols.tree) sum.cells (cell_at g.cells) (λ a b. ap (λ (cell : CellState). cell.pending) (empty a b)) i j
+        ∙ loaded-pending (seen_handles (Stage 0) g.rows.tree) (seen_handles (Stage 0) g.cols.tree) sum.cells (cell_at g.cells)
+        (λ a b. ap (λ (cell : CellState). cell.pending) (empty a b)) i j
         ∙ sym (ap (writes_to i j) stages);
     rise = subst (StagesRise 0) (sym stages) tt;
   }

@@ -1,6 +1,7 @@
 -- The units of a summary's runs, put at the end of a vector run by run.
 use Rattle.std.proofs.Common.{◌≡◌, ℕ, zero, suc, ◌+◌, ◌≤◌, ◌<◌, All, Bool, true, false, ◌||◌, nat_eq, nat_le, List, [], ◌∷◌, ◌++◌, None, refl, sym, ◌∙◌, ap, subst, map, length, replicate, get_or, arith, append_assoc, append-nil, length-append}
 use Rattle.std.specs.List.{AllByRecursion, list_all}
+use Rattle.std.proofs.lemmas.Bool.{or_left, or_right}
 use Rattle.std.proofs.lemmas.Bool.Decides.{nat_tests}
 use Rattle.std.proofs.lemmas.List.Elements.{All-from_recursion, recursion_from_All}
 use Rattle.ft_base.specs.declared.elements.Element.{Element as ElementStamps}
@@ -23,7 +24,7 @@ use Rattle.ft_matrix.specs.Loaded.{LoadsRun, LoadsUnits, run_stamps}
 use Rattle.ft_matrix.specs.Sound.{IsSoundVector, IsStaged, no_properties}
 use Rattle.ft_matrix.specs.Splices.{TakesRun}
 use Rattle.ft_matrix.specs.Units.{shown_unit, shown_units, units_of}
-use Rattle.ft_matrix.proofs.SoundVectors.{all-append, all-weaker, below-run, later-run, none-stands, or-left, or-right}
+use Rattle.ft_matrix.proofs.SoundVectors.{all-append, all-weaker, below-run, later-run, none-stands}
 use Rattle.std.proofs.lemmas.List.{length-map}
 use Rattle.ft_tree_leaves.proofs.Runs.{len-append}
 
@@ -110,9 +111,9 @@ module _ (old between new : VectorState) (s : IsSoundVector old) (run : HandleRu
     proper = record {
       used = all-units (λ e. in_use new e.unit ≡ true)
           (all-weaker (λ (e : TreeElement ℕ). in_use old e.unit ≡ true) (λ (e : TreeElement ℕ). in_use new e.unit ≡ true)
-          (λ e g. in-use-same e.unit ∙ or-left (in_use old e.unit) (in_run e.unit run) g) (units_of old)
+          (λ e g. in-use-same e.unit ∙ or_left (in_use old e.unit) (in_run e.unit run) g) (units_of old)
           (recursion_from_All (λ (e : TreeElement ℕ). in_use old e.unit ≡ true) (units_of old) s.proper.used))
-          (λ h g. in-use-same h ∙ or-right (in_use old h) (in_run h run) g);
+          (λ h g. in-use-same h ∙ or_right (in_use old h) (in_run h run) g);
       once = once;
     };
     fresh = let n : new.next ≡ between.next = ap (λ (v : VectorState). v.next) same in
@@ -136,7 +137,8 @@ named_units n run = new_elements n (stamp_of run.ins) (map stamp_of run.dels) No
 
 -- the units of a run as the document has them, whatever their numbers
 run-named : (run : RunRec) (n first count : ℕ)
-    → map nameless (new_elements n (stamp_of run.ins) (map stamp_of run.dels) None [] (replicate count GridUnit)) ≡ map shown_unit (run_units (run_stamps run) (numbers_from first count))
+    → map nameless (new_elements n (stamp_of run.ins) (map stamp_of run.dels) None [] (replicate count GridUnit))
+    ≡ map shown_unit (run_units (run_stamps run) (numbers_from first count))
 run-named run n first zero = refl
 run-named run n first (suc count) =
     ap (λ ds. record { content = GridUnit; stamps = record { ins = stamp_of run.ins; dels = ds }; by = None; props = []; pending = [] }
@@ -162,7 +164,8 @@ pub record UnitsSoFar (runs : List RunRec) (made : ℕ) (first v : VectorState) 
 pub units-begin : (v : VectorState) → IsSoundVector v → units_of v ≡ [] → UnitsSoFar [] 0 v v
 units-begin v s e = record { sound = s; units = ap (map shown_unit) e; made_is = refl; floor = refl }
 
-pub units-next : (runs : List RunRec) (run : RunRec) (made more : ℕ) (first old new : VectorState) → UnitsSoFar runs made first old → IsSoundVector new → LoadsRun run old new
+pub units-next : (runs : List RunRec) (run : RunRec) (made more : ℕ) (first old new : VectorState) → UnitsSoFar runs made first old
+    → IsSoundVector new → LoadsRun run old new
     → more ≡ made + run.count → UnitsSoFar (runs ++ run ∷ []) more first new
 units-next runs run made more first old new u s l e =
     let all = items-more 0 runs run l.handles.first l.handles.count l.count in
@@ -176,7 +179,8 @@ units-next runs run made more first old new u s l e =
       floor = l.floor ∙ u.floor;
     }
   where
-    count : length (map nameless (run_items 0 (runs ++ run ∷ []))) ≡ length (map nameless (run_items 0 runs) ++ map shown_unit (run_units (run_stamps run) (handles_of l.handles)))
+    count : length (map nameless (run_items 0 (runs ++ run ∷ [])))
+        ≡ length (map nameless (run_items 0 runs) ++ map shown_unit (run_units (run_stamps run) (handles_of l.handles)))
         → length (run_items 0 runs) + run.count ≡ length (run_items 0 (runs ++ run ∷ []))
     count h =
         let a = length-map (run_items 0 (runs ++ run ∷ [])) nameless in

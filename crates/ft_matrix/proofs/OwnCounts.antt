@@ -21,12 +21,13 @@ use Rattle.ft_perm.specs.Handles.{handles_of}
 use Rattle.ft_perm.specs.Vectors.{VectorState, seen_handles}
 use Rattle.ft_cells.specs.CellTables.{CellList}
 use Rattle.ft_laws_agreement.proofs.AgreedStage.{len-put-add}
+use Rattle.ft_laws_agreement.proofs.NumberTests.{from_self}
 use Rattle.ft_matrix.specs.declared.grid.Grid.{Grid}
 use Rattle.ft_matrix.specs.OwnEdits.{Counts, lengths_after, refusal, seen_units}
 use Rattle.ft_matrix.specs.Sides.{units_at, with_units_at}
 use Rattle.ft_matrix.specs.Splices.{Inserts, PutsUnits, Removes}
 use Rattle.ft_matrix.specs.Units.{units_of}
-use Rattle.ft_matrix.proofs.OwnEdits.{above-test, within-test}
+use Rattle.ft_matrix.proofs.Effects.{above-test}
 use Rattle.ft_matrix.proofs.Refusals.{hidden, inside-strict, range-length, turned}
 use Rattle.ft_matrix.proofs.ShownGrids.{length-retained}
 
@@ -47,11 +48,12 @@ module _ (k m : ℕ) (here : nat_le k m ≡ true) where
 
 -- ---- vectors
 
-put-count : (p count k : ℕ) (old new : VectorState) → k ≤ 18446744073709551615 → PutsUnits last_stage no_run (Local k) p count old new → seen_units new ≡ seen_units old + count
+put-count : (p count k : ℕ) (old new : VectorState) → k ≤ 18446744073709551615 → PutsUnits last_stage no_run (Local k) p count old new
+    → seen_units new ≡ seen_units old + count
 put-count p count k old new few puts =
     ap (len (seen_in last_stage)) puts.units
     ∙ len-put-add (seen_in last_stage) (seen_in last_stage) no_run p (new_elements (Local k) None [] (handles_of puts.run)) (units_of old)
-    ∙ ap (λ n. n + seen_units old) (new-count k 18446744073709551615 (within-test k 18446744073709551615 few) (handles_of puts.run)
+    ∙ ap (λ n. n + seen_units old) (new-count k 18446744073709551615 (from_self k 18446744073709551615 few) (handles_of puts.run)
     ∙ length-numbers_from puts.run.first puts.run.count ∙ puts.count_is)
     ∙ turned count (seen_units old)
 
@@ -59,11 +61,12 @@ same-tests : (s : TreeElement ℕ → Bool) (es : List (TreeElement ℕ)) → Al
 same-tests s [] = tt
 same-tests s (e ∷ es) = (refl, same-tests s es)
 
-mark-count : (p q k : ℕ) (old new : VectorState) → k ≤ 18446744073709551615 → p ≤ q → Removes last_stage (Local k) p q old new true → seen_units new ≡ seen_units old - (q - p)
+mark-count : (p q k : ℕ) (old new : VectorState) → k ≤ 18446744073709551615 → p ≤ q → Removes last_stage (Local k) p q old new true
+    → seen_units new ≡ seen_units old - (q - p)
 mark-count p q k old new few l i =
     ap (len (seen_in last_stage)) i.1.units
     ∙ range-length (seen_in last_stage) (seen_in last_stage) (with_stamps (removed_stamps (Local k)))
-    (λ e. marked-hidden k 18446744073709551615 (within-test k 18446744073709551615 few) e) p q (units_of old) (same-tests (seen_in last_stage) (units_of old)) l i.0
+    (λ e. marked-hidden k 18446744073709551615 (from_self k 18446744073709551615 few) e) p q (units_of old) (same-tests (seen_in last_stage) (units_of old)) l i.0
 
 below-test : (i n : ℕ) → i < n → nat_lt i n ≡ true
 below-test i n l = grind (arith, nat_tests)
@@ -85,15 +88,17 @@ none-behind v i e = step (nat_lt i (seen_units v)) refl
 -- ---- grids
 
 pub insert-counted : (target : Target) (p count k : ℕ) (g : Grid) (v : VectorState) (like : Grid) → k ≤ 18446744073709551615
-    → Inserts last_stage no_run (Local k) p count (units_at target g) v true → Counts (SpliceIn target p count) g (record (with_units_at target g v) { stages = like.stages }) None
+    → Inserts last_stage no_run (Local k) p count (units_at target g) v true
+    → Counts (SpliceIn target p count) g (record (with_units_at target g v) { stages = like.stages }) None
 insert-counted Rows p count k g v like few i =
-    ap (λ b. cond b (Ok (seen_units g.rows + count, seen_units g.cols)) (Err (seen_units g.rows))) (within-test p (seen_units g.rows) i.0)
+    ap (λ b. cond b (Ok (seen_units g.rows + count, seen_units g.cols)) (Err (seen_units g.rows))) (from_self p (seen_units g.rows) i.0)
     ∙ ap (λ n. Ok (n, seen_units g.cols)) (sym (put-count p count k g.rows v few i.1))
 insert-counted Cols p count k g v like few i =
-    ap (λ b. cond b (Ok (seen_units g.rows, seen_units g.cols + count)) (Err (seen_units g.cols))) (within-test p (seen_units g.cols) i.0)
+    ap (λ b. cond b (Ok (seen_units g.rows, seen_units g.cols + count)) (Err (seen_units g.cols))) (from_self p (seen_units g.cols) i.0)
     ∙ ap (λ n. Ok (seen_units g.rows, n)) (sym (put-count p count k g.cols v few i.1))
 
-pub insert-uncounted : (target : Target) (p count k m : ℕ) (g : Grid) (v w : VectorState) → Inserts last_stage no_run (Local k) p count (units_at target g) v false → w ≡ v
+pub insert-uncounted : (target : Target) (p count k m : ℕ) (g : Grid) (v w : VectorState)
+    → Inserts last_stage no_run (Local k) p count (units_at target g) v false → w ≡ v
     → m ≡ seen_units w → Counts (SpliceIn target p count) g (with_units_at target g v) (Some m)
 insert-uncounted Rows p count k m g v w i e f =
     ap (λ b. cond b (Ok (seen_units g.rows + count, seen_units g.cols)) (Err (seen_units g.rows))) (above-test p (seen_units g.rows) i.0)
@@ -103,12 +108,13 @@ insert-uncounted Cols p count k m g v w i e f =
     ∙ ap (λ n. Err n) (sym (f ∙ ap seen_units (e ∙ i.1)))
 
 pub remove-counted : (target : Target) (p q k : ℕ) (g : Grid) (v : VectorState) (like : Grid) → k ≤ 18446744073709551615 → p ≤ q
-    → Removes last_stage (Local k) p q (units_at target g) v true → Counts (SpliceOut target p q) g (record (with_units_at target g v) { stages = like.stages }) None
+    → Removes last_stage (Local k) p q (units_at target g) v true
+    → Counts (SpliceOut target p q) g (record (with_units_at target g v) { stages = like.stages }) None
 remove-counted Rows p q k g v like few l i =
-    ap (λ b. cond b (Ok (seen_units g.rows - (q - p), seen_units g.cols)) (Err (seen_units g.rows))) (within-test q (seen_units g.rows) i.0)
+    ap (λ b. cond b (Ok (seen_units g.rows - (q - p), seen_units g.cols)) (Err (seen_units g.rows))) (from_self q (seen_units g.rows) i.0)
     ∙ ap (λ n. Ok (n, seen_units g.cols)) (sym (mark-count p q k g.rows v few l i))
 remove-counted Cols p q k g v like few l i =
-    ap (λ b. cond b (Ok (seen_units g.rows, seen_units g.cols - (q - p))) (Err (seen_units g.cols))) (within-test q (seen_units g.cols) i.0)
+    ap (λ b. cond b (Ok (seen_units g.rows, seen_units g.cols - (q - p))) (Err (seen_units g.cols))) (from_self q (seen_units g.cols) i.0)
     ∙ ap (λ n. Ok (seen_units g.rows, n)) (sym (mark-count p q k g.cols v few l i))
 
 pub remove-uncounted : (target : Target) (p q k m : ℕ) (g : Grid) (v w : VectorState) → Removes last_stage (Local k) p q (units_at target g) v false → w ≡ v
@@ -122,7 +128,8 @@ remove-uncounted Cols p q k m g v w i e f =
 
 module _ (i j : ℕ) (value : ValueBytes) (g : Grid) where
   -- what a write makes of the numbers, by whether its row and its column are there
-  tested : (a b : Bool) → nat_lt i (seen_units g.rows) ≡ a → nat_lt j (seen_units g.cols) ≡ b → lengths_after (seen_units g.rows) (seen_units g.cols) (Set i j value)
+  tested : (a b : Bool) → nat_lt i (seen_units g.rows) ≡ a → nat_lt j (seen_units g.cols) ≡ b
+      → lengths_after (seen_units g.rows) (seen_units g.cols) (Set i j value)
       ≡ cond a (cond b (Ok (seen_units g.rows, seen_units g.cols)) (Err (seen_units g.cols))) (Err (seen_units g.rows))
   tested a b h l =
       ap (λ c. cond c (cond (nat_lt j (seen_units g.cols)) (Ok (seen_units g.rows, seen_units g.cols)) (Err (seen_units g.cols))) (Err (seen_units g.rows))) h
@@ -135,7 +142,8 @@ module _ (i j : ℕ) (value : ValueBytes) (g : Grid) where
   pub row-uncounted : (m : ℕ) → None ≡ slice_get (seen_handles last_stage g.rows.tree) i → m ≡ seen_units g.rows → Counts (Set i j value) g g (Some m)
   row-uncounted m row e = tested false (nat_lt j (seen_units g.cols)) (none-behind g.rows i row) refl ∙ ap (λ n. Err n) (sym e)
 
-  pub col-uncounted : (m a : ℕ) → Some a ≡ slice_get (seen_handles last_stage g.rows.tree) i → None ≡ slice_get (seen_handles last_stage g.cols.tree) j → m ≡ seen_units g.cols
+  pub col-uncounted : (m a : ℕ) → Some a ≡ slice_get (seen_handles last_stage g.rows.tree) i
+      → None ≡ slice_get (seen_handles last_stage g.cols.tree) j → m ≡ seen_units g.cols
       → Counts (Set i j value) g g (Some m)
   col-uncounted m a row col e = tested true false (handle-below g.rows i a row) (none-behind g.cols j col) ∙ ap (λ n. Err n) (sym e)
 
@@ -148,5 +156,6 @@ refusal_behind ops after = elim after [ Err n ↦ Some n | Ok lengths ↦ refusa
 pub first-within : (r c n : ℕ) (op : CellOp) (ops : List CellOp) → refusal r c (op ∷ ops) ≡ None → lengths_after r c op ≡ Err n → ⊥
 first-within r c n op ops h e = cc (sym (ap (refusal_behind ops) e) ∙ h)
 
-pub rest-within : (r c rows cols : ℕ) (op : CellOp) (ops : List CellOp) → refusal r c (op ∷ ops) ≡ None → lengths_after r c op ≡ Ok (rows, cols) → refusal rows cols ops ≡ None
+pub rest-within : (r c rows cols : ℕ) (op : CellOp) (ops : List CellOp) → refusal r c (op ∷ ops) ≡ None
+    → lengths_after r c op ≡ Ok (rows, cols) → refusal rows cols ops ≡ None
 rest-within r c rows cols op ops h e = sym (ap (refusal_behind ops) e) ∙ h

@@ -1,6 +1,5 @@
 -- A grid and a document whose part it holds take an operation of the client's own alike.
 use Rattle.std.proofs.Common.{◌≡◌, ℕ, suc, ◌+◌, ◌-◌, ◌≤◌, ◌<◌, true, false, cond, nat_le, List, [], ◌∷◌, ◌++◌, Option, Some, None, Result, Ok, Err, refl, sym, ◌∙◌, ap, subst, map, length, replicate, arith, append-nil}
-use Rattle.std.proofs.lemmas.Bool.Decides.{nat_tests}
 use Rattle.std.proofs.lemmas.List.Elements.{recursion_from_All}
 use Rattle.ft_base.specs.declared.stamps.Stamp.TheVariants.{Local}
 use Rattle.ft_base.specs.Scan.{at, change_range_from, len, no_run, put}
@@ -29,6 +28,8 @@ use Rattle.ft_laws_names.proofs.DocumentsAlike.{DocsStep}
 use Rattle.ft_laws_names.proofs.LocalAlike.{StagesBeside, SubsAlike, stages-stay, subs-alike, went}
 use Rattle.ft_laws_names.specs.GridFacts.{is_unit_below}
 use Rattle.ft_laws_agreement.specs.Sequencing.{is_grid_stage}
+use Rattle.ft_laws_agreement.proofs.NumberTests.{from_self}
+use Rattle.ft_named.proofs.Lists.{map-append}
 use Rattle.ft_matrix.specs.declared.grid.Grid.{Grid}
 use Rattle.ft_matrix.specs.declared.stages.GridStage.{GridStage}
 use Rattle.ft_matrix.specs.Units.{shown_unit, units_of}
@@ -40,7 +41,7 @@ use Rattle.ft_matrix.specs.Sound.{IsSound}
 use Rattle.ft_matrix.specs.Splices.{Inserts, Removes}
 use Rattle.ft_matrix.specs.Applied.{Holds}
 use Rattle.ft_matrix.specs.OwnEdits.{EditsOne, TakesStage, stage_of}
-use Rattle.ft_matrix.proofs.Effects.{first-stages, side-kept, units}
+use Rattle.ft_matrix.proofs.Effects.{above-test, first-stages, side-kept, units}
 use Rattle.ft_matrix.proofs.HeldGrids.{alike-self, client_of, rows-beside, self-alike}
 use Rattle.ft_matrix.proofs.SideLaws.{same-side, side-stages}
 use Rattle.ft_matrix.proofs.OwnSteps.{AreBelow, below-of, own-count, own-insert-step, own-remove-step}
@@ -125,12 +126,9 @@ named-local last k doc later stages op names e h taken =
 
 -- ---- one more stage
 
-map-append : {A B : Type 0} (f : A → B) (xs ys : List A) → map f (xs ++ ys) ≡ map f xs ++ map f ys
-map-append f [] ys = refl
-map-append f (x ∷ xs) ys = ap (λ zs. f x ∷ zs) (map-append f xs ys)
-
 pub pushed : (g : Grid) (later : Document) (stages : List Stage) (like : Grid) (k : ℕ) (op : CellOp) (names : NamedElements) (u : GridStage)
-    → HoldsGrid (grid_state g 0 true) later stages → like.stages.items ≡ g.stages.items ++ (u ∷ []) → indexed_stage later (stage_of k op names) ≡ shown_stage g.rows g.cols u
+    → HoldsGrid (grid_state g 0 true) later stages → like.stages.items ≡ g.stages.items ++ (u ∷ [])
+    → indexed_stage later (stage_of k op names) ≡ shown_stage g.rows g.cols u
     → HoldsGrid (grid_state (record g { stages = like.stages }) 0 true) later (stages ++ (stage_of k op names ∷ []))
 pushed g later stages like k op names u h q e = record {
   rows = h.rows;
@@ -147,12 +145,6 @@ pushed g later stages like k op names u h q e = record {
 -- the stage of a splice, which names nothing
 abbrev pub splice_stage : ℕ → CellOp → GridStage
 splice_stage k op = record { stage = k; op = op; row = None; col = None }
-
-pub above-test : (p n : ℕ) → n < p → nat_le p n ≡ false
-above-test p n l = grind (arith, nat_tests)
-
-pub within-test : (p n : ℕ) → p ≤ n → nat_le p n ≡ true
-within-test p n l = grind (arith, nat_tests)
 
 refused-range : (p n : ℕ) (d : Document) → n < p → if_in_range p n d ≡ Err (OutOfRange n)
 refused-range p n d l = ap (λ b. cond b (Ok (d, no_elements)) (Err (OutOfRange n))) (above-test p n l)
@@ -183,7 +175,8 @@ module _ (last k : ℕ) (e : k ≡ last + 1) (few : last ≤ 1844674407370955161
       let taken = local-own doc last k op e ∙ o in
       record { later = later; names = names; is = taken; now = record { named = named-local last k doc later stages op names e h.named taken; holds = held } }
 
-  pub refuses : (op : CellOp) (n m : ℕ) (g : Grid) → own_grid doc (suc last) last op ≡ Err (OutOfRange n) → n ≡ m → g ≡ old → EditsOne last k doc stages op old g (Some m)
+  pub refuses : (op : CellOp) (n m : ℕ) (g : Grid) → own_grid doc (suc last) last op ≡ Err (OutOfRange n) → n ≡ m → g ≡ old
+      → EditsOne last k doc stages op old g (Some m)
   refuses op n m g o same kept = (local-own doc last k op e ∙ o ∙ ap (λ i. Err (OutOfRange i)) same, kept)
 
   -- ---- splices
@@ -199,13 +192,16 @@ module _ (last k : ℕ) (e : k ≡ last + 1) (few : last ≤ 1844674407370955161
   spliced : (target : Target) (v : VectorState) (like : Grid) (list : Sequence) (op : CellOp)
       → HoldsGrid (grid_state (with_units_at target old v) 0 true) (with_rows_or_cols target doc list) stages
       → like.stages.items ≡ old.stages.items ++ (splice_stage k op ∷ [])
-      → indexed_stage (with_rows_or_cols target doc list) (stage_of k op no_elements) ≡ shown_stage (with_units_at target old v).rows (with_units_at target old v).cols (splice_stage k op)
-      → HoldsGrid (grid_state (record (with_units_at target old v) { stages = like.stages }) 0 true) (with_rows_or_cols target doc list) (stages ++ (stage_of k op no_elements ∷ []))
+      → indexed_stage (with_rows_or_cols target doc list) (stage_of k op no_elements)
+      ≡ shown_stage (with_units_at target old v).rows (with_units_at target old v).cols (splice_stage k op)
+      → HoldsGrid (grid_state (record (with_units_at target old v) { stages = like.stages }) 0 true) (with_rows_or_cols target doc list)
+      (stages ++ (stage_of k op no_elements ∷ []))
   spliced target v like list op held q e =
       pushed (with_units_at target old v) (with_rows_or_cols target doc list) stages like k op no_elements (splice_stage k op) held
       (q ∙ ap (λ us. us ++ (splice_stage k op ∷ [])) (sym (side-stages target old v))) e
 
-  pub own-insert-taken : (target : Target) (p count : ℕ) (v : VectorState) (like : Grid) → Inserts last_stage no_run (Local k) p count (units_at target old) v true
+  pub own-insert-taken : (target : Target) (p count : ℕ) (v : VectorState) (like : Grid)
+      → Inserts last_stage no_run (Local k) p count (units_at target old) v true
       → like.stages.items ≡ old.stages.items ++ (splice_stage k (SpliceIn target p count) ∷ [])
       → TakesStage last k (record (with_units_at target old v) { stages = like.stages }) doc stages (SpliceIn target p count)
   own-insert-taken target p count v like i q =
@@ -213,7 +209,8 @@ module _ (last k : ℕ) (e : k ≡ last + 1) (few : last ≤ 1844674407370955161
       let was = rows_or_cols target doc in
       let list : Sequence = record was { items = put (seen last) no_run p (new_elements 0 (Local (suc last)) [] None [] (replicate count GridUnit)) was.items } in
       takes (SpliceIn target p count) (with_rows_or_cols target doc list) no_elements (record (with_units_at target old v) { stages = like.stages })
-      (ap (λ b. cond b (Ok (with_rows_or_cols target doc list, no_elements)) (Err (OutOfRange (len (seen last) was.items)))) (ap (nat_le p) (count-at target) ∙ within-test p _ puts.0))
+      (ap (λ b. cond b (Ok (with_rows_or_cols target doc list, no_elements)) (Err (OutOfRange (len (seen last) was.items))))
+      (ap (nat_le p) (count-at target) ∙ from_self p _ puts.0))
       (spliced target v like list (SpliceIn target p count)
       (side-kept last old doc stages sound h target v list (own-insert-step last few (units_at target old) v was (below-at target) p count puts.1) refl) q refl)
 
@@ -225,7 +222,8 @@ module _ (last k : ℕ) (e : k ≡ last + 1) (few : last ≤ 1844674407370955161
       let was = rows_or_cols target doc in
       let list : Sequence = record was { items = change_range_from 0 (seen last) p q (with_pending_removal (suc last)) was.items } in
       takes (SpliceOut target p q) (with_rows_or_cols target doc list) no_elements (record (with_units_at target old v) { stages = like.stages })
-      (ap (λ b. cond b (Ok (with_rows_or_cols target doc list, no_elements)) (Err (OutOfRange (len (seen last) was.items)))) (ap (nat_le q) (count-at target) ∙ within-test q _ marks.0))
+      (ap (λ b. cond b (Ok (with_rows_or_cols target doc list, no_elements)) (Err (OutOfRange (len (seen last) was.items))))
+      (ap (nat_le q) (count-at target) ∙ from_self q _ marks.0))
       (spliced target v like list (SpliceOut target p q)
       (side-kept last old doc stages sound h target v list (own-remove-step last few (units_at target old) v was (below-at target) p q marks.1) refl) w refl)
 
@@ -238,7 +236,8 @@ module _ (last k : ℕ) (e : k ≡ last + 1) (few : last ≤ 1844674407370955161
       refuses op _ m (with_units_at target old v) (o ∙ refused-range p (len (seen last) (rows_or_cols target doc).items) d (subst (λ i. i < p) (sym (count-at target)) l))
       (count-at target ∙ sym (n ∙ ap (λ u. len (seen_in last_stage) (units_of u)) (f ∙ e))) (ap (with_units_at target old) e ∙ same-side target old)
 
-  pub own-insert-refused : (target : Target) (p count m : ℕ) (v w : VectorState) → Inserts last_stage no_run (Local k) p count (units_at target old) v false → w ≡ v
+  pub own-insert-refused : (target : Target) (p count m : ℕ) (v w : VectorState)
+      → Inserts last_stage no_run (Local k) p count (units_at target old) v false → w ≡ v
       → m ≡ len (seen_in last_stage) (units_of w) → EditsOne last k doc stages (SpliceIn target p count) old (with_units_at target old v) (Some m)
   own-insert-refused target p count m v w i f n = refused target (SpliceIn target p count) _ p m v w refl i.0 i.1 f n
 

@@ -25,7 +25,8 @@ plus-zero : (n : ℕ) → n ≡ n + 0
 plus-zero n = omega arith
 
 -- none is taken
-pub none-taken : (last k : ℕ) (g : Grid) (doc : Document) (stages : List Stage) (all : List CellOp) → Holds last g doc stages → TakesSome last k 0 g doc stages all all
+pub none-taken : (last k : ℕ) (g : Grid) (doc : Document) (stages : List Stage) (all : List CellOp) → Holds last g doc stages
+    → TakesSome last k 0 g doc stages all all
 none-taken last k g doc stages all h = record {
   between = doc;
   taken = [];
@@ -37,7 +38,8 @@ none-taken last k g doc stages all h = record {
 }
 
 -- the first of some is taken
-pub taken-first : (doc later : Document) (stages : List Stage) (k : ℕ) (op : CellOp) (names : NamedElements) (ops : List CellOp) → local_grid doc k op ≡ Ok (later, names)
+pub taken-first : (doc later : Document) (stages : List Stage) (k : ℕ) (op : CellOp) (names : NamedElements) (ops : List CellOp)
+    → local_grid doc k op ≡ Ok (later, names)
     → local_sub_operations doc stages k (map (λ o. OnGrid o) (op ∷ ops))
     ≡ behind (stage_of k op names ∷ []) (local_sub_operations later (stages ++ (stage_of k op names ∷ [])) (k + 1) (map (λ o. OnGrid o) ops))
 taken-first doc later stages k op names ops e = ap after e ∙ same (local_sub_operations later (stages ++ (stage_of k op names ∷ [])) (k + 1) (map (λ o. OnGrid o) ops))
@@ -58,7 +60,8 @@ taken-first doc later stages k op names ops e = ap after e ∙ same (local_sub_o
 next-number : (k i : ℕ) → k + i + 1 ≡ k + (i + 1)
 next-number k i = omega arith
 
-pub one-taken : (last k i n : ℕ) (now later : Grid) (doc : Document) (stages : List Stage) (all : List CellOp) (op : CellOp) → n ≡ k + i → i < length all → op ≡ get_or all i op
+pub one-taken : (last k i n : ℕ) (now later : Grid) (doc : Document) (stages : List Stage) (all : List CellOp) (op : CellOp) → n ≡ k + i
+    → i < length all → op ≡ get_or all i op
     → ((d : Document) (ts : List Stage) → Holds (last + i) now d ts → TakesStage (last + i) n later d ts op)
     → TakesSome last k i now doc stages all (drop i all) → TakesSome last k (i + 1) later doc stages all (drop (i + 1) all)
 one-taken last k i n now later doc stages all op e l g f p =
@@ -69,9 +72,12 @@ one-taken last k i n now later doc stages all op e l g f p =
       between = t.later;
       taken = p.taken ++ (stage_of n op t.names ∷ []);
       count = length-append p.taken (stage_of n op t.names ∷ []) ∙ ap (λ m. m + 1) p.count;
-      now = subst (λ ts. Holds (last + (i + 1)) later t.later ts) assoc (subst (λ m. Holds m later t.later ((stages ++ p.taken) ++ (stage_of n op t.names ∷ []))) (next-number last i) t.now);
+      now = subst (λ ts. Holds (last + (i + 1)) later t.later ts) assoc
+          (subst (λ m. Holds m later t.later ((stages ++ p.taken) ++ (stage_of n op t.names ∷ []))) (next-number last i) t.now);
       same = ap (λ ts. behind (p.taken ++ (stage_of n op t.names ∷ [])) (local_sub_operations t.later ts (k + (i + 1)) (map (λ o. OnGrid o) (drop (i + 1) all)))) (sym assoc)
-          ∙ ap (λ m. behind (p.taken ++ (stage_of n op t.names ∷ [])) (local_sub_operations t.later ((stages ++ p.taken) ++ (stage_of n op t.names ∷ [])) m (map (λ o. OnGrid o) (drop (i + 1) all))))
+          ∙ ap (λ m. behind (p.taken ++ (stage_of n op t.names ∷ []))
+          (local_sub_operations t.later ((stages ++ p.taken) ++ (stage_of n op t.names ∷ [])) m
+          (map (λ o. OnGrid o) (drop (i + 1) all))))
           (sym (next-number k i) ∙ ap (λ m. m + 1) (sym e))
           ∙ sym (behind-twice p.taken (stage_of n op t.names ∷ [])
           (local_sub_operations t.later ((stages ++ p.taken) ++ (stage_of n op t.names ∷ [])) (n + 1) (map (λ o. OnGrid o) (drop (i + 1) all))))
@@ -99,7 +105,8 @@ all-taken last k i now doc stages all l m p =
     }
 
 -- one alone
-pub alone-taken : (last k : ℕ) (g : Grid) (doc : Document) (stages : List Stage) (op : CellOp) → TakesStage last k g doc stages op → TakesStages last k g doc stages (OnGrid op ∷ [])
+pub alone-taken : (last k : ℕ) (g : Grid) (doc : Document) (stages : List Stage) (op : CellOp) → TakesStage last k g doc stages op
+    → TakesStages last k g doc stages (OnGrid op ∷ [])
 alone-taken last k g doc stages op t = record {
   later = t.later;
   taken = stage_of k op t.names ∷ [];

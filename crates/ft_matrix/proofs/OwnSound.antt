@@ -37,16 +37,19 @@ pub stages-above : (rows cols : VectorState) (k : ℕ) (us : List GridStage) →
 stages-above rows cols k [] a = tt
 stages-above rows cols k (u ∷ us) a = (a.0, stages-above rows cols k us a.1)
 
-pub rise-behind : (low k : ℕ) (us : List GridStage) (u : GridStage) → low < k → u.stage ≡ k → AllByRecursion (λ (t : GridStage). t.stage < k) us → StagesRise low us
+pub rise-behind : (low k : ℕ) (us : List GridStage) (u : GridStage) → low < k → u.stage ≡ k
+    → AllByRecursion (λ (t : GridStage). t.stage < k) us → StagesRise low us
     → StagesRise low (us ++ (u ∷ []))
 rise-behind low k [] u l e a r = (subst (λ n. low < n) (sym e) l, tt)
 rise-behind low k (t ∷ us) u l e a r = (r.0, rise-behind t.stage k us u a.0 e a.1 r.1)
 
 pub flat-behind : (row col : ℕ) (us : List GridStage) (u : GridStage) → writes_to row col (us ++ (u ∷ [])) ≡ writes_to row col us ++ write_of row col u
 flat-behind row col [] u = append-nil (write_of row col u)
-flat-behind row col (t ∷ us) u = ap (λ ws. write_of row col t ++ ws) (flat-behind row col us u) ∙ sym (append_assoc (write_of row col t) (writes_to row col us) (write_of row col u))
+flat-behind row col (t ∷ us) u = ap (λ ws. write_of row col t ++ ws) (flat-behind row col us u)
+    ∙ sym (append_assoc (write_of row col t) (writes_to row col us) (write_of row col u))
 
-pub splice-writes : (row col : ℕ) (us vs : List GridStage) (u : GridStage) → vs ≡ us ++ (u ∷ []) → write_of row col u ≡ [] → writes_to row col vs ≡ writes_to row col us
+pub splice-writes : (row col : ℕ) (us vs : List GridStage) (u : GridStage) → vs ≡ us ++ (u ∷ []) → write_of row col u ≡ []
+    → writes_to row col vs ≡ writes_to row col us
 splice-writes row col us vs u e n = ap (writes_to row col) e ∙ flat-behind row col us u ∙ ap (λ ws. writes_to row col us ++ ws) n ∙ append-nil (writes_to row col us)
 
 module _ (old like : Grid) (k : ℕ) (op : CellOp) (sound : IsSound old) (above : IsAboveAll k (grid_state old 0 true))
@@ -98,12 +101,14 @@ new-below : (k first count : ℕ) → AreBelow (k + 1) (new_elements (Local k) N
 new-below k first zero = tt
 new-below k first (suc count) = (ap (λ b. b && true) (here-below k), new-below k (first + 1) count)
 
-mark-below : (k : ℕ) (ts : List Stamp) → list_all (is_stamp_below (k + 1)) ts ≡ true → list_all (is_stamp_below (k + 1)) (put_past is_acked (Local k ∷ []) ts) ≡ true
+mark-below : (k : ℕ) (ts : List Stamp) → list_all (is_stamp_below (k + 1)) ts ≡ true
+    → list_all (is_stamp_below (k + 1)) (put_past is_acked (Local k ∷ []) ts) ≡ true
 mark-below k [] h = ap (λ b. b && true) (here-below k)
 mark-below k (Acked s c ∷ ts) h = mark-below k ts h
 mark-below k (Local j ∷ ts) h = ap (λ b. b && list_all (is_stamp_below (k + 1)) (Local j ∷ ts)) (here-below k) ∙ h
 
-marked-below : (k : ℕ) (e : TreeElement ℕ) → is_unit_below (k + 1) (shown_unit e) ≡ true → is_unit_below (k + 1) (shown_unit (with_stamps (removed_stamps (Local k)) e)) ≡ true
+marked-below : (k : ℕ) (e : TreeElement ℕ) → is_unit_below (k + 1) (shown_unit e) ≡ true
+    → is_unit_below (k + 1) (shown_unit (with_stamps (removed_stamps (Local k)) e)) ≡ true
 marked-below k e h =
     let p = both (is_stamp_below (k + 1) e.stamps.ins) (list_all (is_stamp_below (k + 1)) e.stamps.dels) h in
     ap (λ b. b && list_all (is_stamp_below (k + 1)) (put_past is_acked (Local k ∷ []) e.stamps.dels)) p.0 ∙ mark-below k e.stamps.dels p.1
@@ -122,13 +127,15 @@ pub later-units : (k : ℕ) (v : VectorState) → AreBelow k (units_of v) → Ar
 later-units k v a = all-weaker (λ (e : TreeElement ℕ). is_unit_below k (shown_unit e) ≡ true) (λ (e : TreeElement ℕ). is_unit_below (k + 1) (shown_unit e) ≡ true)
     (λ e h. later-unit k (shown_unit e) h) (units_of v) a
 
-pub put-below : (p count k : ℕ) (old new : VectorState) → Inserts last_stage no_run (Local k) p count old new true → AreBelow k (units_of old) → AreBelow (k + 1) (units_of new)
+pub put-below : (p count k : ℕ) (old new : VectorState) → Inserts last_stage no_run (Local k) p count old new true
+    → AreBelow k (units_of old) → AreBelow (k + 1) (units_of new)
 put-below p count k old new i a =
     subst (AreBelow (k + 1)) (sym i.1.units)
     (all-put (λ (e : TreeElement ℕ). is_unit_below (k + 1) (shown_unit e) ≡ true) no_run (new_elements (Local k) None [] (handles_of i.1.run))
     (new-below k i.1.run.first i.1.run.count) (seen_in last_stage) p (units_of old) (later-units k old a))
 
-pub range-below : (p q k : ℕ) (old new : VectorState) → Removes last_stage (Local k) p q old new true → AreBelow k (units_of old) → AreBelow (k + 1) (units_of new)
+pub range-below : (p q k : ℕ) (old new : VectorState) → Removes last_stage (Local k) p q old new true → AreBelow k (units_of old)
+    → AreBelow (k + 1) (units_of new)
 range-below p q k old new i a =
     subst (AreBelow (k + 1)) (sym i.1.units)
     (all-range (λ (e : TreeElement ℕ). is_unit_below (k + 1) (shown_unit e) ≡ true) (seen_in last_stage) (with_stamps (removed_stamps (Local k)))
@@ -161,6 +168,8 @@ pub splice-above : (target : Target) (old : Grid) (v : VectorState) (like : Grid
     → like.stages.items ≡ old.stages.items ++ (u ∷ []) → (AreBelow k (units_of (units_at target old)) → AreBelow (k + 1) (units_of v))
     → IsAboveAll (k + 1) (grid_state (record (with_units_at target old v) { stages = like.stages }) 0 true)
 splice-above Rows old v like k u above e queue f =
-    next-above old (record old { rows = v; stages = like.stages }) k u above e queue (f (units-below k old.rows above.rows)) (later-units k old.cols (units-below k old.cols above.cols))
+    next-above old (record old { rows = v; stages = like.stages }) k u above e queue (f (units-below k old.rows above.rows))
+    (later-units k old.cols (units-below k old.cols above.cols))
 splice-above Cols old v like k u above e queue f =
-    next-above old (record old { cols = v; stages = like.stages }) k u above e queue (later-units k old.rows (units-below k old.rows above.rows)) (f (units-below k old.cols above.cols))
+    next-above old (record old { cols = v; stages = like.stages }) k u above e queue
+    (later-units k old.rows (units-below k old.rows above.rows)) (f (units-below k old.cols above.cols))

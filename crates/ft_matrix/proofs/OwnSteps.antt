@@ -80,7 +80,8 @@ module _ {A : Type 0} (s t : A → Bool) where
   len-tests (x ∷ xs) a = ap (λ b. one_more_if b (len s xs)) a.0 ∙ ap (one_more_if (t x)) (len-tests xs a.1)
 
 -- the local view agrees with the view of the stage before
-pub views-agree : (k : ℕ) → k ≤ 18446744073709551615 → (es : List (TreeElement ℕ)) → AreBelow (suc k) es → AllByRecursion (λ e. seen_in last_stage e ≡ seen_in (Stage k) e) es
+pub views-agree : (k : ℕ) → k ≤ 18446744073709551615 → (es : List (TreeElement ℕ)) → AreBelow (suc k) es
+    → AllByRecursion (λ e. seen_in last_stage e ≡ seen_in (Stage k) e) es
 views-agree k l [] a = tt
 views-agree k l (e ∷ es) a = (seen-same k 18446744073709551615 e a.0 l, views-agree k l es a.1)
 
@@ -95,14 +96,16 @@ module _ {A B : Type 0} {Q R : A → B → Type 0} (sees : A → Bool) (sees' : 
   choice x y true false d e h q = (cc)
   choice x y false true d e h q = (cc)
 
-  pub range-two : (i p q : ℕ) {xs : List A} {ys : List B} → Beside A B Q xs ys → Beside A B R (change_range_from i sees p q f xs) (change_range_from i sees' p q g ys)
+  pub range-two : (i p q : ℕ) {xs : List A} {ys : List B} → Beside A B Q xs ys
+      → Beside A B R (change_range_from i sees p q f xs) (change_range_from i sees' p q g ys)
   range-two i p q ends = ends
   range-two i p q (next {x = x} {y = y} {xs = xs} {ys = ys} r rs) =
       next (choice x y (sees x) (sees' y) (within p q i) refl (agree x y r) r)
       (subst (λ b. Beside A B R (change_range_from (one_more_if (sees x) i) sees p q f xs) (change_range_from (one_more_if b i) sees' p q g ys))
       (agree x y r) (range-two (one_more_if (sees x) i) p q rs))
 
-pub beside-all : {Q : ListElement → TreeElement ℕ → Type 0} (R : TreeElement ℕ → Type 0) {xs : List ListElement} {es : List (TreeElement ℕ)} → BesideUnits Q xs es
+pub beside-all : {Q : ListElement → TreeElement ℕ → Type 0} (R : TreeElement ℕ → Type 0) {xs : List ListElement}
+    {es : List (TreeElement ℕ)} → BesideUnits Q xs es
     → AllByRecursion R es → BesideUnits (λ x e. Q x e × R e) xs es
 beside-all R ends a = ends
 beside-all R (next q qs) a = next (q, a.0) (beside-all R qs a.1)
@@ -120,11 +123,13 @@ any-last test (t ∷ ts) us a = later (test t) (any-last test ts us a)
     later true h = refl
     later false h = h
 
-pub none-pending : (k : ℕ) (x : ListElement) (e : TreeElement ℕ) → IsUnit x e → is_unit_below (suc k) (shown_unit e) ≡ true → seen k x ≡ true → x.removal_stage ≡ None
+pub none-pending : (k : ℕ) (x : ListElement) (e : TreeElement ℕ) → IsUnit x e → is_unit_below (suc k) (shown_unit e) ≡ true
+    → seen k x ≡ true → x.removal_stage ≡ None
 none-pending k x e u b s = step x.removal_stage refl
   where
     below : list_all (is_stamp_below (suc k)) (x.dels ++ removal_stamp x.removal_stage) ≡ true
-    below = ap (λ (t : ElementStamps). list_all (is_stamp_below (suc k)) t.dels) (unit-stamps x e u) ∙ (both (is_stamp_below (suc k) e.stamps.ins) (list_all (is_stamp_below (suc k)) e.stamps.dels) b).1
+    below = ap (λ (t : ElementStamps). list_all (is_stamp_below (suc k)) t.dels) (unit-stamps x e u)
+        ∙ (both (is_stamp_below (suc k) e.stamps.ins) (list_all (is_stamp_below (suc k)) e.stamps.dels) b).1
 
     unseen : (a c : Bool) → a && not c ≡ true → c ≡ false
     unseen true false h = refl
@@ -170,7 +175,8 @@ module _ (last : ℕ) (few : last ≤ 18446744073709551615) (old new : VectorSta
       later = omega arith
 
       news : (P : ElementId → ℕ → Type 0) → ((a : ElementId) (h : ℕ) → IsUnused list.made last a → in_use old h ≡ false → P a h)
-          → BesideUnits (HandleNamed P) (new_elements 0 (Local (suc last)) [] None [] (replicate count GridUnit)) (tree.new_elements (Local (suc last)) None [] (handles_of puts.run))
+          → BesideUnits (HandleNamed P) (new_elements 0 (Local (suc last)) [] None [] (replicate count GridUnit))
+          (tree.new_elements (Local (suc last)) None [] (handles_of puts.run))
       news P f = subst (λ n. BesideUnits (HandleNamed P) (new_elements 0 (Local (suc last)) [] None [] (replicate count GridUnit))
           (tree.new_elements (Local (suc last)) None [] (numbers_from puts.run.first n))) (sym puts.count_is)
           (new-units P (Local (suc last)) 0 puts.run.first count

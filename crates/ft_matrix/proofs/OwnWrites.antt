@@ -59,7 +59,8 @@ module _ (last k : ℕ) (e : k ≡ last + 1) (few : last ≤ 1844674407370955161
   Found xs es o p = Both ListElement (TreeElement ℕ) (λ x d. StandsHere xs es x d) o p
 
   plain : (xs : List ListElement) (es : List (TreeElement ℕ)) (o : Option ListElement) (p : Option (TreeElement ℕ))
-      → Both ListElement (TreeElement ℕ) (λ x d. (StandsHere xs es x d × (is_unit_below (suc last) (shown_unit d) ≡ true)) × (seen last x ≡ true)) o p → Found xs es o p
+      → Both ListElement (TreeElement ℕ) (λ x d. (StandsHere xs es x d × (is_unit_below (suc last) (shown_unit d) ≡ true))
+      × (seen last x ≡ true)) o p → Found xs es o p
   plain xs es None None neither = neither
   plain xs es (Some x) (Some d) (each q) = each q.0.0
   plain xs es None (Some d) f = elim f [ ]
@@ -71,7 +72,8 @@ module _ (last k : ℕ) (e : k ≡ last + 1) (few : last ≤ 1844674407370955161
       (λ x d q. unit-seen x d q.0.unit last ∙ sym (seen-same last 18446744073709551615 d q.1 few)) n (beside-all (λ d. is_unit_below (suc last) (shown_unit d) ≡ true) m b))
 
   rows-found : Found doc.rows.items (units_of old.rows) (at (seen last) i doc.rows.items) (at (seen_in last_stage) i (units_of old.rows))
-  rows-found = found doc.rows.items (units_of old.rows) i (each-meets h.named.rows.once sound.rows.proper.once (rows-beside hu)) (rows-below last k e few old doc stages sound h above)
+  rows-found = found doc.rows.items (units_of old.rows) i (each-meets h.named.rows.once sound.rows.proper.once (rows-beside hu))
+      (rows-below last k e few old doc stages sound h above)
 
   cols-found : Found doc.cols.items (units_of old.cols) (at (seen last) j doc.cols.items) (at (seen_in last_stage) j (units_of old.cols))
   cols-found = found doc.cols.items (units_of old.cols) j (each-meets h.named.cols.once sound.cols.proper.once hu.cols) (cols-below last k e few old doc stages sound h above)
@@ -84,7 +86,8 @@ module _ (last k : ℕ) (e : k ≡ last + 1) (few : last ≤ 1844674407370955161
   no-row (Some x) None q n f = elim f [ ]
   no-row (Some x) (Some u) q n f = (cc)
 
-  no-col : (o q : Option ListElement) (u p : Option (TreeElement ℕ)) (a : ℕ) → option_map (λ (d : TreeElement ℕ). d.unit) u ≡ Some a → p ≡ None → Found doc.rows.items (units_of old.rows) o u
+  no-col : (o q : Option ListElement) (u p : Option (TreeElement ℕ)) (a : ℕ) → option_map (λ (d : TreeElement ℕ). d.unit) u ≡ Some a
+      → p ≡ None → Found doc.rows.items (units_of old.rows) o u
       → Found doc.cols.items (units_of old.cols) q p → own_set doc last o q ≡ Err (OutOfRange (len (seen last) doc.cols.items))
   no-col None q None p a s n f g = (cc)
   no-col None q (Some d) p a s n f g = elim f [ ]
@@ -129,7 +132,8 @@ module _ (last k : ℕ) (e : k ≡ last + 1) (few : last ≤ 1844674407370955161
   module _ (table : CellList) (like : Grid) (a b : ℕ) (w : IsPended a b k value old.cells table)
       (queue : like.stages.items ≡ old.stages.items ++ (record { stage = k; op = Set i j value; row = Some a; col = Some b } ∷ [])) where
     taken : (o q : Option ListElement) (p n : Option (TreeElement ℕ)) (d f : TreeElement ℕ) → p ≡ Some d → n ≡ Some f → d.unit ≡ a → f.unit ≡ b
-        → Found doc.rows.items (units_of old.rows) o p → Found doc.cols.items (units_of old.cols) q n → own_set doc last o q ≡ own_set doc last (at (seen last) i doc.rows.items) (at (seen last) j doc.cols.items)
+        → Found doc.rows.items (units_of old.rows) o p → Found doc.cols.items (units_of old.cols) q n
+        → own_set doc last o q ≡ own_set doc last (at (seen last) i doc.rows.items) (at (seen last) j doc.cols.items)
         → TakesStage last k (record old { cells = table; stages = like.stages }) doc stages (Set i j value)
     taken None q None n d f g l s t r c z = (cc)
     taken None q (Some u) n d f g l s t r c z = elim r [ ]
@@ -142,7 +146,8 @@ module _ (last k : ℕ) (e : k ≡ last + 1) (few : last ≤ 1844674407370955161
         let sv : v ≡ f = (cc) in
         let ua : u.unit ≡ a = ap (λ (m : TreeElement ℕ). m.unit) su ∙ s in
         let vb : v.unit ≡ b = ap (λ (m : TreeElement ℕ). m.unit) sv ∙ t in
-        takes last k e few old doc stages sound h above (Set i j value) doc (record { first = Some (id x); second = Some (id y) }) (record old { cells = table; stages = like.stages })
+        takes last k e few old doc stages sound h above (Set i j value) doc (record { first = Some (id x); second = Some (id y) })
+        (record old { cells = table; stages = like.stages })
         (sym z)
         (pushed (record old { cells = table }) doc stages like k (Set i j value) (record { first = Some (id x); second = Some (id y) })
         (record { stage = k; op = Set i j value; row = Some a; col = Some b }) (pended table a b w) queue
@@ -167,7 +172,8 @@ module _ (last k : ℕ) (e : k ≡ last + 1) (few : last ≤ 1844674407370955161
 
 -- ---- soundness
 
-kept-cell : (h g k : ℕ) (value : ValueBytes) (old new : CellList) → IsPended h g k value old new → (r c : ℕ) → (nat_eq r h && nat_eq c g) ≡ false → cell_at old r c ≡ empty_cell
+kept-cell : (h g k : ℕ) (value : ValueBytes) (old new : CellList) → IsPended h g k value old new → (r c : ℕ)
+    → (nat_eq r h && nat_eq c g) ≡ false → cell_at old r c ≡ empty_cell
     → cell_at new r c ≡ empty_cell
 kept-cell h g k value old new w r c e n = w r c ∙ ap (λ b. cond b (with_write k value (cell_at old r c)) (cell_at old r c)) e ∙ n
 
@@ -176,9 +182,11 @@ more-writes : (k : ℕ) (value : ValueBytes) (b : Bool) (cell : CellState) (ws :
 more-writes k value true cell ws e = ap (λ us. us ++ ((k, value) ∷ [])) e
 more-writes k value false cell ws e = e ∙ sym (append-nil ws)
 
-pub own-write-sound : (old like : Grid) (k i j h g : ℕ) (value : ValueBytes) (table : CellList) → IsSound old → IsAboveAll k (grid_state old 0 true) → 1 ≤ k → in_use old.rows h ≡ true
+pub own-write-sound : (old like : Grid) (k i j h g : ℕ) (value : ValueBytes) (table : CellList) → IsSound old
+    → IsAboveAll k (grid_state old 0 true) → 1 ≤ k → in_use old.rows h ≡ true
     → in_use old.cols g ≡ true → IsPended h g k value old.cells table
-    → like.stages.items ≡ old.stages.items ++ (record { stage = k; op = Set i j value; row = Some h; col = Some g } ∷ []) → IsSound (record old { cells = table; stages = like.stages })
+    → like.stages.items ≡ old.stages.items ++ (record { stage = k; op = Set i j value; row = Some h; col = Some g } ∷ [])
+    → IsSound (record old { cells = table; stages = like.stages })
 own-write-sound old like k i j h g value table s above some a b w queue = record {
   rows = s.rows;
   cols = s.cols;
@@ -195,7 +203,8 @@ own-write-sound old like k i j h g value table s above some a b w queue = record
 }
 
 -- the pending writes of a cell are of stages below one that is above all
-writes-below : (row col k : ℕ) (us : List GridStage) → AllByRecursion (λ (t : GridStage). t.stage < k) us → AllByRecursion (λ (p : ℕ × ValueBytes). p.0 < k) (writes_to row col us)
+writes-below : (row col k : ℕ) (us : List GridStage) → AllByRecursion (λ (t : GridStage). t.stage < k) us
+    → AllByRecursion (λ (p : ℕ × ValueBytes). p.0 < k) (writes_to row col us)
 writes-below row col k [] a = tt
 writes-below row col k (u ∷ us) a = step u.op u.stage u.row u.col a.0 (writes-below row col k us a.1)
   where

@@ -104,7 +104,8 @@ module _ {C : Type 0} where
       here None = refl
       here (Some w) = rw (same-number i) refl
 
-  row-misses : (v : C → Option ValueBytes) (k i : ℕ) → k < i → (j : ℕ) (cols : List C) → list_any (λ (c : CellRec). nat_eq c.row k) (placed_row v i j cols) ≡ false
+  row-misses : (v : C → Option ValueBytes) (k i : ℕ) → k < i → (j : ℕ) (cols : List C)
+      → list_any (λ (c : CellRec). nat_eq c.row k) (placed_row v i j cols) ≡ false
   row-misses v k i l j [] = refl
   row-misses v k i l j (col ∷ cols) =
       none-append (λ (c : CellRec). nat_eq c.row k) (cell_record i j (v col)) (placed_row v i (j + 1) cols) (here (v col)) (row-misses v k i l (j + 1) cols)

@@ -61,7 +61,8 @@ module _ (last : ℕ) (numbers : List ℕ) (list : Sequence) (w : IsWellNumbered
   }
 
   -- what held of name and handle at each place still holds
-  pub rebuilt-carries : (P : ElementId → ℕ → Type 0) → BesideUnits (HandleNamed P) list.items (units_of old) → BesideUnits (HandleNamed P) (rebuilt_list numbers list).items (units_of new)
+  pub rebuilt-carries : (P : ElementId → ℕ → Type 0) → BesideUnits (HandleNamed P) list.items (units_of old)
+      → BesideUnits (HandleNamed P) (rebuilt_list numbers list).items (units_of new)
   rebuilt-carries P h = subst (λ us. BesideUnits (HandleNamed P) (rebuilt_list numbers list).items us) (sym (r.units last up-to)) (rebuilt-units P last numbers list of h)
 
   pub rebuilt-moves : Moves list.items (units_of old) (rebuilt_list numbers list).items (units_of new)
@@ -91,10 +92,12 @@ module _ (old new : Grid) (sound : IsSound old) (same : new ≡ record old { row
     hu : HoldsUnits doc.rows.items doc.cols.items doc.cells (units_of old.rows) (units_of old.cols) old.cells
     hu = units last old doc stages sound h
 
-    rows-carry : (P : ElementId → ℕ → Type 0) → BesideUnits (HandleNamed P) doc.rows.items (units_of old.rows) → BesideUnits (HandleNamed P) later.rows.items (units_of new.rows)
+    rows-carry : (P : ElementId → ℕ → Type 0) → BesideUnits (HandleNamed P) doc.rows.items (units_of old.rows)
+        → BesideUnits (HandleNamed P) later.rows.items (units_of new.rows)
     rows-carry P b = rebuilt-carries last numbers doc.rows h.named.rows its.rise its.rows old.rows new.rows sound.rows rr (rows-beside hu) P b
 
-    cols-carry : (P : ElementId → ℕ → Type 0) → BesideUnits (HandleNamed P) doc.cols.items (units_of old.cols) → BesideUnits (HandleNamed P) later.cols.items (units_of new.cols)
+    cols-carry : (P : ElementId → ℕ → Type 0) → BesideUnits (HandleNamed P) doc.cols.items (units_of old.cols)
+        → BesideUnits (HandleNamed P) later.cols.items (units_of new.cols)
     cols-carry P b = rebuilt-carries last numbers doc.cols h.named.cols its.rise its.cols old.cols new.cols sound.cols rc hu.cols P b
 
     later-units : HoldsUnits later.rows.items later.cols.items doc.cells (units_of new.rows) (units_of new.cols) old.cells

@@ -64,7 +64,8 @@ module _ (P : TreeElement ℕ → Type 0) where
       step true r = (a.0, r)
       step false r = r
 
-  all-retained : ((x : TreeElement ℕ) → P x → P (carried_element x)) → (xs : List (TreeElement ℕ)) → AllByRecursion P xs → AllByRecursion P (retain_map (sequenced stamps_in) carried_element xs)
+  all-retained : ((x : TreeElement ℕ) → P x → P (carried_element x)) → (xs : List (TreeElement ℕ)) → AllByRecursion P xs
+      → AllByRecursion P (retain_map (sequenced stamps_in) carried_element xs)
   all-retained f [] a = tt
   all-retained f (x ∷ xs) a = step (is_acked x.stamps.ins) (all-retained f xs a.1)
     where
@@ -75,10 +76,12 @@ module _ (P : TreeElement ℕ → Type 0) where
 
   all-stages : (xs ys : List (TreeElement ℕ)) → AllByRecursion P xs → AllByRecursion P ys → (k : ℕ) → AllByRecursion P (with_stages stamps_in xs ys k)
   all-stages xs ys a b zero = b
-  all-stages xs ys a b (suc k) = all-put P no_run (filter (inserted_by stamps_in (suc k)) xs) (all-filter (inserted_by stamps_in (suc k)) xs a) (seen_by stamps_in k) (next_position stamps_in k xs)
+  all-stages xs ys a b (suc k) = all-put P no_run (filter (inserted_by stamps_in (suc k)) xs)
+      (all-filter (inserted_by stamps_in (suc k)) xs a) (seen_by stamps_in k) (next_position stamps_in k xs)
       (with_stages stamps_in xs ys k) (all-stages xs ys a b k)
 
-  pub all-rebuilt : ((x : TreeElement ℕ) → P x → P (carried_element x)) → (last : ℕ) (xs : List (TreeElement ℕ)) → AllByRecursion P xs → AllByRecursion P (tree_rebuilt last xs)
+  pub all-rebuilt : ((x : TreeElement ℕ) → P x → P (carried_element x)) → (last : ℕ) (xs : List (TreeElement ℕ)) → AllByRecursion P xs
+      → AllByRecursion P (tree_rebuilt last xs)
   all-rebuilt f last xs a = all-stages xs (retain_map (sequenced stamps_in) carried_element xs) a (all-retained f xs a) last
 
 -- ---- each handle stands once
@@ -92,7 +95,8 @@ more-is : (b : Bool) (n : ℕ) → one_more_if b n ≡ one_more_if b 0 + n
 more-is true n = omega arith
 more-is false n = omega arith
 
-add-tests : {A : Type 0} (a b c : A → Bool) → ((x : A) → one_more_if (a x) 0 + one_more_if (b x) 0 ≡ one_more_if (c x) 0) → (xs : List A) → len a xs + len b xs ≡ len c xs
+add-tests : {A : Type 0} (a b c : A → Bool) → ((x : A) → one_more_if (a x) 0 + one_more_if (b x) 0 ≡ one_more_if (c x) 0) → (xs : List A)
+    → len a xs + len b xs ≡ len c xs
 add-tests a b c f [] = omega arith
 add-tests a b c f (x ∷ xs) =
     let h = f x in
@@ -169,7 +173,8 @@ module _ (h : ℕ) where
   one-stage : (k : ℕ) (e : TreeElement ℕ) → one_more_if (nat_eq e.unit h && is_of_stage (suc k) e.stamps.ins) 0 + one_more_if (arrives k e) 0 ≡ one_more_if (arrives (suc k) e) 0
   one-stage k e = step (nat_eq e.unit h)
     where
-      step : (b : Bool) → one_more_if (b && is_of_stage (suc k) e.stamps.ins) 0 + one_more_if (b && has_arrived k e.stamps.ins) 0 ≡ one_more_if (b && has_arrived (suc k) e.stamps.ins) 0
+      step : (b : Bool) → one_more_if (b && is_of_stage (suc k) e.stamps.ins) 0 + one_more_if (b && has_arrived k e.stamps.ins) 0
+          ≡ one_more_if (b && has_arrived (suc k) e.stamps.ins) 0
       step true = stage-arrives k e.stamps.ins
       step false = omega arith
 
@@ -241,9 +246,11 @@ module _ (old new : VectorState) (f : ℕ → Reference → Reference) (s : IsSo
       fresh : new.next ≡ old.next → new.next ≤ new.tree.made
       fresh e = let g = s.fresh in omega (arith, e, g, made)
 
-pub rebuilt-ok : {A E : Type 0} (r : Result A E) (old new : VectorState) (f : ℕ → Reference → Reference) → IsSoundVector old → new ≡ record old { tree = new.tree }
+pub rebuilt-ok : {A E : Type 0} (r : Result A E) (old new : VectorState) (f : ℕ → Reference → Reference) → IsSoundVector old
+    → new ≡ record old { tree = new.tree }
     → ((last : ℕ) → StagesUpTo stamps_in last (units_of old) → OnOk r (units_of new ≡ tree_rebuilt last (units_of old))) → OnOk r (new.tree.usable ≡ true)
-    → ((last : ℕ) → StagesUpTo stamps_in last (units_of old) → OnOk r (ChangesReferences (f last) old.tree.refs new.tree.refs)) → OnOk r (new.tree.made ≡ old.tree.made)
+    → ((last : ℕ) → StagesUpTo stamps_in last (units_of old) → OnOk r (ChangesReferences (f last) old.tree.refs new.tree.refs))
+    → OnOk r (new.tree.made ≡ old.tree.made)
     → OnOk r (IsSoundVector new)
 rebuilt-ok (Ok x) old new f s same e u c m = vector-rebuilt old new f s same e u c m
 rebuilt-ok (Err x) old new f s same e u c m = tt
@@ -278,7 +285,8 @@ module _ (P : ElementId → ℕ → Type 0) where
       → BesideUnits (HandleNamed P) (retain_map is_sequenced document_carried es) (retain_map (sequenced stamps_in) carried_element us)
   retained-units ends = ends
   retained-units (next {x = x} {y = e} q qs) =
-      beside-choice (is_sequenced x) (sequenced stamps_in e) (ap (λ (s : ElementStamps). is_acked s.ins) (unit-stamps x e q.0)) (next (carried-named x e q) (retained-units qs)) (retained-units qs)
+      beside-choice (is_sequenced x) (sequenced stamps_in e) (ap (λ (s : ElementStamps). is_acked s.ins) (unit-stamps x e q.0))
+      (next (carried-named x e q) (retained-units qs)) (retained-units qs)
 
   module _ {es : List ListElement} {us : List (TreeElement ℕ)} (b : BesideUnits (HandleNamed P) es us) where
     is-same : (k : ℕ) (x : ListElement) (e : TreeElement ℕ) → HandleNamed P x e → is_inserted_by k x ≡ inserted_by stamps_in k e
@@ -296,7 +304,8 @@ module _ (P : ElementId → ℕ → Type 0) where
         (beside-put (seen k) (seen_by stamps_in k) (seen-same k) no_run no_run (λ x e q. refl)
         (beside-filter (is_inserted_by (suc k)) (inserted_by stamps_in (suc k)) (is-same (suc k)) b) (next_position stamps_of k es) (stages-units c k))
 
-  pub rebuilt-units : (last : ℕ) (ms : List ℕ) (list : Sequence) → AreStagesOf 0 last list.items ms → {us : List (TreeElement ℕ)} → BesideUnits (HandleNamed P) list.items us
+  pub rebuilt-units : (last : ℕ) (ms : List ℕ) (list : Sequence) → AreStagesOf 0 last list.items ms → {us : List (TreeElement ℕ)}
+      → BesideUnits (HandleNamed P) list.items us
       → BesideUnits (HandleNamed P) (rebuilt_list ms list).items (tree_rebuilt last us)
   rebuilt-units last ms list of {us} b = subst (λ ys. BesideUnits (HandleNamed P) ys (tree_rebuilt last us))
       (sym (listed-stages list.items (retain_map is_sequenced document_carried list.items) 0 last ms (omega arith) of)) (stages-units b (retained-units b) last)

@@ -57,7 +57,8 @@ module _ (first count last : ℕ) (old new : Grid) (ops : List CellOp) (sound : 
   pub reconnected-sent : list_all is_grid_stage mine ≡ true → map (λ p. OnGrid p) ops ≡ flat_map (pieces doc) mine
   reconnected-sent all =
       ap (map (λ p. OnGrid p)) r.sent
-      ∙ stages-sent first count doc old.rows old.cols (same-sent last old sound doc (before ++ (mine ++ rest)) h) (before ++ (mine ++ rest)) old.stages.items h.named.stages h.holds.stages
+      ∙ stages-sent first count doc old.rows old.cols (same-sent last old sound doc (before ++ (mine ++ rest)) h)
+      (before ++ (mine ++ rest)) old.stages.items h.named.stages h.holds.stages
       ∙ edit-sent first count last doc before mine rest some h.named.rise numbers all
 
 pub sends-again : (first count : ℕ) (old new : Grid) (ops : List CellOp) (op : Option GridOp) → IsSound old → 1 ≤ count → Resubmits first count old new ops

@@ -98,7 +98,8 @@ inserted-length last p count xs a =
 
 inserted-below : (last p count : ℕ) (xs : List ListElement) → Below (suc last) xs
     → Below (suc (suc last)) (put (seen last) no_run p (new_elements 0 (Local (suc last)) [] None [] (replicate count GridUnit)) xs)
-inserted-below last p count xs a = all-put (λ x. is_unit_below (suc (suc last)) (nameless x) ≡ true) no_run (new_elements 0 (Local (suc last)) [] None [] (replicate count GridUnit))
+inserted-below last p count xs a = all-put (λ x. is_unit_below (suc (suc last)) (nameless x) ≡ true) no_run
+    (new_elements 0 (Local (suc last)) [] None [] (replicate count GridUnit))
     (new-below (suc last) 0 count) (seen last) p xs (later-below (suc last) xs a)
 
 -- ---- lengths after a removal
@@ -159,7 +160,8 @@ module _ {A : Type 0} (s t : A → Bool) (f : A → A) (gone : (x : A) → t (f 
 
       step : (b : Bool) → s x ≡ b → suc m ≤ one_more_if b (len s xs) → (m ≤ len s xs → len t (change_range_from (suc i) s p q f xs) + m ≡ len s xs)
           → (suc m ≤ len s xs → len t (change_range_from i s p q f xs) + suc m ≡ len s xs)
-          → one_more_if (t (cond (s x && within p q i) (f x) x)) (len t (change_range_from (one_more_if (s x) i) s p q f xs)) + suc m ≡ one_more_if (s x) (len s xs)
+          → one_more_if (t (cond (s x && within p q i) (f x) x)) (len t (change_range_from (one_more_if (s x) i) s p q f xs)) + suc m
+          ≡ one_more_if (s x) (len s xs)
       step true h k ih jh =
           ap (λ b. one_more_if (t (cond (b && within p q i) (f x) x)) (len t (change_range_from (one_more_if b i) s p q f xs)) + suc m) h
           ∙ ap (λ b. one_more_if (t (cond b (f x) x)) (len t (change_range_from (suc i) s p q f xs)) + suc m) inside
@@ -193,7 +195,8 @@ module _ {A : Type 0} (s t : A → Bool) (f : A → A) (gone : (x : A) → t (f 
           → one_more_if (t (cond (s x && within p q i) (f x) x)) (len t (change_range_from (one_more_if (s x) i) s p q f xs)) + m ≡ one_more_if (s x) (len s xs)
       step b h k ih jh = ap (λ y. one_more_if (t y) (len t (change_range_from (one_more_if (s x) i) s p q f xs)) + m) (kept (s x)) ∙ at-element b h k ih jh
         where
-          at-element : (b : Bool) → s x ≡ b → suc d + m ≤ one_more_if b (len s xs) → (d + m ≤ len s xs → len t (change_range_from (suc i) s p q f xs) + m ≡ len s xs)
+          at-element : (b : Bool) → s x ≡ b → suc d + m ≤ one_more_if b (len s xs)
+              → (d + m ≤ len s xs → len t (change_range_from (suc i) s p q f xs) + m ≡ len s xs)
               → (suc d + m ≤ len s xs → len t (change_range_from i s p q f xs) + m ≡ len s xs)
               → one_more_if (t x) (len t (change_range_from (one_more_if (s x) i) s p q f xs)) + m ≡ one_more_if (s x) (len s xs)
           at-element true h k ih jh =
@@ -208,7 +211,8 @@ module _ {A : Type 0} (s t : A → Bool) (f : A → A) (gone : (x : A) → t (f 
               ∙ ap (λ b. len t (change_range_from (one_more_if b i) s p q f xs) + m) h ∙ jh k ∙ sym (ap (λ b. one_more_if b (len s xs)) h)
 
   -- the elements of a range are seen no more
-  pub range-length : (p q : ℕ) (xs : List A) → AllByRecursion (λ x. t x ≡ s x) xs → p ≤ q → q ≤ len s xs → len t (change_range_from 0 s p q f xs) ≡ len s xs - (q - p)
+  pub range-length : (p q : ℕ) (xs : List A) → AllByRecursion (λ x. t x ≡ s x) xs → p ≤ q → q ≤ len s xs
+      → len t (change_range_from 0 s p q f xs) ≡ len s xs - (q - p)
   range-length p q xs a l h = let e = before-range p q 0 p (q - p) xs a (omega arith) (omega arith) (omega arith) in omega (arith, e)
 
 pub hidden : (b c : Bool) → c ≡ true → b && not c ≡ false
@@ -238,7 +242,8 @@ marked-below k x h =
     ap (λ b. b && list_all (is_stamp_below (suc k)) (x.dels ++ (Local k ∷ []))) p.0
     ∙ both-all (is_stamp_below (suc k)) x.dels (Local k ∷ []) (first-all (is_stamp_below (suc k)) x.dels (removal_stamp x.removal_stage) p.1) (ap (λ b. b && true) (here-below k))
 
-removed-below : (last p q : ℕ) (xs : List ListElement) → Below (suc last) xs → Below (suc (suc last)) (change_range_from 0 (seen last) p q (with_pending_removal (suc last)) xs)
+removed-below : (last p q : ℕ) (xs : List ListElement) → Below (suc last) xs
+    → Below (suc (suc last)) (change_range_from 0 (seen last) p q (with_pending_removal (suc last)) xs)
 removed-below last p q xs a = all-range (λ x. is_unit_below (suc (suc last)) (nameless x) ≡ true) (seen last) (with_pending_removal (suc last))
     (λ x h. marked-below (suc last) x h) 0 p q xs (later-below (suc last) xs a)
 
@@ -253,7 +258,8 @@ at-none {A} s zero (x ∷ xs) l = step (s x) refl l (λ k. at-none s zero xs k)
     step false e k ih = ih k
 at-none {A} s (suc i) (x ∷ xs) l = step (s x) l (λ k. at-none s i xs k) (λ k. at-none s (suc i) xs k)
   where
-    step : (b : Bool) → one_more_if b (len s xs) ≤ suc i → (len s xs ≤ i → at s i xs ≡ None) → (len s xs ≤ suc i → at s (suc i) xs ≡ None) → at s (cond b i (suc i)) xs ≡ None
+    step : (b : Bool) → one_more_if b (len s xs) ≤ suc i → (len s xs ≤ i → at s i xs ≡ None) → (len s xs ≤ suc i → at s (suc i) xs ≡ None)
+        → at s (cond b i (suc i)) xs ≡ None
     step true k ih jh = ih (omega arith)
     step false k ih jh = jh k
 
@@ -261,12 +267,14 @@ at-some : {A : Type 0} (s : A → Bool) (i : ℕ) (xs : List A) → i < len s xs
 at-some s i [] l = absurd (omega arith)
 at-some {A} s zero (x ∷ xs) l = step (s x) l (λ k. at-some s zero xs k)
   where
-    step : (b : Bool) → zero < one_more_if b (len s xs) → (zero < len s xs → (y : A) × (at s zero xs ≡ Some y)) → (y : A) × (cond b (Some x) (at s zero xs) ≡ Some y)
+    step : (b : Bool) → zero < one_more_if b (len s xs) → (zero < len s xs → (y : A) × (at s zero xs ≡ Some y))
+        → (y : A) × (cond b (Some x) (at s zero xs) ≡ Some y)
     step true k ih = (x, refl)
     step false k ih = ih k
 at-some {A} s (suc i) (x ∷ xs) l = step (s x) l (λ k. at-some s i xs k) (λ k. at-some s (suc i) xs k)
   where
-    step : (b : Bool) → suc i < one_more_if b (len s xs) → (i < len s xs → (y : A) × (at s i xs ≡ Some y)) → (suc i < len s xs → (y : A) × (at s (suc i) xs ≡ Some y))
+    step : (b : Bool) → suc i < one_more_if b (len s xs) → (i < len s xs → (y : A) × (at s i xs ≡ Some y))
+        → (suc i < len s xs → (y : A) × (at s (suc i) xs ≡ Some y))
         → (y : A) × (at s (cond b i (suc i)) xs ≡ Some y)
     step true k ih jh = ih (omega arith)
     step false k ih jh = jh k
@@ -317,7 +325,8 @@ module _ (last k : ℕ) (e : k ≡ last + 1) (doc : Document) (rows : Below (suc
 
       tested : (b : Bool) → nat_le p (len (seen last) doc.rows.items) ≡ b
           → local_grid doc k (SpliceIn Rows p count) ≡ cond b (Ok (record doc { rows = list }, no_elements)) (Err (OutOfRange (len (seen last) doc.rows.items)))
-      tested b h = local-own doc last k (SpliceIn Rows p count) e ∙ ap (λ b. cond b (Ok (record doc { rows = list }, no_elements)) (Err (OutOfRange (len (seen last) doc.rows.items)))) h
+      tested b h = local-own doc last k (SpliceIn Rows p count) e
+          ∙ ap (λ b. cond b (Ok (record doc { rows = list }, no_elements)) (Err (OutOfRange (len (seen last) doc.rows.items)))) h
 
       step : (b : Bool) → nat_le p (len (seen last) doc.rows.items) ≡ b
           → After last k doc (SpliceIn Rows p count) (cond b (Ok (len (seen last) doc.rows.items + count, len (seen last) doc.cols.items)) (Err (len (seen last) doc.rows.items)))
@@ -340,7 +349,8 @@ module _ (last k : ℕ) (e : k ≡ last + 1) (doc : Document) (rows : Below (suc
 
       tested : (b : Bool) → nat_le p (len (seen last) doc.cols.items) ≡ b
           → local_grid doc k (SpliceIn Cols p count) ≡ cond b (Ok (record doc { cols = list }, no_elements)) (Err (OutOfRange (len (seen last) doc.cols.items)))
-      tested b h = local-own doc last k (SpliceIn Cols p count) e ∙ ap (λ b. cond b (Ok (record doc { cols = list }, no_elements)) (Err (OutOfRange (len (seen last) doc.cols.items)))) h
+      tested b h = local-own doc last k (SpliceIn Cols p count) e
+          ∙ ap (λ b. cond b (Ok (record doc { cols = list }, no_elements)) (Err (OutOfRange (len (seen last) doc.cols.items)))) h
 
       step : (b : Bool) → nat_le p (len (seen last) doc.cols.items) ≡ b
           → After last k doc (SpliceIn Cols p count) (cond b (Ok (len (seen last) doc.rows.items, len (seen last) doc.cols.items + count)) (Err (len (seen last) doc.cols.items)))
@@ -363,7 +373,8 @@ module _ (last k : ℕ) (e : k ≡ last + 1) (doc : Document) (rows : Below (suc
 
       tested : (b : Bool) → nat_le q (len (seen last) doc.rows.items) ≡ b
           → local_grid doc k (SpliceOut Rows p q) ≡ cond b (Ok (record doc { rows = list }, no_elements)) (Err (OutOfRange (len (seen last) doc.rows.items)))
-      tested b h = local-own doc last k (SpliceOut Rows p q) e ∙ ap (λ b. cond b (Ok (record doc { rows = list }, no_elements)) (Err (OutOfRange (len (seen last) doc.rows.items)))) h
+      tested b h = local-own doc last k (SpliceOut Rows p q) e
+          ∙ ap (λ b. cond b (Ok (record doc { rows = list }, no_elements)) (Err (OutOfRange (len (seen last) doc.rows.items)))) h
 
       step : (b : Bool) → nat_le q (len (seen last) doc.rows.items) ≡ b
           → After last k doc (SpliceOut Rows p q) (cond b (Ok (len (seen last) doc.rows.items - (q - p), len (seen last) doc.cols.items)) (Err (len (seen last) doc.rows.items)))
@@ -386,7 +397,8 @@ module _ (last k : ℕ) (e : k ≡ last + 1) (doc : Document) (rows : Below (suc
 
       tested : (b : Bool) → nat_le q (len (seen last) doc.cols.items) ≡ b
           → local_grid doc k (SpliceOut Cols p q) ≡ cond b (Ok (record doc { cols = list }, no_elements)) (Err (OutOfRange (len (seen last) doc.cols.items)))
-      tested b h = local-own doc last k (SpliceOut Cols p q) e ∙ ap (λ b. cond b (Ok (record doc { cols = list }, no_elements)) (Err (OutOfRange (len (seen last) doc.cols.items)))) h
+      tested b h = local-own doc last k (SpliceOut Cols p q) e
+          ∙ ap (λ b. cond b (Ok (record doc { cols = list }, no_elements)) (Err (OutOfRange (len (seen last) doc.cols.items)))) h
 
       step : (b : Bool) → nat_le q (len (seen last) doc.cols.items) ≡ b
           → After last k doc (SpliceOut Cols p q) (cond b (Ok (len (seen last) doc.rows.items, len (seen last) doc.cols.items - (q - p))) (Err (len (seen last) doc.cols.items)))
@@ -451,7 +463,8 @@ first-refused doc stages k n op ops e = ap after e
 some-same : {x y : ℕ} → Some x ≡ Some y → x ≡ y
 some-same e = cc e
 
-group : (last k n : ℕ) (doc : Document) (stages : List Stage) (ops : List CellOp) → k ≡ last + 1 → Below (suc last) doc.rows.items → Below (suc last) doc.cols.items
+group : (last k n : ℕ) (doc : Document) (stages : List Stage) (ops : List CellOp) → k ≡ last + 1 → Below (suc last) doc.rows.items
+    → Below (suc last) doc.cols.items
     → AllByRecursion IsWellFormedCell ops → refusal (len (seen last) doc.rows.items) (len (seen last) doc.cols.items) ops ≡ Some n
     → local_sub_operations doc stages k (map (λ o. OnGrid o) ops) ≡ Err (OutOfRange n)
 group last k n doc stages [] e rows cols w r = cc r
@@ -474,7 +487,8 @@ group last k n doc stages (op ∷ ops) e rows cols w r =
         (ih a.later (stages ++ (stage_of k op a.names ∷ [])) next-stage a.rows a.cols
         (ap (λ i. refusal i (len (seen (suc last)) a.later.cols.items) ops) (sym a.rows_count) ∙ ap (λ i. refusal l.0 i ops) (sym a.cols_count) ∙ s))
 
-pub group-refused : (last k n : ℕ) (g : Grid) (doc : Document) (stages : List Stage) (ops : List CellOp) → k ≡ last + 1 → last ≤ 18446744073709551615 → IsSound g
+pub group-refused : (last k n : ℕ) (g : Grid) (doc : Document) (stages : List Stage) (ops : List CellOp) → k ≡ last + 1
+    → last ≤ 18446744073709551615 → IsSound g
     → Holds last g doc stages → IsAboveAll k (grid_state g 0 true) → AllByRecursion IsWellFormedCell ops
     → refusal (len (seen_in last_stage) (units_of g.rows)) (len (seen_in last_stage) (units_of g.cols)) ops ≡ Some n
     → local_sub_operations doc stages k (map (λ op. OnGrid op) ops) ≡ Err (OutOfRange n)

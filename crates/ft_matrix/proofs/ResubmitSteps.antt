@@ -10,6 +10,8 @@ use Rattle.ft_op.specs.declared.operations.CellOp.TheVariants.{SpliceIn, SpliceO
 use Rattle.ft_props.specs.Properties.{ValueBytes}
 use Rattle.ft_tree_leaves.specs.Elements.{TreeElement}
 use Rattle.ft_cells.specs.CellTables.{cell_at, without_write}
+use Rattle.ft_named.proofs.Lists.{filter-append}
+use Rattle.ft_laws_agreement.proofs.NumberTests.{below-other}
 use Rattle.ft_matrix.specs.declared.grid.Grid.{Grid}
 use Rattle.ft_matrix.specs.declared.stages.GridStage.{GridStage}
 use Rattle.ft_matrix.specs.Resubmitted.{DropsStage, Resubmits, ResubmitsOne, due_pieces, has_any, is_due, is_due_at, kept_stage, stage_pieces, stages_after}
@@ -79,7 +81,8 @@ split-at first low (t ∷ ts) r = step (nat_lt t.stage first) refl (split-at fir
 module _ (first count : ℕ) (rows cols : List (TreeElement ℕ)) where
   low-stay : (ts : List GridStage) → AllByRecursion (λ t. t.stage < first) ts → stages_after first count rows cols ts ≡ ts
   low-stay [] a = refl
-  low-stay (t ∷ ts) a = ap (λ b. cond b (kept_stage rows cols t) (t ∷ []) ++ stages_after first count rows cols ts) (before-due first count t.stage a.0) ∙ ap (λ us. t ∷ us) (low-stay ts a.1)
+  low-stay (t ∷ ts) a = ap (λ b. cond b (kept_stage rows cols t) (t ∷ []) ++ stages_after first count rows cols ts)
+      (before-due first count t.stage a.0) ∙ ap (λ us. t ∷ us) (low-stay ts a.1)
 
   low-none : (ts : List GridStage) → AllByRecursion (λ t. t.stage < first) ts → due_pieces first count rows cols ts ≡ []
   low-none [] a = refl
@@ -87,13 +90,15 @@ module _ (first count : ℕ) (rows cols : List (TreeElement ℕ)) where
 
   high-stay : (ts : List GridStage) → AllByRecursion (λ t. first + count ≤ t.stage) ts → stages_after first count rows cols ts ≡ ts
   high-stay [] a = refl
-  high-stay (t ∷ ts) a = ap (λ b. cond b (kept_stage rows cols t) (t ∷ []) ++ stages_after first count rows cols ts) (behind-due first count t.stage a.0) ∙ ap (λ us. t ∷ us) (high-stay ts a.1)
+  high-stay (t ∷ ts) a = ap (λ b. cond b (kept_stage rows cols t) (t ∷ []) ++ stages_after first count rows cols ts)
+      (behind-due first count t.stage a.0) ∙ ap (λ us. t ∷ us) (high-stay ts a.1)
 
   high-none : (ts : List GridStage) → AllByRecursion (λ t. first + count ≤ t.stage) ts → due_pieces first count rows cols ts ≡ []
   high-none [] a = refl
   high-none (t ∷ ts) a = ap (λ b. cond b (stage_pieces rows cols t) [] ++ due_pieces first count rows cols ts) (behind-due first count t.stage a.0) ∙ high-none ts a.1
 
-  after-append : (ts us : List GridStage) → stages_after first count rows cols (ts ++ us) ≡ stages_after first count rows cols ts ++ stages_after first count rows cols us
+  after-append : (ts us : List GridStage) → stages_after first count rows cols (ts ++ us) ≡ stages_after first count rows cols ts
+      ++ stages_after first count rows cols us
   after-append [] us = refl
   after-append (t ∷ ts) us =
       let one = cond (is_due first count t.stage) (kept_stage rows cols t) (t ∷ []) in
@@ -105,7 +110,8 @@ module _ (first count : ℕ) (rows cols : List (TreeElement ℕ)) where
       let one = cond (is_due first count t.stage) (stage_pieces rows cols t) [] in
       ap (λ vs. one ++ vs) (pieces-append ts us) ∙ sym (append_assoc one (due_pieces first count rows cols ts) (due_pieces first count rows cols us))
 
-pub none-sent : (first count i : ℕ) (old : Grid) (ops : List CellOp) → IsSound old → i ≡ prefix_len (λ t. nat_lt t.stage first) old.stages.items → ops ≡ [] → ResubmitsSome first count old old i ops
+pub none-sent : (first count i : ℕ) (old : Grid) (ops : List CellOp) → IsSound old
+    → i ≡ prefix_len (λ t. nat_lt t.stage first) old.stages.items → ops ≡ [] → ResubmitsSome first count old old i ops
 none-sent first count i old ops sound e none =
     let s = split-at first 0 old.stages.items sound.rise in
     let rows = units_of old.rows in
@@ -137,7 +143,8 @@ at-back [] ys n e = ap (slice_get ys) e
 at-back (x ∷ xs) ys zero e = cc e
 at-back (x ∷ xs) ys (suc n) e = let less : n ≡ length xs = omega (arith, e) in at-back xs ys n less
 
-pub all-sent : (first count i : ℕ) (old now : Grid) (ops : List CellOp) → ResubmitsSome first count old now i ops → is_due_at first count (slice_get now.stages.items i) ≡ false
+pub all-sent : (first count i : ℕ) (old now : Grid) (ops : List CellOp) → ResubmitsSome first count old now i ops
+    → is_due_at first count (slice_get now.stages.items i) ≡ false
     → Resubmits first count old now ops
 all-sent first count i old now ops s e = by s.back s.is s.stages s.high
     (ap (λ o. is_due_at first count o) (sym (ap (λ ts. slice_get ts i) s.stages ∙ at-back (stages_after first count (units_of old.rows) (units_of old.cols) s.front) s.back i s.place)) ∙ e)
@@ -161,13 +168,15 @@ all-sent first count i old now ops s e = by s.back s.is s.stages s.high
             never : false ≡ true → ⊥
             never h = cc h
 
-    all-high-back : (ts : List GridStage) → AllByRecursion (λ t. first ≤ t.stage) ts → is_due_at first count (slice_get ts 0) ≡ false → ((m : ℕ) × StagesRise m ts)
+    all-high-back : (ts : List GridStage) → AllByRecursion (λ t. first ≤ t.stage) ts → is_due_at first count (slice_get ts 0) ≡ false
+        → ((m : ℕ) × StagesRise m ts)
         → AllByRecursion (λ t. first + count ≤ t.stage) ts
     all-high-back [] h f r = tt
     all-high-back (t ∷ ts) h f r = (not-due t.stage h.0 f, high-from first count t.stage ts (not-due t.stage h.0 f) r.1.1)
 
     by : (back : List GridStage) → old.stages.items ≡ s.front ++ back → now.stages.items ≡ stages_after first count (units_of old.rows) (units_of old.cols) s.front ++ back
-        → AllByRecursion (λ t. first ≤ t.stage) back → is_due_at first count (slice_get back 0) ≡ false → ((m : ℕ) × StagesRise m back) → Resubmits first count old now ops
+        → AllByRecursion (λ t. first ≤ t.stage) back → is_due_at first count (slice_get back 0) ≡ false → ((m : ℕ) × StagesRise m back)
+        → Resubmits first count old now ops
     by back is stages high f r =
         let a = all-high-back back high f r in
         record {
@@ -181,14 +190,6 @@ all-sent first count i old now ops s e = by s.back s.is s.stages s.high
         }
 
 -- ---- the writes of the stages that are left
-
-filter-append : {A : Type 0} (p : A → Bool) (xs ys : List A) → filter p (xs ++ ys) ≡ filter p xs ++ filter p ys
-filter-append p [] ys = refl
-filter-append p (x ∷ xs) ys = step (p x) (filter-append p xs ys)
-  where
-    step : (b : Bool) → filter p (xs ++ ys) ≡ filter p xs ++ filter p ys → cond b (x ∷ filter p (xs ++ ys)) (filter p (xs ++ ys)) ≡ cond b (x ∷ filter p xs) (filter p xs) ++ filter p ys
-    step true e = ap (λ zs. x ∷ zs) e
-    step false e = e
 
 module _ (r c k : ℕ) where
   -- whether a write is of another stage
@@ -244,15 +245,13 @@ below-one : (low : ℕ) (xs : List GridStage) (t : GridStage) (ys : List GridSta
 below-one low [] t ys r = r.0
 below-one low (x ∷ xs) t ys r = let up = r.0 in let more = below-one x.stage xs t ys r.1 in omega (arith, up, more)
 
-number-below : (j k : ℕ) → j < k → nat_eq j k ≡ false
-number-below j k l = grind (arith, nat_tests)
-
 number-above : (j k : ℕ) → k < j → nat_eq j k ≡ false
 number-above j k l = grind (arith, nat_tests)
 
-apart-left : (low : ℕ) (xs : List GridStage) (t : GridStage) (ys : List GridStage) → StagesRise low (xs ++ (t ∷ ys)) → AllByRecursion (λ u. nat_eq u.stage t.stage ≡ false) xs
+apart-left : (low : ℕ) (xs : List GridStage) (t : GridStage) (ys : List GridStage) → StagesRise low (xs ++ (t ∷ ys))
+    → AllByRecursion (λ u. nat_eq u.stage t.stage ≡ false) xs
 apart-left low [] t ys r = tt
-apart-left low (x ∷ xs) t ys r = (number-below x.stage t.stage (below-one x.stage xs t ys r.1), apart-left x.stage xs t ys r.1)
+apart-left low (x ∷ xs) t ys r = (below-other x.stage t.stage (below-one x.stage xs t ys r.1), apart-left x.stage xs t ys r.1)
 
 apart-right : (k low : ℕ) (ys : List GridStage) → k ≤ low → StagesRise low ys → AllByRecursion (λ u. nat_eq u.stage k ≡ false) ys
 apart-right k low [] l r = tt
@@ -376,7 +375,8 @@ kept-none rows cols t h = step (stage_pieces rows cols t) h
     step (p ∷ ps) g = cc g
 
 pub one-sent : (first count : ℕ) (old now new : Grid) (i next : ℕ) (ops more : List CellOp) → ResubmitsSome first count old now i ops
-    → is_due_at first count (slice_get now.stages.items i) ≡ true → ((t : GridStage) → slice_get now.stages.items i ≡ Some t → ResubmitsOne i t now new ops more next)
+    → is_due_at first count (slice_get now.stages.items i) ≡ true
+    → ((t : GridStage) → slice_get now.stages.items i ≡ Some t → ResubmitsOne i t now new ops more next)
     → ResubmitsSome first count old new next more
 one-sent first count old now new i next ops more s e f = by s.back refl
   where
@@ -419,7 +419,8 @@ pub fewer-left : (first count : ℕ) (now new : Grid) (i next : ℕ) (ops more :
     → length new.stages.items - next < length now.stages.items - i
 fewer-left first count now new i next ops more e f = by (slice_get now.stages.items i) refl e
   where
-    one : (t : GridStage) → ResubmitsOne i t now new ops more next → i < length now.stages.items → (b : Bool) → has_any (stage_pieces (units_of now.rows) (units_of now.cols) t) ≡ b
+    one : (t : GridStage) → ResubmitsOne i t now new ops more next → i < length now.stages.items → (b : Bool)
+        → has_any (stage_pieces (units_of now.rows) (units_of now.cols) t) ≡ b
         → length new.stages.items - next < length now.stages.items - i
     one t o l true h =
         let m = o.stays h in
@@ -448,7 +449,8 @@ drops-stage i t old new look items cells rest u e =
 
 pub dropped-one : (i : ℕ) (t : GridStage) (old new : Grid) (ops more : List CellOp) → t ≡ get_or old.stages.items i t
     → more ≡ ops ++ stage_pieces (units_of old.rows) (units_of old.cols) t → length more ≤ length ops
-    → ((u : GridStage) → slice_get old.stages.items i ≡ Some u → DropsStage i u old new) → (u : GridStage) → slice_get old.stages.items i ≡ Some u → ResubmitsOne i u old new ops more i
+    → ((u : GridStage) → slice_get old.stages.items i ≡ Some u → DropsStage i u old new) → (u : GridStage)
+    → slice_get old.stages.items i ≡ Some u → ResubmitsOne i u old new ops more i
 dropped-one i t old new ops more look sent short drop u e =
     let same : t ≡ u = look ∙ get_or_from_slice_get old.stages.items i u t e in
     let all = sent ∙ ap (λ x. ops ++ stage_pieces (units_of old.rows) (units_of old.cols) x) same in
@@ -469,7 +471,8 @@ above-at low [] r j d l = absurd (omega (arith, l))
 above-at low (x ∷ xs) r zero d l = r.0
 above-at low (x ∷ xs) r (suc j) d l = let up = r.0 in let more = above-at x.stage xs r.1 j d (omega (arith, l)) in omega (arith, up, more)
 
-rises-at : (low : ℕ) (xs : List GridStage) → StagesRise low xs → (i j : ℕ) (d : GridStage) → i ≤ j → j < length xs → (get_or xs i d).stage ≤ (get_or xs j d).stage
+rises-at : (low : ℕ) (xs : List GridStage) → StagesRise low xs → (i j : ℕ) (d : GridStage) → i ≤ j → j < length xs
+    → (get_or xs i d).stage ≤ (get_or xs j d).stage
 rises-at low [] r i j d le l = absurd (omega (arith, l))
 rises-at low (x ∷ xs) r zero zero d le l = omega arith
 rises-at low (x ∷ xs) r zero (suc j) d le l = let more = above-at x.stage xs r.1 j d (omega (arith, l)) in omega (arith, more)
@@ -482,7 +485,8 @@ lower-too n m k le h = grind (arith, nat_tests)
 pub partitioned : (k : ℕ) (xs : List GridStage) → StagesRise 0 xs → IsPartitionedBy (λ (t : GridStage). nat_lt t.stage k) xs
 partitioned k xs r = λ i j d le l h. lower-too (get_or xs i d).stage (get_or xs j d).stage k (rises-at 0 xs r i j d le l) h
 
-pub point-is : (p : GridStage → Bool) (xs : List GridStage) (i : ℕ) → i ≤ length xs → IsPartitionPoint (λ t. p t ≡ true) (λ t. p t ≡ false) xs i → i ≡ prefix_len p xs
+pub point-is : (p : GridStage → Bool) (xs : List GridStage) (i : ℕ) → i ≤ length xs
+    → IsPartitionPoint (λ t. p t ≡ true) (λ t. p t ≡ false) xs i → i ≡ prefix_len p xs
 point-is p [] i le h = omega arith
 point-is p (x ∷ xs) zero le h =
     let no-more : p x ≡ false = h.1 0 x (omega arith) (omega arith) in

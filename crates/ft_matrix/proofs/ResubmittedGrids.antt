@@ -21,6 +21,7 @@ use Rattle.ft_laws_agreement.specs.Sequencing.{is_grid_stage}
 use Rattle.ft_laws_names.specs.GridFacts.{grid_stages}
 use Rattle.ft_laws_names.specs.WellNamed.{AreNamedBefore, AreStagesNamed, AreThere, RiseTo}
 use Rattle.ft_laws_names.proofs.Beside.{beside-more}
+use Rattle.ft_named.proofs.Lists.{map-append}
 use Rattle.ft_matrix.specs.declared.grid.Grid.{Grid}
 use Rattle.ft_matrix.specs.declared.stages.GridStage.{GridStage}
 use Rattle.ft_matrix.specs.Applied.{Holds}
@@ -40,10 +41,6 @@ after_stage first count doc t = cond (is_due first count t.stage) (carried_stage
 
 abbrev pub sent_of : ℕ → ℕ → Document → Stage → List SubOperation
 sent_of first count doc t = cond (is_due first count t.stage) (pieces doc t) []
-
-map-parts : {A B : Type 0} (f : A → B) (xs ys : List A) → map f (xs ++ ys) ≡ map f xs ++ map f ys
-map-parts f [] ys = refl
-map-parts f (x ∷ xs) ys = ap (λ zs. f x ∷ zs) (map-parts f xs ys)
 
 module _ (first count : ℕ) (doc : Document) (rows cols : VectorState)
     (same : (k : ℕ) (op : CellOp) (n : NamedElements) (u : GridStage) → AreThere doc (OnGrid op) n → AreNamedBefore k (OnGrid op) n
@@ -88,7 +85,8 @@ module _ (first count : ℕ) (doc : Document) (rows cols : VectorState)
       step false = ap (λ s. s ∷ []) h
 
   pub stages-go-on : (stages : List Stage) (items : List GridStage) → AreStagesNamed doc stages → grid_stages doc stages ≡ map (shown_stage rows cols) items
-      → grid_stages doc (flat_map (after_stage first count doc) stages) ≡ map (shown_stage rows cols) (stages_after first count (units_of rows) (units_of cols) items)
+      → grid_stages doc (flat_map (after_stage first count doc) stages)
+      ≡ map (shown_stage rows cols) (stages_after first count (units_of rows) (units_of cols) items)
   stages-go-on [] [] n e = refl
   stages-go-on [] (u ∷ us) n e = cc e
   stages-go-on (t ∷ stages) items n e =
@@ -98,8 +96,10 @@ module _ (first count : ℕ) (doc : Document) (rows cols : VectorState)
       step : (k : ℕ) (o : SubOperation) (names : NamedElements) (us : List GridStage) → AreThere doc o names × AreNamedBefore k o names
           → grid_stages doc (record { stage = k; sub_operation = o; names = names } ∷ stages) ≡ map (shown_stage rows cols) us
           → ((vs : List GridStage) → grid_stages doc stages ≡ map (shown_stage rows cols) vs
-          → grid_stages doc (flat_map (after_stage first count doc) stages) ≡ map (shown_stage rows cols) (stages_after first count (units_of rows) (units_of cols) vs))
-          → grid_stages doc (after_stage first count doc (record { stage = k; sub_operation = o; names = names })) ++ grid_stages doc (flat_map (after_stage first count doc) stages)
+          → grid_stages doc (flat_map (after_stage first count doc) stages)
+          ≡ map (shown_stage rows cols) (stages_after first count (units_of rows) (units_of cols) vs))
+          → grid_stages doc (after_stage first count doc (record { stage = k; sub_operation = o; names = names }))
+          ++ grid_stages doc (flat_map (after_stage first count doc) stages)
           ≡ map (shown_stage rows cols) (stages_after first count (units_of rows) (units_of cols) us)
       step k (OnText op) names us th g ih = ap (λ ss. ss ++ grid_stages doc (flat_map (after_stage first count doc) stages)) (text-after k (OnText op) names refl) ∙ ih us g
       step k (OnIntervals op) names us th g ih = ap (λ ss. ss ++ grid_stages doc (flat_map (after_stage first count doc) stages)) (text-after k (OnIntervals op) names refl) ∙ ih us g
@@ -109,7 +109,7 @@ module _ (first count : ℕ) (doc : Document) (rows cols : VectorState)
           let rest : grid_stages doc stages ≡ map (shown_stage rows cols) us = cc g in
           ap (λ ss. ss ++ grid_stages doc (flat_map (after_stage first count doc) stages)) (grid-after k op names u th.0 th.1 here)
           ∙ ap (λ ss. map (shown_stage rows cols) (cond (is_due first count u.stage) (kept_stage (units_of rows) (units_of cols) u) (u ∷ [])) ++ ss) (ih us rest)
-          ∙ sym (map-parts (shown_stage rows cols) (cond (is_due first count u.stage) (kept_stage (units_of rows) (units_of cols) u) (u ∷ [])) (stages_after first count (units_of rows) (units_of cols) us))
+          ∙ sym (map-append (shown_stage rows cols) (cond (is_due first count u.stage) (kept_stage (units_of rows) (units_of cols) u) (u ∷ [])) (stages_after first count (units_of rows) (units_of cols) us))
 
 -- ---- the stages of one edit are those that are due
 
@@ -161,14 +161,16 @@ module _ {B : Type 0} (first count : ℕ) (due other : Stage → List B) where
       ∙ sym (append_assoc (due t) (flat_map due mine) (flat_map other rest))
 
   -- the first of them is above all before it
-  first-above : (low last n : ℕ) (before mine rest : List Stage) → 1 ≤ n → RiseTo low last (before ++ (mine ++ rest)) → map (λ (t : Stage). t.stage) mine ≡ numbers_from first n → low < first
+  first-above : (low last n : ℕ) (before mine rest : List Stage) → 1 ≤ n → RiseTo low last (before ++ (mine ++ rest))
+      → map (λ (t : Stage). t.stage) mine ≡ numbers_from first n → low < first
   first-above low last zero before mine rest l r m = absurd (omega (arith, l))
   first-above low last (suc n) [] [] rest l r m = cc m
   first-above low last (suc n) [] (t ∷ mine) rest l r m = let here : t.stage ≡ first = cc m in let up = r.0 in omega (arith, here, up)
   first-above low last (suc n) (t ∷ before) mine rest l r m =
       let up = r.0 in let above = first-above t.stage last (suc n) before mine rest l r.1 m in omega (arith, up, above)
 
-  pub flat-due : (low last : ℕ) (before mine rest : List Stage) → 1 ≤ count → RiseTo low last (before ++ (mine ++ rest)) → map (λ (t : Stage). t.stage) mine ≡ numbers_from first count
+  pub flat-due : (low last : ℕ) (before mine rest : List Stage) → 1 ≤ count → RiseTo low last (before ++ (mine ++ rest))
+      → map (λ (t : Stage). t.stage) mine ≡ numbers_from first count
       → flat_map by_due (before ++ (mine ++ rest)) ≡ flat_map other before ++ (flat_map due mine ++ flat_map other rest)
   flat-due low last [] mine rest l r m = flat-run low last first count mine rest (omega arith) refl (λ q. absurd (omega (arith, q, l))) r m
   flat-due low last (t ∷ before) mine rest l r m =
@@ -201,7 +203,8 @@ edit-after first count last doc before mine rest l r m =
 -- ---- the grid
 
 -- a cell without writes has none of the stages that go on
-none-written : (first count : ℕ) (rows cols : List (TreeElement ℕ)) (r c : ℕ) (ts : List GridStage) → writes_to r c ts ≡ [] → writes_to r c (stages_after first count rows cols ts) ≡ []
+none-written : (first count : ℕ) (rows cols : List (TreeElement ℕ)) (r c : ℕ) (ts : List GridStage) → writes_to r c ts ≡ []
+    → writes_to r c (stages_after first count rows cols ts) ≡ []
 none-written first count rows cols r c [] e = refl
 none-written first count rows cols r c (t ∷ ts) e =
     step (write_of r c t) e (is_due first count t.stage) (stage_pieces rows cols t) refl (λ g. none-written first count rows cols r c ts g)
@@ -218,7 +221,8 @@ lower-rise : (low m : ℕ) (ts : List GridStage) → low ≤ m → StagesRise m 
 lower-rise low m [] l r = tt
 lower-rise low m (t ∷ ts) l r = (let up = r.0 in omega (arith, l, up), r.1)
 
-rise-after : (first count : ℕ) (rows cols : List (TreeElement ℕ)) (low : ℕ) (ts : List GridStage) → StagesRise low ts → StagesRise low (stages_after first count rows cols ts)
+rise-after : (first count : ℕ) (rows cols : List (TreeElement ℕ)) (low : ℕ) (ts : List GridStage) → StagesRise low ts
+    → StagesRise low (stages_after first count rows cols ts)
 rise-after first count rows cols low [] r = tt
 rise-after first count rows cols low (t ∷ ts) r =
     step (is_due first count t.stage) (stage_pieces rows cols t) r.0 (rise-after first count rows cols t.stage ts r.1)
@@ -295,15 +299,18 @@ module _ (first count : ℕ) (doc : Document) (rows cols : VectorState)
 
   one-sent : (k : ℕ) (op : CellOp) (n : NamedElements) (u : GridStage) → AreThere doc (OnGrid op) n → AreNamedBefore k (OnGrid op) n
       → indexed_stage doc (record { stage = k; sub_operation = OnGrid op; names = n }) ≡ shown_stage rows cols u
-      → map (λ p. OnGrid p) (cond (is_due first count u.stage) (stage_pieces (units_of rows) (units_of cols) u) []) ≡ cond (is_due first count k) (grid_pieces k doc n op) []
-  one-sent k op n u there before h = step (is_due first count u.stage) ∙ ap (λ j. cond (is_due first count j) (grid_pieces k doc n op) []) (sym (ap (λ (s : IndexedStage). s.stage) h))
+      → map (λ p. OnGrid p) (cond (is_due first count u.stage) (stage_pieces (units_of rows) (units_of cols) u) [])
+      ≡ cond (is_due first count k) (grid_pieces k doc n op) []
+  one-sent k op n u there before h = step (is_due first count u.stage) ∙ ap (λ j. cond (is_due first count j) (grid_pieces k doc n op) [])
+      (sym (ap (λ (s : IndexedStage). s.stage) h))
     where
       step : (b : Bool) → map (λ p. OnGrid p) (cond b (stage_pieces (units_of rows) (units_of cols) u) []) ≡ cond b (grid_pieces k doc n op) []
       step true = same k op n u there before h
       step false = refl
 
   pub stages-sent : (stages : List Stage) (items : List GridStage) → AreStagesNamed doc stages → grid_stages doc stages ≡ map (shown_stage rows cols) items
-      → map (λ p. OnGrid p) (due_pieces first count (units_of rows) (units_of cols) items) ≡ flat_map (λ t. cond (is_due first count t.stage) (grid_sent doc t) []) stages
+      → map (λ p. OnGrid p) (due_pieces first count (units_of rows) (units_of cols) items)
+      ≡ flat_map (λ t. cond (is_due first count t.stage) (grid_sent doc t) []) stages
   stages-sent [] [] n e = refl
   stages-sent [] (u ∷ us) n e = cc e
   stages-sent (t ∷ stages) items n e = step t.stage t.sub_operation t.names items n.0 e (λ us g. stages-sent stages us n.1 g)
@@ -311,16 +318,19 @@ module _ (first count : ℕ) (doc : Document) (rows cols : VectorState)
       step : (k : ℕ) (o : SubOperation) (names : NamedElements) (us : List GridStage) → AreThere doc o names × AreNamedBefore k o names
           → grid_stages doc (record { stage = k; sub_operation = o; names = names } ∷ stages) ≡ map (shown_stage rows cols) us
           → ((vs : List GridStage) → grid_stages doc stages ≡ map (shown_stage rows cols) vs
-          → map (λ p. OnGrid p) (due_pieces first count (units_of rows) (units_of cols) vs) ≡ flat_map (λ t. cond (is_due first count t.stage) (grid_sent doc t) []) stages)
+          → map (λ p. OnGrid p) (due_pieces first count (units_of rows) (units_of cols) vs)
+          ≡ flat_map (λ t. cond (is_due first count t.stage) (grid_sent doc t) []) stages)
           → map (λ p. OnGrid p) (due_pieces first count (units_of rows) (units_of cols) us)
-          ≡ cond (is_due first count k) (grid_sent doc (record { stage = k; sub_operation = o; names = names })) [] ++ flat_map (λ t. cond (is_due first count t.stage) (grid_sent doc t) []) stages
+          ≡ cond (is_due first count k) (grid_sent doc (record { stage = k; sub_operation = o; names = names })) []
+          ++ flat_map (λ t. cond (is_due first count t.stage) (grid_sent doc t) []) stages
       step k (OnText op) names us th g ih = ih us g ∙ ap (λ ps. ps ++ flat_map (λ t. cond (is_due first count t.stage) (grid_sent doc t) []) stages) (sym (none-sent (is_due first count k)))
       step k (OnIntervals op) names us th g ih = ih us g ∙ ap (λ ps. ps ++ flat_map (λ t. cond (is_due first count t.stage) (grid_sent doc t) []) stages) (sym (none-sent (is_due first count k)))
       step k (OnGrid op) names [] th g ih = cc g
       step k (OnGrid op) names (u ∷ us) th g ih =
           let here : indexed_stage doc (record { stage = k; sub_operation = OnGrid op; names = names }) ≡ shown_stage rows cols u = cc g in
           let rest : grid_stages doc stages ≡ map (shown_stage rows cols) us = cc g in
-          map-parts (λ p. OnGrid p) (cond (is_due first count u.stage) (stage_pieces (units_of rows) (units_of cols) u) []) (due_pieces first count (units_of rows) (units_of cols) us)
+          map-append (λ p. OnGrid p) (cond (is_due first count u.stage) (stage_pieces (units_of rows) (units_of cols) u) [])
+          (due_pieces first count (units_of rows) (units_of cols) us)
           ∙ ap (λ ps. ps ++ map (λ p. OnGrid p) (due_pieces first count (units_of rows) (units_of cols) us)) (one-sent k op names u th.0 th.1 here)
           ∙ ap (λ ps. cond (is_due first count k) (grid_pieces k doc names op) [] ++ ps) (ih us rest)
 

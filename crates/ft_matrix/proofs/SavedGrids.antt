@@ -121,7 +121,8 @@ runs-saved min (next {x = x} {y = e} {xs = xs} {ys = es} q qs) =
     ∙ step (has_collectable_removal min e.stamps.dels) (runs-saved min qs)
   where
     step : (b : Bool) → unit_runs (kept_items min xs) ≡ saved_runs min es
-        → unit_runs (cond (not b) (trim_element min x ∷ kept_items min xs) (kept_items min xs)) ≡ cond b (saved_runs min es) (with_run (unit_run min e.stamps 1) (saved_runs min es))
+        → unit_runs (cond (not b) (trim_element min x ∷ kept_items min xs) (kept_items min xs))
+        ≡ cond b (saved_runs min es) (with_run (unit_run min e.stamps 1) (saved_runs min es))
     step true h = h
     step false h =
         extended-with (mark_of (trim_element min x).ins) (map mark_of (trim_element min x).dels) (unit_runs (kept_items min xs))
@@ -147,14 +148,16 @@ view-trimmed min [] = refl
 view-trimmed min (x ∷ xs) = step (is_collectable min x) refl (view-trimmed min xs)
   where
     choose : (b c : Bool) → b ≡ c → filter (seen 0) (kept_items min xs) ≡ map (trim_element min) (filter (seen 0) xs)
-        → cond b (trim_element min x ∷ filter (seen 0) (kept_items min xs)) (filter (seen 0) (kept_items min xs)) ≡ map (trim_element min) (cond c (x ∷ filter (seen 0) xs) (filter (seen 0) xs))
+        → cond b (trim_element min x ∷ filter (seen 0) (kept_items min xs)) (filter (seen 0) (kept_items min xs))
+        ≡ map (trim_element min) (cond c (x ∷ filter (seen 0) xs) (filter (seen 0) xs))
     choose true true e h = ap (λ ys. trim_element min x ∷ ys) h
     choose false false e h = h
     choose true false e h = (cc)
     choose false true e h = (cc)
 
     step : (b : Bool) → is_collectable min x ≡ b → filter (seen 0) (kept_items min xs) ≡ map (trim_element min) (filter (seen 0) xs)
-        → filter (seen 0) (cond (not b) (trim_element min x ∷ kept_items min xs) (kept_items min xs)) ≡ map (trim_element min) (cond (seen 0 x) (x ∷ filter (seen 0) xs) (filter (seen 0) xs))
+        → filter (seen 0) (cond (not b) (trim_element min x ∷ kept_items min xs) (kept_items min xs))
+        ≡ map (trim_element min) (cond (seen 0 x) (x ∷ filter (seen 0) xs) (filter (seen 0) xs))
     step true g h = h ∙ sym (ap (λ b. map (trim_element min) (cond b (x ∷ filter (seen 0) xs) (filter (seen 0) xs))) (removed-unseen 0 x (collectable-removed min x g)))
     step false g h = choose (seen 0 (trim_element min x)) (seen 0 x) (trim-seen min x) h
 
@@ -166,7 +169,8 @@ kept-value a b keep [] h = refl
 kept-value a b keep (c ∷ cells) h = step (is_cell a b c) (keep c) refl refl (λ g. kept-value a b keep cells g)
   where
     step : (i j : Bool) → is_cell a b c ≡ i → keep c ≡ j
-        → (((d : Cell) → cell_value a b cells ≡ Some d.value → a ≡ d.row → b ≡ d.col → keep d ≡ true) → cell_value a b (filter keep cells) ≡ cell_value a b cells)
+        → (((d : Cell) → cell_value a b cells ≡ Some d.value → a ≡ d.row → b ≡ d.col → keep d ≡ true) → cell_value a b (filter keep cells)
+        ≡ cell_value a b cells)
         → cell_value a b (cond j (c ∷ filter keep cells) (filter keep cells)) ≡ option_map (λ (d : Cell). d.value) (cond i (Some c) (find (is_cell a b) cells))
     step true true e k r = ap (λ i. option_map (λ (d : Cell). d.value) (cond i (Some c) (find (is_cell a b) (filter keep cells)))) e
     step true false e k r =
@@ -198,7 +202,8 @@ none-removes : (a : ElementId) (xs : List ListElement) → len (has_id a) xs ≡
 none-removes a [] h = refl
 none-removes a (x ∷ xs) h = step (has_id a x) h (none-removes a xs)
   where
-    step : (b : Bool) → one_more_if b (len (has_id a) xs) ≡ 0 → (len (has_id a) xs ≡ 0 → list_any (removes a) xs ≡ false) → (b && list_any is_acked x.dels) || list_any (removes a) xs ≡ false
+    step : (b : Bool) → one_more_if b (len (has_id a) xs) ≡ 0 → (len (has_id a) xs ≡ 0 → list_any (removes a) xs ≡ false)
+        → (b && list_any is_acked x.dels) || list_any (removes a) xs ≡ false
     step true n r = absurd (omega arith)
     step false n r = r n
 
@@ -244,7 +249,8 @@ module _ (last : ℕ) (g : Grid) (given : ℕ) (usable : Bool) (doc : Document) 
 
   settled : (xs : List ListElement) (v : VectorState) → BesideUnits IsUnit xs (units_of v) → All (λ x. is_unit_below 0 x ≡ true) (map shown_unit (units_of v))
       → BesideUnits Settled xs (units_of v)
-  settled xs v b a = beside-all (λ (e : TreeElement ℕ). is_unit_below 0 (shown_unit e) ≡ true) b (below-of 0 (units_of v) (recursion_from_All (λ x. is_unit_below 0 x ≡ true) (map shown_unit (units_of v)) a))
+  settled xs v b a = beside-all (λ (e : TreeElement ℕ). is_unit_below 0 (shown_unit e) ≡ true) b
+      (below-of 0 (units_of v) (recursion_from_All (λ x. is_unit_below 0 x ≡ true) (map shown_unit (units_of v)) a))
 
   rows-settled : BesideUnits Settled doc.rows.items (units_of g.rows)
   rows-settled = settled doc.rows.items g.rows (beside-more (λ x e q. q.0) units.rows) above.rows
@@ -269,7 +275,8 @@ module _ (last : ℕ) (g : Grid) (given : ℕ) (usable : Bool) (doc : Document) 
       (ap (has_sequenced_removal doc.cols.items) (sym j) ∙ q))
       ∙ v ∙ ap (λ ws. option_and_then unless_null (last_value (cell_at g.cells h k).acked ws)) (sym (no-writes h k))
     where
-      kept : (c : Cell) → is_null c.value ≡ false → has_sequenced_removal doc.rows.items c.row ≡ false → has_sequenced_removal doc.cols.items c.col ≡ false → is_kept c ≡ true
+      kept : (c : Cell) → is_null c.value ≡ false → has_sequenced_removal doc.rows.items c.row ≡ false
+          → has_sequenced_removal doc.cols.items c.col ≡ false → is_kept c ≡ true
       kept c u v w = rw (u, v, w) refl
 
   rows-seen : Beside ListElement ℕ (λ x h. Beside ListElement ℕ (λ y k. placed.shown_at (trim doc).cells [] x y ≡ shown_at g.cells h k) (filter (seen 0) doc.cols.items) (seen_handles last_stage g.cols.tree))

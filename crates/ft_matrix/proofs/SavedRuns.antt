@@ -87,7 +87,8 @@ run-pushed (Ok false) (Ok x) r old between new j k n = λ rest. ap (λ us. conti
 -- ---- the units of a leaf
 
 module _ (min : ℕ) where
-  same-units : (stamps : ElementStamps) (overlay : OverlayState) (u : ℕ) (us : List ℕ) (es : List (TreeElement ℕ)) → has_collectable_removal min stamps.dels ≡ false
+  same-units : (stamps : ElementStamps) (overlay : OverlayState) (u : ℕ) (us : List ℕ) (es : List (TreeElement ℕ))
+      → has_collectable_removal min stamps.dels ≡ false
       → saved_runs min (elements_with stamps None overlay (u ∷ us) ++ es) ≡ with_run (unit_run min stamps (suc (length us))) (saved_runs min es)
   same-units stamps overlay u [] es h =
       ap (λ b. cond b (saved_runs min es) (with_run (unit_run min stamps 1) (saved_runs min es))) h
@@ -114,7 +115,8 @@ module _ (min : ℕ) where
   some-units stamps overlay (u ∷ us) es l = step (has_collectable_removal min stamps.dels) refl
     where
       step : (b : Bool) → has_collectable_removal min stamps.dels ≡ b
-          → saved_runs min (elements_with stamps None overlay (u ∷ us) ++ es) ≡ cond b (saved_runs min es) (with_run (unit_run min stamps (suc (length us))) (saved_runs min es))
+          → saved_runs min (elements_with stamps None overlay (u ∷ us) ++ es)
+          ≡ cond b (saved_runs min es) (with_run (unit_run min stamps (suc (length us))) (saved_runs min es))
       step true h = no-units stamps overlay (u ∷ us) es h
       step false h = same-units stamps overlay u us es h
 
@@ -134,7 +136,8 @@ module _ (min : ℕ) where
         whole = ap (λ us. continued us (runs-in (from_place all (first (ids all))))) f ∙ ap runs-in (from_first all);
       })
 
-  pub saves-next : (all : Leaves) → ((i : ℕ) → times_leaf all i ≤ 1) → (next behind : Option ℕ) (id : ℕ) (old new : List RunRec) → SavesSoFar all next old → next ≡ Some id
+  pub saves-next : (all : Leaves) → ((i : ℕ) → times_leaf all i ≤ 1) → (next behind : Option ℕ) (id : ℕ) (old new : List RunRec)
+      → SavesSoFar all next old → next ≡ Some id
       → ((x : TreeLeaf HandleRun) → value_at all id ≡ Some x → AddsLeaf min x old new) → behind ≡ after (ids all) id → SavesSoFar all behind new
   saves-next all once next behind id old new s e f g =
       let live : IsLeafIn all id = subst (λ n. IsPlaceIn all n) e s.place in
@@ -162,7 +165,8 @@ module _ (min : ℕ) (leaves : Leaves) (id : ℕ) (old new : List RunRec) (stamp
   count-of x v = let e : Some count ≡ Some (length (handles_of x.content)) = sym size ∙ ap (option_map (λ (y : TreeLeaf HandleRun). length (handles_of y.content))) v in (cc)
 
   pub adds-leaf : has_collectable_removal min stamps.dels ≡ false → r ≡ unit_run min stamps count
-      → ((rest : List RunRec) → continued new rest ≡ continued old (with_run r rest)) → (x : TreeLeaf HandleRun) → value_at leaves id ≡ Some x → AddsLeaf min x old new
+      → ((rest : List RunRec) → continued new rest ≡ continued old (with_run r rest)) → (x : TreeLeaf HandleRun)
+      → value_at leaves id ≡ Some x → AddsLeaf min x old new
   adds-leaf stays is adds x v =
       let s = stamps-of x v in
       let n = count-of x v in

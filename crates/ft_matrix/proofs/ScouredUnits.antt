@@ -10,6 +10,7 @@ use Rattle.ft_tree_leaves.specs.declared.references.Reference.{Reference}
 use Rattle.ft_tree_leaves.specs.Elements.{TreeElement, elements_with, universal_stamps, with_stamps}
 use Rattle.ft_tree_leaves.specs.LeafLists.{elements}
 use Rattle.ft_tree_leaves.specs.References.{ChangesReferences, reference_place}
+use Rattle.ft_tree_leaves.proofs.Runs.{len-append}
 use Rattle.ft_props.specs.Overlay.{OverlayState}
 use Rattle.ft_laws_names.specs.GridFacts.{AreFreeFrom, is_place}
 use Rattle.ft_perm.specs.Handles.{HandleRun, handles_of, in_run, numbers_from}
@@ -25,6 +26,7 @@ use Rattle.ft_matrix.specs.Units.{has_handle, shown_unit, units_of}
 use Rattle.ft_matrix.proofs.Freed.{held-some}
 use Rattle.ft_matrix.proofs.HeldGrids.{used-handle}
 use Rattle.ft_matrix.proofs.SoundVectors.{all-weaker, no-references}
+use Rattle.ft_matrix.proofs.Writes.{one-more, some-more}
 
 -- ---- marked units
 
@@ -68,26 +70,20 @@ module _ (P : TreeElement ℕ → Type 0) (stays : (e : TreeElement ℕ) → P e
   all-written (writes_same w) a = (a.0, all-written w a.1)
   all-written (writes_universal {e = e} l w) a = (stays e a.0, all-written w a.1)
 
-  pub all-left : (ms : List (Bool × TreeElement ℕ)) (es ys : List (TreeElement ℕ)) → map second ms ≡ es → Writes floor ys (staying ms) → AllByRecursion P es → AllByRecursion P ys
+  pub all-left : (ms : List (Bool × TreeElement ℕ)) (es ys : List (TreeElement ℕ)) → map second ms ≡ es → Writes floor ys (staying ms)
+      → AllByRecursion P es → AllByRecursion P ys
   all-left ms es ys e w a = all-written w (all-staying ms (subst (AllByRecursion P) (sym e) a))
 
 -- each unit of a list stands there
 pub same-number : (n : ℕ) → nat_eq n n ≡ true
 same-number n = grind (arith, nat_tests)
 
-pub here-once : (b : Bool) (n : ℕ) → b ≡ true → 1 ≤ one_more_if b n
-here-once true n e = omega arith
-here-once false n e = cc e
-
-pub still-there : (b : Bool) (n : ℕ) → 1 ≤ n → 1 ≤ one_more_if b n
-still-there true n l = omega arith
-still-there false n l = l
-
 each-there : (es : List (TreeElement ℕ)) → AllByRecursion (λ e. 1 ≤ len (has_handle e.unit) es) es
 each-there [] = tt
 each-there (e ∷ es) = (
-  here-once (nat_eq e.unit e.unit) (len (has_handle e.unit) es) (same-number e.unit),
-  all-weaker (λ d. 1 ≤ len (has_handle d.unit) es) (λ d. 1 ≤ len (has_handle d.unit) (e ∷ es)) (λ d l. still-there (nat_eq e.unit d.unit) (len (has_handle d.unit) es) l) es (each-there es),
+  one-more (nat_eq e.unit e.unit) (len (has_handle e.unit) es) (same-number e.unit),
+  all-weaker (λ d. 1 ≤ len (has_handle d.unit) es) (λ d. 1 ≤ len (has_handle d.unit) (e ∷ es))
+      (λ d l. some-more (nat_eq e.unit d.unit) (len (has_handle d.unit) es) l) es (each-there es),
 )
 
 none-in-runs : (h : ℕ) (runs : List HandleRun) → times_held h runs ≡ 0 → is_in_runs runs h ≡ false
@@ -135,7 +131,8 @@ module _ (floor : ℕ) (runs : List HandleRun) (old new : VectorState) (s : Scou
   pub are-gone : AreGone runs new
   are-gone = record {
     used = λ h e. s.used h ∙ used-handle (in_use old) h (units_of old) (recursion_from_All (λ (d : TreeElement ℕ). in_use old d.unit ≡ true) (units_of old) p.used) (taken-stood h e);
-    once = λ h. at-most-one (len (has_handle h) (units_of old)) (len (has_handle h) (units_of new)) (len (goes_with h) s.marked) (times_held h runs) (p.once h) (counts h) (s.taken h);
+    once = λ h. at-most-one (len (has_handle h) (units_of old)) (len (has_handle h) (units_of new)) (len (goes_with h) s.marked)
+        (times_held h runs) (p.once h) (counts h) (s.taken h);
     gone = All-from_recursion (λ (e : TreeElement ℕ). is_in_runs runs e.unit ≡ false) (units_of new)
         (all-weaker (λ (e : TreeElement ℕ). 1 ≤ len (has_handle e.unit) (units_of new)) (λ (e : TreeElement ℕ). is_in_runs runs e.unit ≡ false) (λ e l.
         none-in-runs e.unit runs (one-left (len (has_handle e.unit) (units_of old)) (len (has_handle e.unit) (units_of new)) (len (goes_with e.unit) s.marked)
@@ -144,7 +141,8 @@ module _ (floor : ℕ) (runs : List HandleRun) (old new : VectorState) (s : Scou
   }
 
 pub left-sound : (floor : ℕ) (runs : List HandleRun) (old new : VectorState) (f : Reference → Reference) → ScoursUnits floor runs old new → IsSoundVector old
-    → new ≡ record old { tree = new.tree } → new.tree.usable ≡ true → ChangesReferences f old.tree.refs new.tree.refs → new.tree.made ≡ old.tree.made → IsSoundVector new
+    → new ≡ record old { tree = new.tree } → new.tree.usable ≡ true → ChangesReferences f old.tree.refs new.tree.refs
+    → new.tree.made ≡ old.tree.made → IsSoundVector new
 left-sound floor runs old new f s sound same usable refs made = record {
   usable = usable;
   refs = no-references f old.tree.refs new.tree.refs sound.refs refs;
@@ -188,21 +186,12 @@ run-count h stamps overlay first (suc count) = step (nat_eq first h) refl (run-c
     same-later e = grind (arith, nat_tests)
 
     step : (b : Bool) → nat_eq first h ≡ b
-        → len (has_handle h) (elements_with stamps None overlay (numbers_from (first + 1) count)) ≡ one_more_if (in_run h (record { first = first + 1; count = count })) 0
-        → one_more_if b (len (has_handle h) (elements_with stamps None overlay (numbers_from (first + 1) count))) ≡ one_more_if (in_run h (record { first = first; count = suc count })) 0
+        → len (has_handle h) (elements_with stamps None overlay (numbers_from (first + 1) count))
+        ≡ one_more_if (in_run h (record { first = first + 1; count = count })) 0
+        → one_more_if b (len (has_handle h) (elements_with stamps None overlay (numbers_from (first + 1) count)))
+        ≡ one_more_if (in_run h (record { first = first; count = suc count })) 0
     step true e g = ap (one_more_if true) (g ∙ ap (λ c. one_more_if c 0) (not-later e)) ∙ ap (λ c. one_more_if c 0) (sym (here e))
     step false e g = g ∙ ap (λ c. one_more_if c 0) (same-later e)
-
-len-append : {A : Type 0} (test : A → Bool) (xs ys : List A) → len test (xs ++ ys) ≡ len test xs + len test ys
-len-append test [] ys = zero-plus (len test ys)
-  where
-    zero-plus : (n : ℕ) → n ≡ 0 + n
-    zero-plus n = omega arith
-len-append test (x ∷ xs) ys = step (test x) (len-append test xs ys)
-  where
-    step : (b : Bool) → len test (xs ++ ys) ≡ len test xs + len test ys → one_more_if b (len test (xs ++ ys)) ≡ one_more_if b (len test xs) + len test ys
-    step true g = omega (arith, g)
-    step false g = g
 
 -- the leaves of a list of units
 abbrev pub leaf_units : List (ℕ × TreeLeaf HandleRun) → List (TreeElement ℕ)
@@ -215,10 +204,13 @@ none-marked h (e ∷ es) = none-marked h es
 module _ (h floor : ℕ) where
   -- all units of a leaf go, or none
   leaf-count : (stamps : ElementStamps) (overlay : OverlayState) (us : List ℕ)
-      → len (goes_with h) (map (marked floor) (elements_with stamps None overlay us)) ≡ cond (is_collectable floor stamps) (len (has_handle h) (elements_with stamps None overlay us)) 0
+      → len (goes_with h) (map (marked floor) (elements_with stamps None overlay us))
+      ≡ cond (is_collectable floor stamps) (len (has_handle h) (elements_with stamps None overlay us)) 0
   leaf-count stamps overlay us = step (is_collectable floor stamps) refl
     where
-      all-go : is_collectable floor stamps ≡ true → (us : List ℕ) → len (goes_with h) (map (marked floor) (elements_with stamps None overlay us)) ≡ len (has_handle h) (elements_with stamps None overlay us)
+      all-go : is_collectable floor stamps ≡ true → (us : List ℕ)
+          → len (goes_with h) (map (marked floor) (elements_with stamps None overlay us))
+          ≡ len (has_handle h) (elements_with stamps None overlay us)
       all-go e [] = refl
       all-go e (u ∷ us) = ap (λ b. one_more_if (b && nat_eq u h) (len (goes_with h) (map (marked floor) (elements_with stamps None overlay us)))) e
           ∙ ap (one_more_if (nat_eq u h)) (all-go e us)
@@ -262,7 +254,8 @@ module _ (h floor : ℕ) where
       head true e = plus (in_run h x.1.content) (times_held h (collected floor xs)) (len (goes_with h) (map (marked floor) (leaf_units xs))) e
       head false e = plus false (times_held h (collected floor xs)) (len (goes_with h) (map (marked floor) (leaf_units xs))) e
 
-  marks-count : (n : ℕ) (xs : List (ℕ × TreeLeaf HandleRun)) → len (goes_with h) (marks handles_of (λ x. None) floor n xs) ≡ times_held h (collected floor (take n xs))
+  marks-count : (n : ℕ) (xs : List (ℕ × TreeLeaf HandleRun))
+      → len (goes_with h) (marks handles_of (λ x. None) floor n xs) ≡ times_held h (collected floor (take n xs))
   marks-count n xs =
       let front = map (marked floor) (leaf_units (take n xs)) in
       let rear = map unmarked (leaf_units (drop n xs)) in
@@ -323,12 +316,14 @@ module _ (h floor : ℕ) (named : List (Option ℕ)) where
 
 -- ---- what the calls of compaction make of a vector
 
-module _ (floor : ℕ) (given runs : List HandleRun) (none : given ≡ []) (old new : VectorState) (same : new ≡ record old { tree = new.tree }) (raised : new.tree.floor ≡ floor) where
+module _ (floor : ℕ) (given runs : List HandleRun) (none : given ≡ []) (old new : VectorState)
+    (same : new ≡ record old { tree = new.tree }) (raised : new.tree.floor ≡ floor) where
   same-use : (h : ℕ) → in_use new h ≡ in_use old h
   same-use h = ap (λ v. in_use v h) same
 
   -- where all leaves were looked at
-  pub scoured-all : Writes floor (units_of new) (filter (λ e. not (is_collectable floor e.stamps)) (units_of old)) → runs ≡ given ++ collected floor old.tree.leaves
+  pub scoured-all : Writes floor (units_of new) (filter (λ e. not (is_collectable floor e.stamps)) (units_of old))
+      → runs ≡ given ++ collected floor old.tree.leaves
       → ScoursUnits floor runs old new
   scoured-all w t = record {
     marked = map (marked floor) (units_of old);
@@ -348,7 +343,8 @@ module _ (floor : ℕ) (given runs : List HandleRun) (none : given ≡ []) (old 
     all = swept-list handles_of (λ x. None) floor budget old.tree.leaves old.tree.sweep;
     may = swept-go handles_of (λ x. None) floor budget old.tree.leaves old.tree.sweep;
     written = w;
-    taken = λ h. ap (times_held h) (t ∙ ap (λ rs. rs ++ collected floor (looked_at budget old.tree.leaves old.tree.sweep)) none) ∙ swept-count h floor budget old.tree.leaves old.tree.sweep;
+    taken = λ h. ap (times_held h) (t ∙ ap (λ rs. rs ++ collected floor (looked_at budget old.tree.leaves old.tree.sweep)) none)
+        ∙ swept-count h floor budget old.tree.leaves old.tree.sweep;
     used = same-use;
     floor = raised;
   }

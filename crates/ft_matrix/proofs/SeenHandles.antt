@@ -88,7 +88,8 @@ module _ (see : TreeElement ℕ → Bool) where
   once-seen [] o i j h a b = (cc)
   once-seen (x ∷ es) o i j h a b = step (see x) i j a b (λ i j c d. once-seen es (handles-tail x es o) i j h c d)
     where
-      step : (c : Bool) (i j : ℕ) → slice_get (cond c (x.unit ∷ handles es) (handles es)) i ≡ Some h → slice_get (cond c (x.unit ∷ handles es) (handles es)) j ≡ Some h
+      step : (c : Bool) (i j : ℕ) → slice_get (cond c (x.unit ∷ handles es) (handles es)) i ≡ Some h
+          → slice_get (cond c (x.unit ∷ handles es) (handles es)) j ≡ Some h
           → ((i j : ℕ) → slice_get (handles es) i ≡ Some h → slice_get (handles es) j ≡ Some h → i ≡ j) → i ≡ j
       step true zero zero a b r = refl
       step true zero (suc j) a b r = absurd (not-behind x es j h o (cc) b)
@@ -127,7 +128,8 @@ module _ (hs : List ℕ) (old new : SeenRuns) (run : HandleRun) (last : ℕ) (ad
   either : (l : ℕ) (x : SeenRun) → tree.get nat_cmp new.runs l ≡ Some x → (IsNew new.runs last added l x) ⊎ (tree.get nat_cmp old.runs l ≡ Some x)
   either l x g = step (nat_eq last l) refl (sym (ap (λ b. cond b (Some added) (tree.get nat_cmp old.runs l)) (eq-test l)) ∙ sym (is l) ∙ g)
     where
-      step : (b : Bool) → nat_eq last l ≡ b → cond b (Some added) (tree.get nat_cmp old.runs l) ≡ Some x → (IsNew new.runs last added l x) ⊎ (tree.get nat_cmp old.runs l ≡ Some x)
+      step : (b : Bool) → nat_eq last l ≡ b → cond b (Some added) (tree.get nat_cmp old.runs l) ≡ Some x
+          → (IsNew new.runs last added l x) ⊎ (tree.get nat_cmp old.runs l ≡ Some x)
       step true t f = inl (record { at = grind (arith, nat_tests); is = (cc) })
       step false t f = inr f
 
@@ -222,7 +224,8 @@ from-test i j h = grind (arith, nat_tests)
 test-from : (i j : ℕ) → i ≤ j → is_gt (nat_cmp i j) ≡ false
 test-from i j h = grind (arith, nat_tests)
 
-module _ (hs : List ℕ) (r : SeenRuns) (handle : ℕ) (found : List (ℕ × SeenRun)) (is : IsRangeOf nat_cmp (Included handle) Unbounded r.runs found) (h : HoldsRuns hs r) where
+module _ (hs : List ℕ) (r : SeenRuns) (handle : ℕ) (found : List (ℕ × SeenRun))
+    (is : IsRangeOf nat_cmp (Included handle) Unbounded r.runs found) (h : HoldsRuns hs r) where
   pub place-none : found ≡ [] → PlacesHandle hs handle None
   place-none e i g =
       let c = h.covered i handle g in
@@ -280,9 +283,11 @@ runs-begin all next runs e h = record { done = []; walk = walk-begin handles_in 
 same-leaf : (all : Leaves) (id : ℕ) (x y : TreeLeaf HandleRun) → value_at all id ≡ Some x → value_at all id ≡ Some y → x ≡ y
 same-leaf all id x y e f = (cc)
 
-pub runs-next : (all : Leaves) → ((i : ℕ) → times_leaf all i ≤ 1) → StandOnce (handles_in all) → (next behind : Option ℕ) (id : ℕ) (old new : SeenRuns) → RunsSoFar all next old
+pub runs-next : (all : Leaves) → ((i : ℕ) → times_leaf all i ≤ 1) → StandOnce (handles_in all)
+    → (next behind : Option ℕ) (id : ℕ) (old new : SeenRuns) → RunsSoFar all next old
     → next ≡ Some id
-    → ((x : TreeLeaf HandleRun) → value_at all id ≡ Some x → (hs : List ℕ) → HoldsRuns hs old → StandOnce (hs ++ seen_in_leaf x) → HoldsRuns (hs ++ seen_in_leaf x) new)
+    → ((x : TreeLeaf HandleRun) → value_at all id ≡ Some x → (hs : List ℕ) → HoldsRuns hs old → StandOnce (hs ++ seen_in_leaf x)
+    → HoldsRuns (hs ++ seen_in_leaf x) new)
     → behind ≡ after (ids all) id → RunsSoFar all behind new
 runs-next all once apart next behind id old new r e f g =
     let s = stands-next all once id (subst (λ n. IsPlaceIn all n) e r.walk.place) in

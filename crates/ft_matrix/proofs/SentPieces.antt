@@ -26,6 +26,7 @@ use Rattle.ft_props.specs.Steps.{marked_runs as document_runs}
 use Rattle.ft_tree_leaves.specs.Elements.{TreeElement, seen_in}
 use Rattle.ft_perm.specs.Vectors.{IsProper, VectorState}
 use Rattle.ft_laws_agreement.proofs.SlidEnds.{Once, same_id-eq}
+use Rattle.ft_laws_agreement.proofs.Booleans.{hidden}
 use Rattle.ft_laws_names.specs.WellNamed.{AreNamedBefore, IsNamedBefore}
 use Rattle.ft_laws_names.proofs.Beside.{beside-any, beside-rank}
 use Rattle.ft_rebase.specs.Pieces.{marked_runs}
@@ -89,20 +90,18 @@ inserted-before k a x b h = step x.ins a b (same_id-eq a (id x) h)
     step (Local j) (SequencedId n) l e = cc e
     step (Local j) (PendingId i n) l e = let same : i ≡ j = cc e in low j (subst (λ m. m < k) same l)
 
-not-true : (b : Bool) → not b ≡ true → b ≡ false
-not-true true h = cc h
-not-true false h = refl
-
 seen-here : (k : ℕ) (a : ElementId) (x : ListElement) → IsNamedBefore k (Some a) → has_id a x ≡ true → seen k x ≡ true → seen (k - 1) x ≡ true
 seen-here k a x b h s =
     let p = both (has_occurred_at_stage k x.ins) (not (list_any (has_occurred_at_stage k) (stamps_of x).dels)) s in
-    rw (inserted-before k a x b h, none-before k (stamps_of x).dels (not-true (list_any (has_occurred_at_stage k) (stamps_of x).dels) p.1)) refl
+    rw (inserted-before k a x b h, none-before k (stamps_of x).dels (hidden (list_any (has_occurred_at_stage k) (stamps_of x).dels) p.1)) refl
 
-seen-too : (k : ℕ) (a : ElementId) (xs : List ListElement) → IsNamedBefore k (Some a) → is_named_and_seen k xs (Some a) ≡ true → is_named_and_seen (k - 1) xs (Some a) ≡ true
+seen-too : (k : ℕ) (a : ElementId) (xs : List ListElement) → IsNamedBefore k (Some a) → is_named_and_seen k xs (Some a) ≡ true
+    → is_named_and_seen (k - 1) xs (Some a) ≡ true
 seen-too k a [] b h = cc h
 seen-too k a (x ∷ xs) b h = step (has_id a x) (seen k x) (seen (k - 1) x) (λ e f. seen-here k a x b e f) refl refl h (seen-too k a xs b)
   where
-    step : (i s t : Bool) → (has_id a x ≡ true → seen k x ≡ true → t ≡ true) → has_id a x ≡ i → seen k x ≡ s → (i && s) || is_named_and_seen k xs (Some a) ≡ true
+    step : (i s t : Bool) → (has_id a x ≡ true → seen k x ≡ true → t ≡ true) → has_id a x ≡ i → seen k x ≡ s
+        → (i && s) || is_named_and_seen k xs (Some a) ≡ true
         → (is_named_and_seen k xs (Some a) ≡ true → is_named_and_seen (k - 1) xs (Some a) ≡ true) → (i && t) || is_named_and_seen (k - 1) xs (Some a) ≡ true
     step true true t f e g h r = ap (λ c. c || is_named_and_seen (k - 1) xs (Some a)) (f e g)
     step true false true f e g h r = refl
@@ -142,7 +141,8 @@ module _ (k : ℕ) (v : VectorState) (p : IsProper v) (xs : List ListElement) (o
   same-before (Some a) None n e = cc e
   same-before (Some a) (Some h) n e = named-before a h (some-rank e) n
 
-pub same-write : (value : ValueBytes) (c d : Bool) (i j : ℕ) → map (λ op. OnGrid op) (write_at value (cond c (Some i) None) (cond d (Some j) None)) ≡ cond (c && d) (OnGrid (Set i j value) ∷ []) []
+pub same-write : (value : ValueBytes) (c d : Bool) (i j : ℕ)
+    → map (λ op. OnGrid op) (write_at value (cond c (Some i) None) (cond d (Some j) None)) ≡ cond (c && d) (OnGrid (Set i j value) ∷ []) []
 same-write value true true i j = refl
 same-write value true false i j = refl
 same-write value false d i j = refl
@@ -164,7 +164,8 @@ module _ (doc : Document) (rows cols : VectorState) (pr : IsProper rows) (pc : I
       by (SpliceOut Rows p q) = same-removals t.stage br Rows row-runs
       by (SpliceOut Cols p q) = same-removals t.stage bc Cols col-runs
       by (Set i j value) =
-          ap (λ o. map (λ p. OnGrid p) (write_at value o (place_before t.stage t.col (units_of cols)))) (same-before t.stage rows pr doc.rows.items nr br n.first t.row before.0 first)
+          ap (λ o. map (λ p. OnGrid p) (write_at value o (place_before t.stage t.col (units_of cols))))
+          (same-before t.stage rows pr doc.rows.items nr br n.first t.row before.0 first)
           ∙ ap (λ o. map (λ p. OnGrid p) (write_at value (cond (is_named_and_seen t.stage doc.rows.items n.first) (Some (position_of_named (t.stage - 1) doc.rows.items n.first)) None) o))
           (same-before t.stage cols pc doc.cols.items nc bc n.second t.col before.1 second)
           ∙ same-write value (is_named_and_seen t.stage doc.rows.items n.first) (is_named_and_seen t.stage doc.cols.items n.second)

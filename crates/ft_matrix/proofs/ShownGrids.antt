@@ -68,7 +68,8 @@ beside-seen see see' agree f ends = ends
 beside-seen {R = R} see see' agree f (next {x = x} {y = e} {xs = xs} {ys = es} q qs) = step (see x) (see' e) refl (agree x e q) (beside-seen see see' agree f qs)
   where
     step : (b c : Bool) → see x ≡ b → b ≡ c → Beside ListElement ℕ R (filter see xs) (retain_map see' (λ (d : TreeElement ℕ). d.unit) es)
-        → Beside ListElement ℕ R (cond b (x ∷ filter see xs) (filter see xs)) (cond c (e.unit ∷ retain_map see' (λ (d : TreeElement ℕ). d.unit) es) (retain_map see' (λ (d : TreeElement ℕ). d.unit) es))
+        → Beside ListElement ℕ R (cond b (x ∷ filter see xs) (filter see xs))
+        (cond c (e.unit ∷ retain_map see' (λ (d : TreeElement ℕ). d.unit) es) (retain_map see' (λ (d : TreeElement ℕ). d.unit) es))
     step true true g h r = next (f x e q g) r
     step false false g h r = r
     step true false g h r = (cc)
@@ -78,13 +79,15 @@ pub length-retained : {A B : Type 0} (see : A → Bool) (f : A → B) (xs : List
 length-retained see f [] = refl
 length-retained see f (x ∷ xs) = step (see x) (length-retained see f xs)
   where
-    step : (b : Bool) → length (retain_map see f xs) ≡ len see xs → length (cond b (f x ∷ retain_map see f xs) (retain_map see f xs)) ≡ one_more_if b (len see xs)
+    step : (b : Bool) → length (retain_map see f xs) ≡ len see xs
+        → length (cond b (f x ∷ retain_map see f xs) (retain_map see f xs)) ≡ one_more_if b (len see xs)
     step true h = ap suc h
     step false h = h
 
 -- ---- what a stage names, and of what handles it is
 
-named-beside : {xs : List ListElement} {es : List (TreeElement ℕ)} (v : VectorState) → es ≡ units_of v → (o : Option ElementId) (p : Option ℕ) → Once xs → HandlesOnce es
+named-beside : {xs : List ListElement} {es : List (TreeElement ℕ)} (v : VectorState) → es ≡ units_of v
+    → (o : Option ElementId) (p : Option ℕ) → Once xs → HandlesOnce es
     → BesideUnits IsUnit xs es → place_in_list xs o ≡ place_of_handle v p → BesideUnits (HandleNamed (λ a h. is_named_by a o ≡ is_handle h p)) xs es
 named-beside v s None None n k us e = beside-more (λ x d u. (u, refl)) us
 named-beside v s None (Some h) n k us e = (cc)
@@ -109,7 +112,8 @@ module _ (doc : Document) (rows cols : VectorState) where
   ops-meet : {ts : List Stage} {us : List GridStage} → StagesMeet ts us → OpsMeet ts us
   ops-meet h = beside-more (λ t u e. ap (λ (s : IndexedStage). s.sub_operation) e) h
 
-  rows-meet : Once doc.rows.items → HandlesOnce (units_of rows) → BesideUnits IsUnit doc.rows.items (units_of rows) → {ts : List Stage} {us : List GridStage} → StagesMeet ts us
+  rows-meet : Once doc.rows.items → HandlesOnce (units_of rows) → BesideUnits IsUnit doc.rows.items (units_of rows)
+      → {ts : List Stage} {us : List GridStage} → StagesMeet ts us
       → BesideUnits (HandleNamed (λ a h. RowsMeet ts us a h)) doc.rows.items (units_of rows)
   rows-meet n k b ends = beside-more (λ x e u. (u, ends)) b
   rows-meet n k b (next {x = t} {y = u} q qs) =
@@ -117,7 +121,8 @@ module _ (doc : Document) (rows cols : VectorState) where
       (beside-both (named-beside rows refl t.names.first u.row n k b (ap (λ o. (places_of doc o t.names).first) (sym (ap (λ (s : IndexedStage). s.sub_operation) q))
       ∙ ap (λ (s : IndexedStage). s.places.first) q)) (rows-meet n k b qs))
 
-  cols-meet : Once doc.cols.items → HandlesOnce (units_of cols) → BesideUnits IsUnit doc.cols.items (units_of cols) → {ts : List Stage} {us : List GridStage} → StagesMeet ts us
+  cols-meet : Once doc.cols.items → HandlesOnce (units_of cols) → BesideUnits IsUnit doc.cols.items (units_of cols)
+      → {ts : List Stage} {us : List GridStage} → StagesMeet ts us
       → BesideUnits (HandleNamed (λ a h. ColsMeet ts us a h)) doc.cols.items (units_of cols)
   cols-meet n k b ends = beside-more (λ x e u. (u, ends)) b
   cols-meet n k b (next {x = t} {y = u} q qs) =
@@ -147,15 +152,18 @@ module _ (a b : ElementId) (h g : ℕ) where
       ∙ step u.op (λ w p f. shown-same os rs cs w p f)
     where
       choose : (k : ℕ) (value : ValueBytes) (i j : Bool) → i ≡ j
-          → ((w : Value) (p : Option ValueBytes) → w ≡ option_and_then unless_null p → shown_cell_value a b w ts ≡ option_and_then unless_null (last_value p (writes_to h g us)))
-          → shown_cell_value a b (cond i (unless_null value) v) ts ≡ option_and_then unless_null (last_value acked (cond j ((k, value) ∷ []) [] ++ writes_to h g us))
+          → ((w : Value) (p : Option ValueBytes) → w ≡ option_and_then unless_null p → shown_cell_value a b w ts
+          ≡ option_and_then unless_null (last_value p (writes_to h g us)))
+          → shown_cell_value a b (cond i (unless_null value) v) ts
+          ≡ option_and_then unless_null (last_value acked (cond j ((k, value) ∷ []) [] ++ writes_to h g us))
       choose k value true true f rest = rest (unless_null value) (Some value) refl
       choose k value false false f rest = rest v acked e
       choose k value true false f rest = (cc)
       choose k value false true f rest = (cc)
 
       step : (op : CellOp)
-          → ((w : Value) (p : Option ValueBytes) → w ≡ option_and_then unless_null p → shown_cell_value a b w ts ≡ option_and_then unless_null (last_value p (writes_to h g us)))
+          → ((w : Value) (p : Option ValueBytes) → w ≡ option_and_then unless_null p → shown_cell_value a b w ts
+          ≡ option_and_then unless_null (last_value p (writes_to h g us)))
           → shown_cell_value a b (cell_after_stage a b (record { stage = t.stage; sub_operation = OnGrid op; names = t.names }) v) ts
           ≡ option_and_then unless_null (last_value acked (write_of h g (record { stage = u.stage; op = op; row = u.row; col = u.col }) ++ writes_to h g us))
       step (SpliceIn target i n) rest = rest v acked e
@@ -232,8 +240,10 @@ module _ (last : ℕ) (g : Grid) (given : ℕ) (usable : Bool) (doc : Document) 
       let e : last + 1 ≡ suc last = omega arith in
       subst (λ k. AreBelow k (units_of v)) e (below-of (last + 1) (units_of v) (recursion_from_All (λ x. is_unit_below (last + 1) x ≡ true) (map shown_unit (units_of v)) a))
 
-  pub view-shown : last < 2 ^ 64 → IsAboveAll (last + 1) (grid_state g given usable) → (view : View) (r c : ℕ) (cells : List CellRec) → r ≡ len (seen_in last_stage) (units_of g.rows)
-      → c ≡ len (seen_in last_stage) (units_of g.cols) → cells ≡ shown_cells g → record view { rows = r; cols = c; cells = cells } ≡ with_grid last doc stages view
+  pub view-shown : last < 2 ^ 64 → IsAboveAll (last + 1) (grid_state g given usable) → (view : View) (r c : ℕ) (cells : List CellRec)
+      → r ≡ len (seen_in last_stage) (units_of g.rows)
+      → c ≡ len (seen_in last_stage) (units_of g.cols) → cells ≡ shown_cells g
+      → record view { rows = r; cols = c; cells = cells } ≡ with_grid last doc stages view
   view-shown fits above view r c cells p q o =
       let rs = sees-last fits doc.rows.items g.rows (beside-more (λ x e q. q.0) units.rows) (below-suc g.rows above.rows) in
       let cs = sees-last fits doc.cols.items g.cols units.cols (below-suc g.cols above.cols) in

@@ -39,12 +39,14 @@ pub side-rest : (target : Target) (g : Grid) (cells : CellList) → units_at tar
 side-rest Rows g cells = refl
 side-rest Cols g cells = refl
 
-pub side-again : (target : Target) (g mid : Grid) (v : VectorState) → mid ≡ record g { cells = mid.cells } → with_units_at target mid v ≡ record (with_units_at target g v) { cells = mid.cells }
+pub side-again : (target : Target) (g mid : Grid) (v : VectorState) → mid ≡ record g { cells = mid.cells }
+    → with_units_at target mid v ≡ record (with_units_at target g v) { cells = mid.cells }
 side-again Rows g mid v e = ap (λ (x : Grid). record x { rows = v }) e
 side-again Cols g mid v e = ap (λ (x : Grid). record x { cols = v }) e
 
 -- what is behind the stages of the changed grid is behind those of the grid
-pub behind-side : (target : Target) (g : Grid) (v : VectorState) (us : List GridStage) (u : GridStage) → us ≡ (with_units_at target g v).stages.items ++ (u ∷ [])
+pub behind-side : (target : Target) (g : Grid) (v : VectorState) (us : List GridStage) (u : GridStage)
+    → us ≡ (with_units_at target g v).stages.items ++ (u ∷ [])
     → us ≡ g.stages.items ++ (u ∷ [])
 behind-side target g v us u e = e ∙ ap (λ ts. ts ++ (u ∷ [])) (side-stages target g v)
 
@@ -78,7 +80,8 @@ used-before old new h b e n = step (in_use old h) b (sym e ∙ n)
     step true c g = (cc)
     step false c g = refl
 
-pub puts-used : (view : LenView) (past : TreeElement ℕ → Bool) (ins : Stamp) (p count : ℕ) (old new : VectorState) → Inserts view past ins p count old new true → (h : ℕ)
+pub puts-used : (view : LenView) (past : TreeElement ℕ → Bool) (ins : Stamp) (p count : ℕ) (old new : VectorState)
+    → Inserts view past ins p count old new true → (h : ℕ)
     → in_use new h ≡ false → in_use old h ≡ false
 puts-used view past ins p count old new i h n = used-before old new h (in_run h i.1.run) (i.1.used h) n
 
@@ -94,7 +97,8 @@ pub floor-at : (target : Target) (g : Grid) → IsSound g → (units_at target g
 floor-at Rows g s = refl
 floor-at Cols g s = s.floors
 
-pub side-sound : (target : Target) (g : Grid) (v : VectorState) → IsSound g → IsSoundVector v → ((h : ℕ) → in_use v h ≡ false → in_use (units_at target g) h ≡ false)
+pub side-sound : (target : Target) (g : Grid) (v : VectorState) → IsSound g → IsSoundVector v
+    → ((h : ℕ) → in_use v h ≡ false → in_use (units_at target g) h ≡ false)
     → v.tree.floor ≡ (units_at target g).tree.floor → IsSound (with_units_at target g v)
 side-sound Rows g v s sv u f = record {
   rows = sv;
@@ -117,7 +121,8 @@ pub made-sound : (target : Target) (n : ℕ) (g : Grid) → IsSound g → IsSoun
 made-sound Rows n g s = record { rows = s.rows; cols = s.cols; floors = s.floors; held = s.held; writes = s.writes; rise = s.rise }
 made-sound Cols n g s = record { rows = s.rows; cols = s.cols; floors = s.floors; held = s.held; writes = s.writes; rise = s.rise }
 
-pub side-floor : (target : Target) (g : Grid) (v : VectorState) → v.tree.floor ≡ (units_at target g).tree.floor → (with_units_at target g v).rows.tree.floor ≡ g.rows.tree.floor
+pub side-floor : (target : Target) (g : Grid) (v : VectorState) → v.tree.floor ≡ (units_at target g).tree.floor
+    → (with_units_at target g v).rows.tree.floor ≡ g.rows.tree.floor
 side-floor Rows g v f = f
 side-floor Cols g v f = refl
 

@@ -2,6 +2,7 @@
 use Rattle.std.proofs.Common.{◌≡◌, ℕ, zero, suc, ◌+◌, ◌≤◌, ◌<◌, All, IfOk, IsTrue, OnOk, Result, Ok, Err, Bool, true, false, cond, ◌&&◌, ◌||◌, nat_eq, List, [], ◌∷◌, ◌++◌, Option, Some, None, refl, sym, ◌∙◌, ap, subst, map, length, arith}
 use Rattle.std.specs.List.{AllByRecursion}
 use Rattle.std.specs.Option.{option_map}
+use Rattle.std.proofs.lemmas.Bool.{or_left, or_right}
 use Rattle.std.proofs.lemmas.Bool.Decides.{nat_tests}
 use Rattle.std.proofs.lemmas.List.Elements.{All-from_recursion, recursion_from_All}
 use Rattle.ft_base.specs.declared.stamps.Stamp.{Stamp}
@@ -23,6 +24,8 @@ use Rattle.ft_perm.specs.Vectors.{VectorState, in_use, vector_elements}
 use Rattle.ft_laws_agreement.proofs.AgreedStage.{len-put-add}
 use Rattle.ft_laws_agreement.proofs.RangesOfLists.{len-range}
 use Rattle.ft_laws_agreement.proofs.SlidEnds.{true-false}
+use Rattle.ft_laws_names.proofs.AckedLists.{len-map}
+use Rattle.ft_named.proofs.PutTwice.{put-nothing}
 use Rattle.ft_matrix.specs.Sound.{IsSoundVector, IsStaged, no_properties}
 use Rattle.ft_matrix.specs.Splices.{AcksUnits, MarksUnits, PutsUnits, TakesRun}
 use Rattle.ft_matrix.specs.Units.{units_of}
@@ -48,7 +51,8 @@ module _ {A : Type 0} (P : A → Type 0) where
     all-put seen (suc p) [] a = all
     all-put seen (suc p) (x ∷ xs) a = (a.0, all-put seen (cond (seen x) p (suc p)) xs a.1)
 
-  pub all-range : (seen : A → Bool) (f : A → A) → ((x : A) → P x → P (f x)) → (i p q : ℕ) (xs : List A) → AllByRecursion P xs → AllByRecursion P (change_range_from i seen p q f xs)
+  pub all-range : (seen : A → Bool) (f : A → A) → ((x : A) → P x → P (f x)) → (i p q : ℕ) (xs : List A) → AllByRecursion P xs
+      → AllByRecursion P (change_range_from i seen p q f xs)
   all-range seen f h i p q [] a = a
   all-range seen f h i p q (x ∷ xs) a = (step (seen x && within p q i), all-range seen f h (one_more_if (seen x) i) p q xs a.1)
     where
@@ -66,7 +70,8 @@ all-weaker P Q f (x ∷ xs) a = (f x a.0, all-weaker P Q f xs a.1)
 pub below-run : (first count : ℕ) → in_run first (record { first = first; count = suc count }) ≡ true
 below-run first count = grind (arith, nat_tests)
 
-pub later-run : (h first count : ℕ) → in_run h (record { first = first + 1; count = count }) ≡ true → in_run h (record { first = first; count = suc count }) ≡ true
+pub later-run : (h first count : ℕ) → in_run h (record { first = first + 1; count = count }) ≡ true
+    → in_run h (record { first = first; count = suc count }) ≡ true
 later-run h first count g = grind (arith, nat_tests)
 
 pub new-handles : (P : ℕ → Type 0) (ins : Stamp) (first count : ℕ) → ((h : ℕ) → in_run h (record { first = first; count = count }) ≡ true → P h)
@@ -106,21 +111,15 @@ new-once h ins first (suc count) = step (nat_eq first h) refl (new-once h ins (f
     step true e l = subst (λ n. suc n ≤ 1) (sym (new-none h ins (first + 1) count (above e))) (omega arith)
     step false e l = l
 
-pub none-stands : (used : ℕ → Bool) (h : ℕ) (es : List (TreeElement ℕ)) → AllByRecursion (λ e. used e.unit ≡ true) es → used h ≡ false → len (λ e. nat_eq e.unit h) es ≡ 0
+pub none-stands : (used : ℕ → Bool) (h : ℕ) (es : List (TreeElement ℕ)) → AllByRecursion (λ e. used e.unit ≡ true) es → used h ≡ false
+    → len (λ e. nat_eq e.unit h) es ≡ 0
 none-stands used h [] a n = refl
 none-stands used h (e ∷ es) a n = step (nat_eq e.unit h) refl (none-stands used h es a.1 n)
   where
-    step : (b : Bool) → nat_eq e.unit h ≡ b → len (λ (d : TreeElement ℕ). nat_eq d.unit h) es ≡ 0 → one_more_if b (len (λ (d : TreeElement ℕ). nat_eq d.unit h) es) ≡ 0
+    step : (b : Bool) → nat_eq e.unit h ≡ b → len (λ (d : TreeElement ℕ). nat_eq d.unit h) es ≡ 0
+        → one_more_if b (len (λ (d : TreeElement ℕ). nat_eq d.unit h) es) ≡ 0
     step true g rest = let same : e.unit ≡ h = grind (arith, nat_tests) in absurd (true-false (sym a.0 ∙ ap used same ∙ n))
     step false g rest = rest
-
-pub or-right : (a b : Bool) → b ≡ true → (a || b) ≡ true
-or-right true b h = refl
-or-right false b h = h
-
-pub or-left : (a b : Bool) → a ≡ true → (a || b) ≡ true
-or-left true b h = refl
-or-left false b h = (cc)
 
 sum-first : (m n : ℕ) → m ≡ 0 → n ≤ 1 → m + n ≤ 1
 sum-first m n e l = omega arith
@@ -140,7 +139,8 @@ module _ (old between new : VectorState) (s : IsSoundVector old) (run : HandleRu
   in-use-same h = ap (λ v. in_use v h) same ∙ used h
 
   -- a vector in which units are put
-  pub put-sound : (ins : Stamp) → is_of_stage 0 ins ≡ false → (seen past : TreeElement ℕ → Bool) (p : ℕ) → IsTrue new.tree.usable → ((r : ℕ) → reference_at new.tree.refs r ≡ None)
+  pub put-sound : (ins : Stamp) → is_of_stage 0 ins ≡ false → (seen past : TreeElement ℕ → Bool) (p : ℕ) → IsTrue new.tree.usable
+      → ((r : ℕ) → reference_at new.tree.refs r ≡ None)
       → new.tree.made ≡ old.tree.made + run.count
       → units_of new ≡ put seen past p (new_elements ins None [] (handles_of run)) (units_of old) → IsSoundVector new
   put-sound ins later seen past p usable refs made units = record {
@@ -163,12 +163,13 @@ module _ (old between new : VectorState) (s : IsSoundVector old) (run : HandleRu
       proper : AllByRecursion (λ (e : TreeElement ℕ). in_use new e.unit ≡ true) (units_of new)
       proper = subst (AllByRecursion (λ (e : TreeElement ℕ). in_use new e.unit ≡ true)) (sym units)
           (all-put (λ (e : TreeElement ℕ). in_use new e.unit ≡ true) past (new_elements ins None [] (handles_of run))
-          (new-handles (λ h. in_use new h ≡ true) ins run.first run.count (λ h g. in-use-same h ∙ or-right (in_use old h) (in_run h run) g)) seen p (units_of old)
+          (new-handles (λ h. in_use new h ≡ true) ins run.first run.count (λ h g. in-use-same h ∙ or_right (in_use old h) (in_run h run) g)) seen p (units_of old)
           (all-weaker (λ (e : TreeElement ℕ). in_use old e.unit ≡ true) (λ (e : TreeElement ℕ). in_use new e.unit ≡ true)
-          (λ e g. in-use-same e.unit ∙ or-left (in_use old e.unit) (in_run e.unit run) g) (units_of old)
+          (λ e g. in-use-same e.unit ∙ or_left (in_use old e.unit) (in_run e.unit run) g) (units_of old)
           (recursion_from_All (λ (e : TreeElement ℕ). in_use old e.unit ≡ true) (units_of old) s.proper.used)))
 
-      count : (h : ℕ) → len (λ (e : TreeElement ℕ). nat_eq e.unit h) (new_elements ins None [] (handles_of run)) + len (λ (e : TreeElement ℕ). nat_eq e.unit h) (units_of old) ≤ 1
+      count : (h : ℕ) → len (λ (e : TreeElement ℕ). nat_eq e.unit h) (new_elements ins None [] (handles_of run))
+          + len (λ (e : TreeElement ℕ). nat_eq e.unit h) (units_of old) ≤ 1
       count h = step (in_use old h) refl
         where
           apart : (b : Bool) → in_run h run ≡ b → in_use old h ≡ true → b ≡ false
@@ -179,7 +180,8 @@ module _ (old between new : VectorState) (s : IsSoundVector old) (run : HandleRu
           none-new e = none-stands (λ g. in_run g run) h (new_elements ins None [] (handles_of run)) (new-handles (λ g. in_run g run ≡ true) ins run.first run.count (λ g l. l)) e
 
           step : (b : Bool) → in_use old h ≡ b
-              → len (λ (e : TreeElement ℕ). nat_eq e.unit h) (new_elements ins None [] (handles_of run)) + len (λ (e : TreeElement ℕ). nat_eq e.unit h) (units_of old) ≤ 1
+              → len (λ (e : TreeElement ℕ). nat_eq e.unit h) (new_elements ins None [] (handles_of run))
+              + len (λ (e : TreeElement ℕ). nat_eq e.unit h) (units_of old) ≤ 1
           step true e = sum-first _ _ (none-new (apart (in_run h run) refl e)) (s.proper.once h)
           step false e = sum-second _ _ (new-once h ins run.first run.count)
               (none-stands (in_use old) h (units_of old) (recursion_from_All (λ (d : TreeElement ℕ). in_use old d.unit ≡ true) (units_of old) s.proper.used) e)
@@ -189,9 +191,11 @@ module _ (old between new : VectorState) (s : IsSoundVector old) (run : HandleRu
           (subst (λ n. n ≤ 1) (sym (len-put-add (λ (e : TreeElement ℕ). nat_eq e.unit h) seen past p (new_elements ins None [] (handles_of run)) (units_of old))) (count h))
 
 -- a vector of which some units get other stamps
-pub range-sound : (old new : VectorState) → IsSoundVector old → new ≡ record old { tree = new.tree } → (seen : TreeElement ℕ → Bool) (f : ElementStamps → ElementStamps) (p q : ℕ)
+pub range-sound : (old new : VectorState) → IsSoundVector old → new ≡ record old { tree = new.tree }
+    → (seen : TreeElement ℕ → Bool) (f : ElementStamps → ElementStamps) (p q : ℕ)
     → IsTrue new.tree.usable → ((r : ℕ) → reference_at new.tree.refs r ≡ None) → new.tree.made ≡ old.tree.made
-    → units_of new ≡ change_range_from 0 seen p q (with_stamps f) (units_of old) → ((e : TreeElement ℕ) → IsStaged e → IsStaged (with_stamps f e)) → IsSoundVector new
+    → units_of new ≡ change_range_from 0 seen p q (with_stamps f) (units_of old)
+    → ((e : TreeElement ℕ) → IsStaged e → IsStaged (with_stamps f e)) → IsSoundVector new
 range-sound old new s same seen f p q usable refs made units later = record {
   usable = usable;
   refs = refs;
@@ -219,19 +223,6 @@ range-sound old new s same seen f p q usable refs made units later = record {
 
 -- ---- nothing put in
 
-past-nothing : {A : Type 0} (past : A → Bool) (xs : List A) → put_past past [] xs ≡ xs
-past-nothing past [] = refl
-past-nothing past (x ∷ xs) = step (past x) (past-nothing past xs)
-  where
-    step : (b : Bool) → put_past past [] xs ≡ xs → cond b (x ∷ put_past past [] xs) ([] ++ (x ∷ xs)) ≡ x ∷ xs
-    step true e = ap (λ ys. x ∷ ys) e
-    step false e = refl
-
-pub put-nothing : {A : Type 0} (seen past : A → Bool) (p : ℕ) (xs : List A) → put seen past p [] xs ≡ xs
-put-nothing seen past zero xs = past-nothing past xs
-put-nothing seen past (suc p) [] = refl
-put-nothing seen past (suc p) (x ∷ xs) = ap (λ ys. x ∷ ys) (put-nothing seen past (cond (seen x) p (suc p)) xs)
-
 no-run : (h : ℕ) → in_run h (record { first = 0; count = 0 }) ≡ false
 no-run h = grind (arith, nat_tests)
 
@@ -239,7 +230,8 @@ or-none : (a b : Bool) → b ≡ false → a ≡ (a || b)
 or-none true b e = refl
 or-none false b e = sym e
 
-pub puts-nothing : (view : LenView) (past : TreeElement ℕ → Bool) (ins : Stamp) (p count : ℕ) (v : VectorState) → count ≡ 0 → PutsUnits view past ins p count v v
+pub puts-nothing : (view : LenView) (past : TreeElement ℕ → Bool) (ins : Stamp) (p count : ℕ) (v : VectorState) → count ≡ 0
+    → PutsUnits view past ins p count v v
 puts-nothing view past ins p count v e = record {
   run = record { first = 0; count = 0 };
   count_is = sym e;
@@ -299,7 +291,8 @@ keeps-changes old new k r = k r ∙ same (reference_at old r)
     same None = refl
     same (Some x) = refl
 
-pub run-fits : (count : ℕ) (run : HandleRun) (old between : VectorState) → TakesRun count run old between → between.tree.made + length (handles_of run) ≤ max_safe_integer
+pub run-fits : (count : ℕ) (run : HandleRun) (old between : VectorState) → TakesRun count run old between
+    → between.tree.made + length (handles_of run) ≤ max_safe_integer
 run-fits count run old between t =
     let f = t.fits in
     let c = t.count_is in
@@ -308,7 +301,8 @@ run-fits count run old between t =
     omega arith
 
 -- a place among what is seen is among it where handles were taken
-pub place-within : (view : LenView) (p count : ℕ) (run : HandleRun) (old between : VectorState) → TakesRun count run old between → p ≤ len (seen_in view) (units_of old)
+pub place-within : (view : LenView) (p count : ℕ) (run : HandleRun) (old between : VectorState) → TakesRun count run old between
+    → p ≤ len (seen_in view) (units_of old)
     → len (seen_in view) (units_of between) < p → ⊥
 place-within view p count run old between t l h =
     let e = ap (λ (x : TreeState HandleRun). len (seen_in view) (vector_elements x)) t.tree in
@@ -320,13 +314,10 @@ on-ok (Err e) p = tt
 
 -- ---- a stage is sequenced
 
-map-all : {A B : Type 0} (P : A → Type 0) (Q : B → Type 0) (f : A → B) → ((x : A) → P x → Q (f x)) → (xs : List A) → AllByRecursion P xs → AllByRecursion Q (map f xs)
+map-all : {A B : Type 0} (P : A → Type 0) (Q : B → Type 0) (f : A → B) → ((x : A) → P x → Q (f x)) → (xs : List A) → AllByRecursion P xs
+    → AllByRecursion Q (map f xs)
 map-all P Q f h [] a = a
 map-all P Q f h (x ∷ xs) a = (h x a.0, map-all P Q f h xs a.1)
-
-len-map : {A B : Type 0} (test : B → Bool) (f : A → B) (xs : List A) → len test (map f xs) ≡ len (λ e. test (f e)) xs
-len-map test f [] = refl
-len-map test f (x ∷ xs) = ap (one_more_if (test (f x))) (len-map test f xs)
 
 module _ (k s c : ℕ) (old new : VectorState) (sound : IsSoundVector old) (f : Reference → Reference) (same : new ≡ record old { tree = new.tree })
     (elements : units_of new ≡ map (acked_element k s c None) (units_of old))

@@ -15,6 +15,8 @@ use Rattle.ft_tree_leaves.specs.Elements.{TreeElement, removed_stamps, seen_in, 
 use Rattle.ft_perm.specs.Handles.{numbers_from}
 use Rattle.ft_laws_names.specs.WellNamed.{has_odd_removal}
 use Rattle.ft_laws_names.proofs.Beside.{Beside, ends, next, same-map}
+use Rattle.ft_laws_names.proofs.Twins.{none-more}
+use Rattle.ft_laws_names.proofs.ForeignAlike.{all-behind}
 use Rattle.ft_matrix.specs.Units.{shown_unit}
 
 -- the element without its name is the unit without its handle, and what counts as its sequenced removals are such
@@ -29,18 +31,15 @@ BesideUnits Q xs es = Beside ListElement (TreeElement ℕ) Q xs es
 abbrev pub HandleNamed : (ElementId → ℕ → Type 0) → ListElement → TreeElement ℕ → Type 0
 HandleNamed P x e = IsUnit x e × P (id x) e.unit
 
-none-odd : (b : Bool) (n : ℕ) → one_more_if b n ≡ 0 → (b ≡ false) × (n ≡ 0)
-none-odd true n h = absurd (omega arith)
-none-odd false n h = (refl, h)
-
 -- ---- equal lists
 
-pub units-beside : (xs : List ListElement) (es : List (TreeElement ℕ)) → len has_odd_removal xs ≡ 0 → map nameless xs ≡ map shown_unit es → BesideUnits IsUnit xs es
+pub units-beside : (xs : List ListElement) (es : List (TreeElement ℕ)) → len has_odd_removal xs ≡ 0 → map nameless xs ≡ map shown_unit es
+    → BesideUnits IsUnit xs es
 units-beside [] [] a h = ends
 units-beside [] (e ∷ es) a h = (cc)
 units-beside (x ∷ xs) [] a h = (cc)
 units-beside (x ∷ xs) (e ∷ es) a h =
-    let p = none-odd (has_odd_removal x) (len has_odd_removal xs) a in
+    let p = none-more (has_odd_removal x) (len has_odd_removal xs) a in
     let first : nameless x ≡ shown_unit e = (cc) in
     let rest : map nameless xs ≡ map shown_unit es = (cc) in
     next (record { same = first; even = p.0 }) (units-beside xs es p.1 rest)
@@ -85,10 +84,6 @@ past-acked [] t None h = refl
 past-acked [] t (Some k) h = refl
 past-acked (Acked s c ∷ ds) t o h = ap (λ es. Acked s c ∷ es) (past-acked ds t o h)
 past-acked (Local k ∷ ds) t o h = (cc)
-
-pub all-behind : (ds es : List Stamp) → list_all is_acked es ≡ true → list_all is_acked (ds ++ es) ≡ list_all is_acked ds
-all-behind [] es g = g
-all-behind (d ∷ ds) es g = ap (λ b. is_acked d && b) (all-behind ds es g)
 
 -- a sequenced removal
 pub removed-unit : (s c : ℕ) (x : ListElement) (e : TreeElement ℕ) → IsUnit x e → IsUnit (with_removal s c x) (with_stamps (removed_stamps (Acked s c)) e)

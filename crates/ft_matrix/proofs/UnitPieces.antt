@@ -21,7 +21,8 @@ use Rattle.ft_matrix.proofs.HeldGrids.{HandlesOnce, handles-tail, only-here}
 
 -- ---- the place of a handle among those that a view sees
 
-pos-step : (b : Bool) (n l : ℕ) → cond (nat_lt (cond (not b) (1 + n) 0) (suc l)) (Some (cond (not b) (1 + n) 0)) None ≡ cond b (Some 0) (option_map suc (cond (nat_lt n l) (Some n) None))
+pos-step : (b : Bool) (n l : ℕ) → cond (nat_lt (cond (not b) (1 + n) 0) (suc l)) (Some (cond (not b) (1 + n) 0)) None
+    ≡ cond b (Some 0) (option_map suc (cond (nat_lt n l) (Some n) None))
 pos-step true n l = ap (λ c. cond c (Some 0) None) low
   where
     low : nat_lt 0 (suc l) ≡ true
@@ -56,7 +57,8 @@ module _ (h : ℕ) (see : TreeElement ℕ → Bool) where
       step true e r = absurd (omega (arith, e))
       step false e r = r e
 
-  pub seen-position : (es : List (TreeElement ℕ)) → HandlesOnce es → position (λ g. nat_eq g h) (handles es) ≡ cond (there es) (Some (rank (has_handle h) see es)) None
+  pub seen-position : (es : List (TreeElement ℕ)) → HandlesOnce es
+      → position (λ g. nat_eq g h) (handles es) ≡ cond (there es) (Some (rank (has_handle h) see es)) None
   seen-position [] once = refl
   seen-position (x ∷ es) once = step (nat_eq x.unit h) (see x) refl (once h) (seen-position es (handles-tail x es once))
     where
@@ -66,7 +68,8 @@ module _ (h : ℕ) (see : TreeElement ℕ → Bool) where
 
       step : (b c : Bool) → nat_eq x.unit h ≡ b → one_more_if b (len (has_handle h) es) ≤ 1
           → position (λ g. nat_eq g h) (handles es) ≡ cond (there es) (Some (rank (has_handle h) see es)) None
-          → position (λ g. nat_eq g h) (cond c (x.unit ∷ handles es) (handles es)) ≡ cond ((b && c) || there es) (Some (cond b 0 (one_more_if c (rank (has_handle h) see es)))) None
+          → position (λ g. nat_eq g h) (cond c (x.unit ∷ handles es) (handles es))
+          ≡ cond ((b && c) || there es) (Some (cond b 0 (one_more_if c (rank (has_handle h) see es)))) None
       step true true e o r = pos-step (nat_eq x.unit h) (prefix_len (λ g. not (nat_eq g h)) (handles es)) (length (handles es))
           ∙ ap (λ d. cond d (Some 0) (option_map suc (position (λ g. nat_eq g h) (handles es)))) e
       step true false e o r =
@@ -79,7 +82,8 @@ module _ (h : ℕ) (see : TreeElement ℕ → Bool) where
 
 -- a handle that the view sees, or doesn't
 module _ (v : VectorState) (once : HandlesOnce (units_of v)) (k h : ℕ) where
-  pub seen-at : position (λ g. nat_eq g h) (seen_handles (Stage k) v.tree) ≡ cond (is_seen_at k (Some h) (units_of v)) (Some (place_seen k (Some h) (units_of v))) None
+  pub seen-at : position (λ g. nat_eq g h) (seen_handles (Stage k) v.tree)
+      ≡ cond (is_seen_at k (Some h) (units_of v)) (Some (place_seen k (Some h) (units_of v))) None
   seen-at = seen-position h (seen_in (Stage k)) (units_of v) once
 
   pub unseen-before : position (λ g. nat_eq g h) (seen_handles (Stage k) v.tree) ≡ None → place_before k (Some h) (units_of v) ≡ None
@@ -107,7 +111,8 @@ module _ {A : Type 0} (is seen : A → Bool) where
   rank-none [] h = refl
   rank-none (x ∷ xs) h = step (is x) (list_any is xs) h (rank-none xs)
     where
-      step : (b c : Bool) → b || c ≡ false → (c ≡ false → rank is seen xs ≡ len seen xs) → cond b 0 (one_more_if (seen x) (rank is seen xs)) ≡ one_more_if (seen x) (len seen xs)
+      step : (b c : Bool) → b || c ≡ false → (c ≡ false → rank is seen xs ≡ len seen xs)
+          → cond b 0 (one_more_if (seen x) (rank is seen xs)) ≡ one_more_if (seen x) (len seen xs)
       step true c g r = cc g
       step false c g r = ap (one_more_if (seen x)) (r g)
 
@@ -142,11 +147,13 @@ module _ (k : ℕ) (es : List (TreeElement ℕ)) where
   pub none-position : insertion_position k es ≡ None → len (seen_in (Stage (k - 1))) es ≡ put_position k es
   none-position e = step (list_any (is_inserted_by k) es) refl e
     where
-      step : (b : Bool) → list_any (is_inserted_by k) es ≡ b → cond b (Some (put_position k es)) None ≡ None → len (seen_in (Stage (k - 1))) es ≡ put_position k es
+      step : (b : Bool) → list_any (is_inserted_by k) es ≡ b → cond b (Some (put_position k es)) None ≡ None
+          → len (seen_in (Stage (k - 1))) es ≡ put_position k es
       step true g h = cc h
       step false g h = sym (rank-none (is_inserted_by k) (seen_in (Stage (k - 1))) es g)
 
-  pub insertion-is : (target : Target) (count pos : ℕ) → pos ≡ put_position k es → nat_eq count 0 ≡ false → SpliceIn target pos count ∷ [] ≡ insertion_of k target count es
+  pub insertion-is : (target : Target) (count pos : ℕ) → pos ≡ put_position k es → nat_eq count 0 ≡ false
+      → SpliceIn target pos count ∷ [] ≡ insertion_of k target count es
   insertion-is target count pos e f = ap (λ p. SpliceIn target p count ∷ []) e ∙ sym (ap (λ b. cond b [] (SpliceIn target (put_position k es) count ∷ [])) f)
 
 -- ---- the removals among the pieces
@@ -171,7 +178,8 @@ module _ (target : Target) where
 
   removals-append : (xs ys : List Piece) → removal_ops target (xs ++ ys) ≡ removal_ops target xs ++ removal_ops target ys
   removals-append [] ys = refl
-  removals-append (x ∷ xs) ys = ap (λ ops. removal_op target x ++ ops) (removals-append xs ys) ∙ sym (append_assoc (removal_op target x) (removal_ops target xs) (removal_ops target ys))
+  removals-append (x ∷ xs) ys = ap (λ ops. removal_op target x ++ ops) (removals-append xs ys)
+      ∙ sym (append_assoc (removal_op target x) (removal_ops target xs) (removal_ops target ys))
 
   -- one piece more
   pub removals-more : (given ops : List CellOp) (parts : List Piece) (x : Piece) → ops ≡ given ++ removal_ops target parts

@@ -45,7 +45,8 @@ seen-get {A} {B} seen f (x ∷ xs) zero = step (seen x) (seen-get seen f xs zero
     step false ih = ih
 seen-get {A} {B} seen f (x ∷ xs) (suc i) = step (seen x) (seen-get seen f xs i) (seen-get seen f xs (suc i))
   where
-    step : (b : Bool) → slice_get (retain_map seen f xs) i ≡ option_map f (at seen i xs) → slice_get (retain_map seen f xs) (suc i) ≡ option_map f (at seen (suc i) xs)
+    step : (b : Bool) → slice_get (retain_map seen f xs) i ≡ option_map f (at seen i xs)
+        → slice_get (retain_map seen f xs) (suc i) ≡ option_map f (at seen (suc i) xs)
         → slice_get (cond b (f x ∷ retain_map seen f xs) (retain_map seen f xs)) (suc i) ≡ option_map f (at seen (cond b i (suc i)) xs)
     step true ih same = ih
     step false ih same = same
@@ -77,7 +78,7 @@ pub some-more : (b : Bool) (n : ℕ) → 1 ≤ n → 1 ≤ one_more_if b n
 some-more true n l = omega arith
 some-more false n l = l
 
-one-more : (b : Bool) (n : ℕ) → b ≡ true → 1 ≤ one_more_if b n
+pub one-more : (b : Bool) (n : ℕ) → b ≡ true → 1 ≤ one_more_if b n
 one-more true n h = omega arith
 one-more false n h = (cc)
 
@@ -91,7 +92,8 @@ pub record StandsHere (xs : List ListElement) (es : List (TreeElement ℕ)) (x :
   pub held : 1 ≤ len (λ d. nat_eq d.unit e.unit) es
   pub meets : BesideUnits (HandleNamed (MeetsAt (id x) e.unit)) xs es
 
-pub each-meets : {xs : List ListElement} {es : List (TreeElement ℕ)} → Once xs → HandlesOnce es → BesideUnits IsUnit xs es → BesideUnits (StandsHere xs es) xs es
+pub each-meets : {xs : List ListElement} {es : List (TreeElement ℕ)} → Once xs → HandlesOnce es → BesideUnits IsUnit xs es
+    → BesideUnits (StandsHere xs es) xs es
 each-meets o p ends = ends
 each-meets o p (next {x = x} {y = e} {xs = xs} {ys = es} u us) =
     next here (beside-more more (each-meets (once-tail x xs o) (handles-tail e es p) us))
@@ -124,7 +126,8 @@ each-meets o p (next {x = x} {y = e} {xs = xs} {ys = es} u us) =
 abbrev pub IsWritten : ℕ → ℕ → ValueBytes → CellList → CellList → Type 0
 IsWritten h g value old new = (r c : ℕ) → cell_at new r c ≡ changed_cell h g (with_acked value) (cell_at old) r c
 
-written-value : (value : ValueBytes) (b : Bool) (cell : CellState) → acked_value (cond b (with_acked value cell) cell) ≡ cond b (value_unless_null value) (acked_value cell)
+written-value : (value : ValueBytes) (b : Bool) (cell : CellState)
+    → acked_value (cond b (with_acked value cell) cell) ≡ cond b (value_unless_null value) (acked_value cell)
 written-value value true cell = refl
 written-value value false cell = refl
 
@@ -137,7 +140,8 @@ module _ (last : ℕ) (old : Grid) (doc : Document) (stages : List Stage) (sound
   abbrev written : Document
   written = record doc { cells = write_cell (record { row = id x; col = id y; value = value }) doc.cells }
 
-  value-of : (u v : ElementId) (h g : ℕ) → same_id (id x) u ≡ nat_eq h e.unit → same_id (id y) v ≡ nat_eq g f.unit → cell_value u v doc.cells ≡ handle_value old.cells h g
+  value-of : (u v : ElementId) (h g : ℕ) → same_id (id x) u ≡ nat_eq h e.unit → same_id (id y) v ≡ nat_eq g f.unit
+      → cell_value u v doc.cells ≡ handle_value old.cells h g
       → cell_value u v (write_cell (record { row = id x; col = id y; value = value }) doc.cells) ≡ handle_value table h g
   value-of u v h g a b k =
       value-write u v (record { row = id x; col = id y; value = value }) doc.cells
@@ -146,7 +150,8 @@ module _ (last : ℕ) (old : Grid) (doc : Document) (stages : List Stage) (sound
       ∙ ap (λ o. cond (nat_eq h e.unit && nat_eq g f.unit) (value_unless_null value) o) k
       ∙ sym (ap acked_value (w h g) ∙ written-value value (nat_eq h e.unit && nat_eq g f.unit) (cell_at old.cells h g))
 
-  later : HoldsUnits doc.rows.items doc.cols.items (write_cell (record { row = id x; col = id y; value = value }) doc.cells) (units_of old.rows) (units_of old.cols) table
+  later : HoldsUnits doc.rows.items doc.cols.items (write_cell (record { row = id x; col = id y; value = value }) doc.cells)
+      (units_of old.rows) (units_of old.cols) table
   later = record {
     rows = beside-more (λ u d q. (
       q.0.0,
@@ -155,7 +160,8 @@ module _ (last : ℕ) (old : Grid) (doc : Document) (stages : List Stage) (sound
     cols = hu.cols;
   }
 
-  pub write-held : HoldsGrid (grid_state (record old { cells = table }) 0 true) (record doc { cells = write_cell (record { row = id x; col = id y; value = value }) doc.cells }) stages
+  pub write-held : HoldsGrid (grid_state (record old { cells = table }) 0 true)
+      (record doc { cells = write_cell (record { row = id x; col = id y; value = value }) doc.cells }) stages
   write-held = record {
     rows = held.holds.rows;
     cols = held.holds.cols;
@@ -167,7 +173,8 @@ module _ (last : ℕ) (old : Grid) (doc : Document) (stages : List Stage) (sound
 
 -- ---- what is found at two places
 
-pub some-unit : (o : Option (TreeElement ℕ)) (h : ℕ) → option_map (λ (e : TreeElement ℕ). e.unit) o ≡ Some h → (e : TreeElement ℕ) × ((o ≡ Some e) × (e.unit ≡ h))
+pub some-unit : (o : Option (TreeElement ℕ)) (h : ℕ) → option_map (λ (e : TreeElement ℕ). e.unit) o ≡ Some h
+    → (e : TreeElement ℕ) × ((o ≡ Some e) × (e.unit ≡ h))
 some-unit None h e = (cc)
 some-unit (Some x) h e = (x, (refl, (cc)))
 
@@ -175,7 +182,8 @@ pub none-unit : (o : Option (TreeElement ℕ)) → option_map (λ (e : TreeEleme
 none-unit None e = refl
 none-unit (Some x) e = (cc)
 
-module _ (last s : ℕ) (view : Perspective) (old : Grid) (doc : Document) (stages : List Stage) (sound : IsSound old) (h : Holds last old doc stages) (i j : ℕ) (value : ValueBytes) where
+module _ (last s : ℕ) (view : Perspective) (old : Grid) (doc : Document) (stages : List Stage) (sound : IsSound old)
+    (h : Holds last old doc stages) (i j : ℕ) (value : ValueBytes) where
   abbrev Found : List ListElement → List (TreeElement ℕ) → Option ListElement → Option (TreeElement ℕ) → Type 0
   Found xs es o p = Both ListElement (TreeElement ℕ) (λ x e. StandsHere xs es x e × (seen_by view.r view.c x ≡ true)) o p
 
@@ -187,24 +195,28 @@ module _ (last s : ℕ) (view : Perspective) (old : Grid) (doc : Document) (stag
   cols-found = both-at (seen_by view.r view.c) (seen_in (At view)) (λ x e q. unit-seen_by x e q.unit view) j
       (each-meets h.named.cols.once sound.cols.proper.once (units last old doc stages sound h).cols)
 
-  skipped-row : (o : Option ListElement) (p : Option (TreeElement ℕ)) (q : Option ListElement) → p ≡ None → Found doc.rows.items (units_of old.rows) o p → cell_effect doc o q value ≡ with_skip doc
+  skipped-row : (o : Option ListElement) (p : Option (TreeElement ℕ)) (q : Option ListElement) → p ≡ None
+      → Found doc.rows.items (units_of old.rows) o p → cell_effect doc o q value ≡ with_skip doc
   skipped-row None p q e f = refl
   skipped-row (Some x) None q e f = elim f [ ]
   skipped-row (Some x) (Some u) q e f = (cc)
 
-  skipped-col : (o : Option ListElement) (q : Option ListElement) (p : Option (TreeElement ℕ)) → p ≡ None → Found doc.cols.items (units_of old.cols) q p → cell_effect doc o q value ≡ with_skip doc
+  skipped-col : (o : Option ListElement) (q : Option ListElement) (p : Option (TreeElement ℕ)) → p ≡ None
+      → Found doc.cols.items (units_of old.cols) q p → cell_effect doc o q value ≡ with_skip doc
   skipped-col None q p e f = refl
   skipped-col (Some x) None p e f = refl
   skipped-col (Some x) (Some y) None e f = elim f [ ]
   skipped-col (Some x) (Some y) (Some u) e f = (cc)
 
-  pub set-skipped-row : None ≡ slice_get (seen_handles (At view) old.rows.tree) i → Passes last old doc (grid_effect doc s view.c view.r (Set i j value)) stages 1
+  pub set-skipped-row : None ≡ slice_get (seen_handles (At view) old.rows.tree) i
+      → Passes last old doc (grid_effect doc s view.c view.r (Set i j value)) stages 1
   set-skipped-row e =
       passes last old doc stages sound h s view.c view.r (Set i j value) (with_skip doc) old 1
       (skipped-row _ _ _ (none-unit _ (sym (seen-get (seen_in (At view)) (λ (d : TreeElement ℕ). d.unit) (units_of old.rows) i) ∙ sym e)) rows-found)
       (skip-held last old doc stages sound h) refl
 
-  pub set-skipped-col : None ≡ slice_get (seen_handles (At view) old.cols.tree) j → Passes last old doc (grid_effect doc s view.c view.r (Set i j value)) stages 1
+  pub set-skipped-col : None ≡ slice_get (seen_handles (At view) old.cols.tree) j
+      → Passes last old doc (grid_effect doc s view.c view.r (Set i j value)) stages 1
   set-skipped-col e =
       passes last old doc stages sound h s view.c view.r (Set i j value) (with_skip doc) old 1
       (skipped-col _ _ _ (none-unit _ (sym (seen-get (seen_in (At view)) (λ (d : TreeElement ℕ). d.unit) (units_of old.cols) j) ∙ sym e)) cols-found)
@@ -213,7 +225,8 @@ module _ (last s : ℕ) (view : Perspective) (old : Grid) (doc : Document) (stag
   plus-zero : (n : ℕ) → n ≡ n + 0
   plus-zero n = omega arith
 
-  taken : (table : CellList) (a b : ℕ) → IsWritten a b value old.cells table → (o q : Option ListElement) (p k : Option (TreeElement ℕ)) (e f : TreeElement ℕ) → p ≡ Some e → k ≡ Some f
+  taken : (table : CellList) (a b : ℕ) → IsWritten a b value old.cells table
+      → (o q : Option ListElement) (p k : Option (TreeElement ℕ)) (e f : TreeElement ℕ) → p ≡ Some e → k ≡ Some f
       → e.unit ≡ a → f.unit ≡ b → Found doc.rows.items (units_of old.rows) o p → Found doc.cols.items (units_of old.cols) q k
       → (later : Document) × ((cell_effect doc o q value ≡ later) × HoldsGrid (grid_state (record old { cells = table }) 0 true) later stages × (later.skipped ≡ doc.skipped + 0))
   taken table a b w None q None k e f g l m n r c = (cc)
@@ -233,7 +246,8 @@ module _ (last s : ℕ) (view : Perspective) (old : Grid) (doc : Document) (stag
       )
 
   pub set-taken : (table : CellList) (a b : ℕ) → IsWritten a b value old.cells table → Some a ≡ slice_get (seen_handles (At view) old.rows.tree) i
-      → Some b ≡ slice_get (seen_handles (At view) old.cols.tree) j → Passes last (record old { cells = table }) doc (grid_effect doc s view.c view.r (Set i j value)) stages 0
+      → Some b ≡ slice_get (seen_handles (At view) old.cols.tree) j
+      → Passes last (record old { cells = table }) doc (grid_effect doc s view.c view.r (Set i j value)) stages 0
   set-taken table a b w e f =
       let p = some-unit (at (seen_in (At view)) i (units_of old.rows)) a (sym (seen-get (seen_in (At view)) (λ (d : TreeElement ℕ). d.unit) (units_of old.rows) i) ∙ sym e) in
       let q = some-unit (at (seen_in (At view)) j (units_of old.cols)) b (sym (seen-get (seen_in (At view)) (λ (d : TreeElement ℕ). d.unit) (units_of old.cols) j) ∙ sym f) in
@@ -242,7 +256,8 @@ module _ (last s : ℕ) (view : Perspective) (old : Grid) (doc : Document) (stag
 
 -- ---- soundness
 
-unused-cell : (h g : ℕ) (value : ValueBytes) (old new : CellList) → IsWritten h g value old new → (r c : ℕ) → (nat_eq r h && nat_eq c g) ≡ false → cell_at old r c ≡ empty_cell
+unused-cell : (h g : ℕ) (value : ValueBytes) (old new : CellList) → IsWritten h g value old new → (r c : ℕ)
+    → (nat_eq r h && nat_eq c g) ≡ false → cell_at old r c ≡ empty_cell
     → cell_at new r c ≡ empty_cell
 unused-cell h g value old new w r c e n = w r c ∙ ap (λ b. cond b (with_acked value (cell_at old r c)) (cell_at old r c)) e ∙ n
 

@@ -77,5 +77,6 @@ pub record AcksSome (last s c : ℕ) (g : Grid) (doc : Document) (acked left res
 pub record AcksStages (first count s c : ℕ) (old new : Grid) : Type 0 where
   pub sound : IsSound new
   pub floor : new.rows.tree.floor ≡ old.rows.tree.floor
-  pub acked : (last : ℕ) (doc : Document) (acked rest : List Stage) → Holds last old doc (acked ++ rest) → map (λ t. t.stage) acked ≡ numbers_from first count → AreCounted doc acked
+  pub acked : (last : ℕ) (doc : Document) (acked rest : List Stage) → Holds last old doc (acked ++ rest)
+      → map (λ t. t.stage) acked ≡ numbers_from first count → AreCounted doc acked
       → HoldsGrid (grid_state new 0 true) (ack_stages s c (λ i. i) acked doc).0 (map (renamed_stage (ack_stages s c (λ i. i) acked doc).1) rest)

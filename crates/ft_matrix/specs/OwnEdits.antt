@@ -66,7 +66,8 @@ pub record TakesSome (last k i : ℕ) (g : Grid) (doc : Document) (stages : List
   pub taken : List Stage
   pub count : length taken ≡ i
   pub now : Holds (last + i) g between (stages ++ taken)
-  pub same : behind taken (local_sub_operations between (stages ++ taken) (k + i) (map (λ op. OnGrid op) rest)) ≡ local_sub_operations doc stages k (map (λ op. OnGrid op) all)
+  pub same : behind taken (local_sub_operations between (stages ++ taken) (k + i) (map (λ op. OnGrid op) rest))
+      ≡ local_sub_operations doc stages k (map (λ op. OnGrid op) all)
 
 -- how many rows and columns are seen after an operation where so many were before, or the length of the list concerned where
 -- it is out of range

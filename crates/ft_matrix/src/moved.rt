@@ -28,7 +28,7 @@ pub(crate) fn push_unless<T: Drop>(
 /// Puts a value at a place, over one that is there.
 ///
 /// Returns `OutOfMemory` where there is no room for it.
-pub(crate) fn put_at<V: Drop>(
+pub(crate) fn put_over<V: Drop>(
     placed: &mut BTreeMap<(u64, u64), V>,
     place: (u64, u64),
     value: V,

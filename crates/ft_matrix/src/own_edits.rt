@@ -335,52 +335,20 @@ fn lengths_after(rows: u64, cols: u64, op: &CellOp) -> Result<Result<(u64, u64),
     ensures { IfOk result (λ after. after ≡ lengths_after rows cols op.now) }
 {
     match op {
-        CellOp::SpliceIn {
-            target: Target::Rows,
-            pos,
-            count,
-        } => {
-            if *pos <= rows {
-                Ok(Ok((more(rows, *count)?, cols)))
-            } else {
-                Ok(Err(rows))
-            }
-        }
-        CellOp::SpliceIn {
-            target: Target::Cols,
-            pos,
-            count,
-        } => {
-            if *pos <= cols {
-                Ok(Ok((rows, more(cols, *count)?)))
-            } else {
-                Ok(Err(cols))
-            }
-        }
-        CellOp::SpliceOut {
-            target: Target::Rows,
-            pos1,
-            pos2,
-        } => Ok(if *pos2 <= rows {
-            Ok((rows - (*pos2 - *pos1), cols))
-        } else {
-            Err(rows)
+        CellOp::SpliceIn { target, pos, count } => match target {
+            Target::Rows if *pos <= rows => Ok(Ok((more(rows, *count)?, cols))),
+            Target::Rows => Ok(Err(rows)),
+            Target::Cols if *pos <= cols => Ok(Ok((rows, more(cols, *count)?))),
+            Target::Cols => Ok(Err(cols)),
+        },
+        CellOp::SpliceOut { target, pos1, pos2 } => Ok(match target {
+            Target::Rows if *pos2 <= rows => Ok((rows - (*pos2 - *pos1), cols)),
+            Target::Rows => Err(rows),
+            Target::Cols if *pos2 <= cols => Ok((rows, cols - (*pos2 - *pos1))),
+            Target::Cols => Err(cols),
         }),
-        CellOp::SpliceOut {
-            target: Target::Cols,
-            pos1,
-            pos2,
-        } => Ok(if *pos2 <= cols {
-            Ok((rows, cols - (*pos2 - *pos1)))
-        } else {
-            Err(cols)
-        }),
-        CellOp::Set { row, col, .. } => Ok(if *row >= rows {
-            Err(rows)
-        } else if *col >= cols {
-            Err(cols)
-        } else {
-            Ok((rows, cols))
-        }),
+        CellOp::Set { row, .. } if *row >= rows => Ok(Err(rows)),
+        CellOp::Set { col, .. } if *col >= cols => Ok(Err(cols)),
+        CellOp::Set { .. } => Ok(Ok((rows, cols))),
     }
 }

@@ -6,7 +6,7 @@ ghost use Rattle.ft_matrix.specs.Seen.{ArePlaced, HoldsRuns, PlacesCell, cell_of
 ghost use Rattle.ft_matrix.specs.Sound.{IsSound};
 
 use crate::grid::Grid;
-use crate::moved::put_at;
+use crate::moved::put_over;
 use crate::seen::{SeenRuns, seen_runs};
 use ft_base::moved::after;
 use ft_base::{Datum, OutOfMemory};
@@ -49,7 +49,7 @@ fn place_cell(
         return Ok(());
     };
     let value = value.copy()?;
-    put_at(placed, (row, col), value)
+    put_over(placed, (row, col), value)
 }
 
 // The shown values of cells by their places.

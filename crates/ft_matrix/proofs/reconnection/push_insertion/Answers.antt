@@ -14,4 +14,5 @@ pub returns : goal.returns
 returns c =
     let some : nat_eq c.args.count 0 ≡ false = grind (arith, nat_tests) in
     c.in_ok-push.ensures.items
-    ∙ ap (λ ops. c.args.pieces.now.items ++ ops) (insertion-is c.args.stage (units_of c.args.units.now) c.args.target c.args.count c.put_position-pos.result c.put_position-pos.ensures some)
+    ∙ ap (λ ops. c.args.pieces.now.items ++ ops) (insertion-is c.args.stage (units_of c.args.units.now) c.args.target c.args.count
+    c.put_position-pos.result c.put_position-pos.ensures some)

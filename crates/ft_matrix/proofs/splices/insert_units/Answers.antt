@@ -19,19 +19,22 @@ pub unreachable-requires : goal.unreachable-requires
 unreachable-requires g c =
     let t = subst (λ v. TakesRun c.args.count c.in_ok-content.content c.args.units.now v) (sym c.units.view_is) c.in_ok-content.ensures in
     let r = rw c.in-Err-OutOfRange.field-0-is at c.in-Err-OutOfRange.ensures.refused in
-    place-within (At c.args.at) c.args.p c.args.count c.in_ok-content.content c.args.units.now (the_view c.units.inside) t (omega (arith, c.if-seen_count-p.false, c.seen_count.ensures)) r.1
+    place-within (At c.args.at) c.args.p c.args.count c.in_ok-content.content c.args.units.now (the_view c.units.inside) t
+    (omega (arith, c.if-seen_count-p.false, c.seen_count.ensures)) r.1
 
 pub returns-in-Ok-clause-sound : goal.returns-in-Ok-clause-sound
 returns-in-Ok-clause-sound g c =
     let t = subst (λ v. TakesRun c.args.count c.in_ok-content.content c.args.units.now v) (sym c.units.view_is) c.in_ok-content.ensures in
-    vector-sound c.args.units.now (the_view c.units.inside) _ c.requires.sound c.in_ok-content.content c.args.count t (At c.args.at) is_pending (Acked c.args.seq c.args.at.c) c.args.p refl _
+    vector-sound c.args.units.now (the_view c.units.inside) _ c.requires.sound c.in_ok-content.content c.args.count t (At c.args.at)
+    is_pending (Acked c.args.seq c.args.at.c) c.args.p refl _
     c.new-props.result c.new-props.ensures refl c.in-Ok.ensures.elements c.in-Ok.ensures.refs c.in-Ok.ensures.rest c.in-Ok.ensures.made
 
 pub returns-in-Ok-clause-inserts : goal.returns-in-Ok-clause-inserts
 returns-in-Ok-clause-inserts g c =
     let t = subst (λ v. TakesRun c.args.count c.in_ok-content.content c.args.units.now v) (sym c.units.view_is) c.in_ok-content.ensures in (
       omega (arith, c.if-seen_count-p.false, c.seen_count.ensures),
-      vector-puts c.args.units.now (the_view c.units.inside) _ c.requires.sound c.in_ok-content.content c.args.count t (At c.args.at) is_pending (Acked c.args.seq c.args.at.c) c.args.p refl _
+      vector-puts c.args.units.now (the_view c.units.inside) _ c.requires.sound c.in_ok-content.content c.args.count t (At c.args.at)
+          is_pending (Acked c.args.seq c.args.at.c) c.args.p refl _
           c.new-props.result c.new-props.ensures refl c.in-Ok.ensures.elements c.in-Ok.ensures.refs c.in-Ok.ensures.rest c.in-Ok.ensures.made,
     )
 

@@ -12,7 +12,8 @@ returns-clause-sound g c =
     let s = subst IsSoundVector (sym c.units.view_is) c.requires.sound in
     elim c.match-remove_remote.branch [
       | in-Ok w ↦ on-ok c.match-remove_remote.result
-          (vector-marked (the_view c.units.inside) _ s (At c.args.at) (Acked c.args.seq c.args.at.c) c.args.p c.args.q _ refl w.in-Ok.ensures.elements w.in-Ok.ensures.refs w.in-Ok.ensures.rest w.in-Ok.ensures.made)
+          (vector-marked (the_view c.units.inside) _ s (At c.args.at) (Acked c.args.seq c.args.at.c) c.args.p c.args.q _ refl
+          w.in-Ok.ensures.elements w.in-Ok.ensures.refs w.in-Ok.ensures.rest w.in-Ok.ensures.made)
       | in-Err-OutOfRange w ↦ on-ok c.match-remove_remote.result
           (let e : c.remove_remote.new.self ≡ (the_view c.units.inside).tree = search (rules, w.in-Err-OutOfRange.ensures.refused) in
           subst (λ t. IsSoundVector (record (the_view c.units.inside) { tree = t })) (sym e) s)

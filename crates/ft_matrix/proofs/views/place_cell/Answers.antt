@@ -5,10 +5,10 @@ use Rattle.ft_matrix.proofs.views.place_cell.Goals as goal
 
 pub returns : goal.returns
 returns c =
-    on_ok_weaker c.put_at.result (λ put. one-placed c.args.cells.now c.args.rows.now c.args.cols.now c.args.key c.args.placed.now
-    c.put_at.new.placed c.in-Some.row c.in-Some-place_of.col
+    on_ok_weaker c.put_over.result (λ put. one-placed c.args.cells.now c.args.rows.now c.args.cols.now c.args.key c.args.placed.now
+    c.put_over.new.placed c.in-Some.row c.in-Some-place_of.col
     c.in_ok-value.value c.in-Some.ensures c.in-Some-place_of.ensures (sym c.in-Some-get.ensures ∙ ap Some (sym c.in_ok-value.ensures)) put)
-    c.put_at.ensures
+    c.put_over.ensures
 
 pub returns-in_default : goal.returns-in_default
 returns-in_default c = no-row c.args.cells.now c.args.rows.now c.args.cols.now c.args.key c.args.placed.now c.in_default.ensures

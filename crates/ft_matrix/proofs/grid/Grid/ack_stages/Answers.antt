@@ -27,7 +27,8 @@ loop-i-preserved g =
       lowest = subst (λ n. All (λ (t : GridStage). n ≤ t.stage) g.ack_stage.new.self.stages.items) (next-number g.args.first g.loop-i.i g.in_ok-more.field-0 number)
           g.in_ok-ack_stage.ensures.lowest;
       floor = g.in_ok-ack_stage.ensures.acks.rows.floor ∙ i.floor;
-      acked = λ last doc acked rest h n c. one-more-acked last g.args.seq g.args.conn doc acked rest g.args.first g.args.count g.loop-i.i g.in_ok-more.field-0 g.loop-i.self g.ack_stage.new.self
+      acked = λ last doc acked rest h n c. one-more-acked last g.args.seq g.args.conn doc acked rest g.args.first g.args.count g.loop-i.i
+          g.in_ok-more.field-0 g.loop-i.self g.ack_stage.new.self
           number g.loop-i-test.true i.sound lowest g.in_ok-ack_stage.ensures.acks n (i.acked last doc acked rest h n c);
     }
 

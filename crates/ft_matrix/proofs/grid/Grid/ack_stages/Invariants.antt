@@ -14,6 +14,7 @@ invariant-loop-i l = record {
   sound : IsSound l.self;
   lowest : All (λ t. l.first + l.i ≤ t.stage) l.self.stages.items;
   floor : l.self.rows.tree.floor ≡ l.initial.self.rows.tree.floor;
-  acked : (last : ℕ) (doc : Document) (acked rest : List Stage) → Holds last l.initial.self doc (acked ++ rest) → map (λ t. t.stage) acked ≡ numbers_from l.first l.count → AreCounted doc acked
+  acked : (last : ℕ) (doc : Document) (acked rest : List Stage) → Holds last l.initial.self doc (acked ++ rest)
+      → map (λ t. t.stage) acked ≡ numbers_from l.first l.count → AreCounted doc acked
       → AcksSome last l.seq l.conn l.self doc acked (drop l.i acked) rest;
 }

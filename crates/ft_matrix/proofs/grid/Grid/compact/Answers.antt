@@ -18,10 +18,14 @@ free-requires-2 c = record {
 }
 
 pub returns-clause-compacts : goal.returns-clause-compacts
-returns-clause-compacts c = ok-with _ c.free-2.result c.free-2.ensures (λ f. on-ok c.free-2.result (compacts-grid c.args.floor c.in_ok-rows.rows.items c.in_ok-cols.cols.items c.args.self.now (record c.args.self.now { rows = c.scour_units.new.units; cols = c.scour_units-2.new.units }) c.free.new.self c.free-2.new.self
+returns-clause-compacts c = ok-with _ c.free-2.result c.free-2.ensures
+    (λ f. on-ok c.free-2.result (compacts-grid c.args.floor c.in_ok-rows.rows.items c.in_ok-cols.cols.items c.args.self.now
+    (record c.args.self.now { rows = c.scour_units.new.units; cols = c.scour_units-2.new.units }) c.free.new.self c.free-2.new.self
     c.requires.sound c.requires.free refl c.in_ok-rows.ensures.scours c.in_ok-cols.ensures.scours c.in_ok-rows.ensures.sound c.in_ok-cols.ensures.sound c.in_ok-free.ensures f))
 
 pub returns-clause-none : goal.returns-clause-none
-returns-clause-none c = ok-with _ c.free-2.result c.free-2.ensures (λ f. on-ok c.free-2.result (compacted-none c.args.floor c.in_ok-rows.rows.items c.in_ok-cols.cols.items c.args.self.now (record c.args.self.now { rows = c.scour_units.new.units; cols = c.scour_units-2.new.units }) c.free.new.self c.free-2.new.self
+returns-clause-none c = ok-with _ c.free-2.result c.free-2.ensures
+    (λ f. on-ok c.free-2.result (compacted-none c.args.floor c.in_ok-rows.rows.items c.in_ok-cols.cols.items c.args.self.now
+    (record c.args.self.now { rows = c.scour_units.new.units; cols = c.scour_units-2.new.units }) c.free.new.self c.free-2.new.self
     c.requires.sound c.requires.free refl c.in_ok-rows.ensures.scours c.in_ok-cols.ensures.scours c.in_ok-rows.ensures.sound c.in_ok-cols.ensures.sound c.in_ok-free.ensures f
     c.in_ok-rows.ensures.none c.in_ok-cols.ensures.none))

@@ -11,7 +11,8 @@ use Rattle.ft_matrix.proofs.OwnGroups.{all-taken, one-taken}
 use Rattle.ft_matrix.proofs.grid.Grid.edit_all.Goals as goal
 
 -- the operations that are left, with the one that is taken now
-within-here : (g : Grid) (ops : List CellOp) (i : ℕ) (op : CellOp) → i < length ops → op ≡ get_or ops i op → refusal (seen_units g.rows) (seen_units g.cols) (drop i ops) ≡ None
+within-here : (g : Grid) (ops : List CellOp) (i : ℕ) (op : CellOp) → i < length ops → op ≡ get_or ops i op
+    → refusal (seen_units g.rows) (seen_units g.cols) (drop i ops) ≡ None
     → refusal (seen_units g.rows) (seen_units g.cols) (op ∷ drop (i + 1) ops) ≡ None
 within-here g ops i op l e h = ap (refusal (seen_units g.rows) (seen_units g.cols)) (sym (drop-item ops i op l e)) ∙ h
 
@@ -33,11 +34,13 @@ loop-op-preserved g c =
       some = omega (arith, next);
       above = subst (λ n. IsAboveAll n (grid_state c.edit_one.new.self 0 true)) (sym next) (c.in_ok-edit_one.ensures.above c.in-None.is);
       within = rest-within (seen_units c.loop-op.self.rows) (seen_units c.loop-op.self.cols) (seen_units c.edit_one.new.self.rows) (seen_units c.edit_one.new.self.cols)
-          c.op-item.result (drop (c.loop-op.op-index + 1) c.args.ops.now) (within-here c.loop-op.self c.args.ops.now c.loop-op.op-index c.op-item.result c.loop-op-test.true c.op-item.is i.within)
+          c.op-item.result (drop (c.loop-op.op-index + 1) c.args.ops.now)
+          (within-here c.loop-op.self c.args.ops.now c.loop-op.op-index c.op-item.result c.loop-op-test.true c.op-item.is i.within)
           (subst (Counts c.op-item.result c.loop-op.self c.edit_one.new.self) c.in-None.is c.in_ok-edit_one.ensures.counts);
       stage = omega (arith, next, i.stage);
       edited = λ last doc stages e h.
-          one-taken last c.args.first c.loop-op.op-index c.loop-op.stage c.loop-op.self c.edit_one.new.self doc stages c.args.ops.now c.op-item.result i.stage c.loop-op-test.true c.op-item.is
+          one-taken last c.args.first c.loop-op.op-index c.loop-op.stage c.loop-op.self c.edit_one.new.self doc stages c.args.ops.now
+          c.op-item.result i.stage c.loop-op-test.true c.op-item.is
           (λ d ts k. subst (λ o. EditsOne (last + c.loop-op.op-index) c.loop-op.stage d ts c.op-item.result c.loop-op.self c.edit_one.new.self o) c.in-None.is
           (c.in_ok-edit_one.ensures.edited (last + c.loop-op.op-index) d ts (omega (arith, i.stage, e)) k)) (i.edited last doc stages e h);
     }

@@ -40,4 +40,5 @@ pub returns : goal.returns
 returns c =
     let f = c.loop-run.invariant.freed in
     let none : c.loop-run.taken.items ≡ [] = search (rules, c.in_default.ensures) in
-    same-units c.args.target f.0 (is_in_runs c.args.taken.items) c.args.self.now c.loop-run.self (partly-all f.0 c.args.taken.items (subst (λ runs. IsPartly f.0 runs c.args.taken.items) none f.1.0)) f.1.1
+    same-units c.args.target f.0 (is_in_runs c.args.taken.items) c.args.self.now c.loop-run.self
+    (partly-all f.0 c.args.taken.items (subst (λ runs. IsPartly f.0 runs c.args.taken.items) none f.1.0)) f.1.1

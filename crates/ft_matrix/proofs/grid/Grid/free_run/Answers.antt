@@ -43,7 +43,8 @@ pub returns : goal.returns
 returns g =
     let v = g.units_mut.ensures.value in
     ok-with _ g.recycle.result g.recycle.ensures.used (λ u. ok-with _ g.recycle.result g.recycle.ensures.proper (λ p. on-ok g.recycle.result
-    (freed-units g.run.inside.first g.run.inside.count g.loop-handle.handle g.in_ok-handle-end.handle-end g.args.run g.run.view_is g.in_ok-handle-end.ensures g.loop-handle-test.false
+    (freed-units g.run.inside.first g.run.inside.count g.loop-handle.handle g.in_ok-handle-end.handle-end g.args.run g.run.view_is
+    g.in_ok-handle-end.ensures g.loop-handle-test.false
     g.loop-handle.auto.handle-end g.args.self.now g.loop-handle.self g.loop-handle.invariant.rest g.args.target g.recycle.new.self g.loop-handle.invariant.cells
     (λ h. u h ∙ ap (λ (w : VectorState). in_use w h && not (in_run h g.args.run)) v) (g.recycle.ensures.tree ∙ ap (λ (w : VectorState). w.tree) v)
     (g.recycle.ensures.next ∙ ap (λ (w : VectorState). w.next) v)

@@ -18,7 +18,8 @@ returns-then-not-branch-clause-edited g c = λ last doc stages e h.
     let i = over (λ (u : VectorState). Inserts last_stage no_run (Local c.args.stage) c.args.pos c.args.count u c.insert_own_units.new.units)
     c.units_mut.ensures.value c.if-not-branch.true c.in_ok-insert_own_units.ensures.inserts in
     own-insert-refused last c.args.stage e (omega (arith, c.ranges.stage.fits)) c.args.self.now doc stages c.requires.sound h c.requires.above c.args.target c.args.pos c.args.count
-    c.seen_count.result c.insert_own_units.new.units c.units.result.now i (c.units.ensures ∙ at-side c.args.target c.args.self.now c.insert_own_units.new.units) c.seen_count.ensures
+    c.seen_count.result c.insert_own_units.new.units c.units.result.now i
+    (c.units.ensures ∙ at-side c.args.target c.args.self.now c.insert_own_units.new.units) c.seen_count.ensures
 
 pub returns-clause-sound : goal.returns-clause-sound
 returns-clause-sound g c =

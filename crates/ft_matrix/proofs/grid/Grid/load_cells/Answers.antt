@@ -11,7 +11,8 @@ pub loop-cell-preserved : goal.loop-cell-preserved
 loop-cell-preserved c = record {
   table = loads-next c.args.self.now c.loop-cell.self c.load_cell.new.cells
       (loaded_cells (seen_handles (Stage 0) c.args.self.now.rows.tree) (seen_handles (Stage 0) c.args.self.now.cols.tree) c.args.cells.now (cell_at c.args.self.now.cells))
-      c.args.cells.now c.loop-cell.cell-index c.cell-item.result c.cell-item.is c.loop-cell-test.true c.loop-cell.invariant.rest c.in_ok-load_cell.ensures c.loop-cell.invariant.table;
+      c.args.cells.now c.loop-cell.cell-index c.cell-item.result c.cell-item.is c.loop-cell-test.true c.loop-cell.invariant.rest
+      c.in_ok-load_cell.ensures c.loop-cell.invariant.table;
   rest = ap (λ (g : Grid). record g { cells = c.load_cell.new.cells }) c.loop-cell.invariant.rest;
 }
 

@@ -20,5 +20,6 @@ returns-in_ok-set_acked-in-Some-handle_at-clause-sound c =
 pub returns-in_ok-set_acked-in-Some-handle_at-clause-applied : goal.returns-in_ok-set_acked-in-Some-handle_at-clause-applied
 returns-in_ok-set_acked-in-Some-handle_at-clause-applied c = λ last seq doc stages h.
     set-taken last seq c.args.at c.args.self.now doc stages c.requires.sound h c.args.row c.args.col c.args.value.now c.set_acked.new.self c.in-Some.row c.in-Some-handle_at.col
-    (subst (λ v. IsWritten c.in-Some.row c.in-Some-handle_at.col v c.args.self.now.cells c.set_acked.new.self) c.in_ok-copy-in-Some-handle_at.ensures c.in_ok-set_acked-in-Some-handle_at.ensures.ok)
+    (subst (λ v. IsWritten c.in-Some.row c.in-Some-handle_at.col v c.args.self.now.cells c.set_acked.new.self)
+    c.in_ok-copy-in-Some-handle_at.ensures c.in_ok-set_acked-in-Some-handle_at.ensures.ok)
     c.in-Some.ensures c.in-Some-handle_at.ensures

@@ -10,7 +10,8 @@ write_pending-requires c = pending-below c.args.self.now c.args.stage c.requires
 
 pub returns-in-None-clause-edited : goal.returns-in-None-clause-edited
 returns-in-None-clause-edited c = λ last doc stages e h.
-    own-no-row last c.args.stage e (omega (arith, c.ranges.stage.fits)) c.args.self.now doc stages c.requires.sound h c.requires.above c.args.i c.args.j c.args.value.now c.seen_count.result
+    own-no-row last c.args.stage e (omega (arith, c.ranges.stage.fits)) c.args.self.now doc stages c.requires.sound h c.requires.above
+    c.args.i c.args.j c.args.value.now c.seen_count.result
     c.in-None.ensures c.seen_count.ensures
 
 pub returns-in-None-handle_at-clause-edited : goal.returns-in-None-handle_at-clause-edited
