@@ -85,11 +85,13 @@ module _ (k n s c : ℕ) where
   element_up_to-left None h = refl
   element_up_to-left (Some j) h = grind (arith, at_most j k h)
 
-  pub element_up_to-props : (props : PropertyList) (pending : List (ℕ × Changes)) → acked_props k props (filter (λ p. nat_le p.0 k) pending) ≡ acked_props k props pending
+  pub element_up_to-props : (props : PropertyList) (pending : List (ℕ × Changes))
+      → acked_props k props (filter (λ p. nat_le p.0 k) pending) ≡ acked_props k props pending
   element_up_to-props props [] = refl
   element_up_to-props props ((j, ch) ∷ pending) = grind (arith, element_up_to-props props pending, element_up_to-props (change props ch) pending, above_or j k)
 
-  pub element_up_to-pending : (pending : List (ℕ × Changes)) → list_all (λ p. nat_le k p.0) pending ≡ true → filter (λ p. not (nat_eq p.0 k)) (filter (λ p. nat_le p.0 k) pending) ≡ []
+  pub element_up_to-pending : (pending : List (ℕ × Changes)) → list_all (λ p. nat_le k p.0) pending ≡ true
+      → filter (λ p. not (nat_eq p.0 k)) (filter (λ p. nat_le p.0 k) pending) ≡ []
   element_up_to-pending [] h = refl
   element_up_to-pending ((j, ch) ∷ pending) h = grind (arith, element_up_to-pending pending, at_most j k)
 
@@ -100,19 +102,24 @@ module _ (k n s c : ℕ) where
       rw (element_up_to-removal e.removal_stage, element_up_to-props e.props e.pending, left, none) refl
 
   -- after the acknowledgement the sequenced list is the list up to the stage, acknowledged
-  pub sequenced_elements-acked : (xs : List ListElement) → list_all (is_from k) xs ≡ true → sequenced_elements (map (acked_element k n s c) xs) ≡ map (acked_element k n s c) (list_up_to k xs)
+  pub sequenced_elements-acked : (xs : List ListElement) → list_all (is_from k) xs ≡ true
+      → sequenced_elements (map (acked_element k n s c) xs) ≡ map (acked_element k n s c) (list_up_to k xs)
   sequenced_elements-acked [] h = refl
   sequenced_elements-acked (e ∷ xs) h =
       let here = both (is_from k e) (list_all (is_from k) xs) h in
-      let ins : is_acked (acked_stamp k s c e.ins) ≡ has_occurred_at_stage k e.ins = reached e.ins (all_three (from_stamp k e.ins) (from_mark k e.removal_stage) (list_all (λ p. nat_le k p.0) e.pending) here.0).0 in
-      rw (ins, acked-element_up_to e here.0, sequenced_elements-acked xs here.1) (map-choice (acked_element k n s c) (has_occurred_at_stage k e.ins) (element_up_to k e ∷ list_up_to k xs) (list_up_to k xs))
+      let ins : is_acked (acked_stamp k s c e.ins) ≡ has_occurred_at_stage k e.ins =
+      reached e.ins (all_three (from_stamp k e.ins) (from_mark k e.removal_stage) (list_all (λ p. nat_le k p.0) e.pending)
+      here.0).0 in
+      rw (ins, acked-element_up_to e here.0, sequenced_elements-acked xs here.1)
+      (map-choice (acked_element k n s c) (has_occurred_at_stage k e.ins) (element_up_to k e ∷ list_up_to k xs) (list_up_to k xs))
 
 pub none_past : {A : Type 0} (keep past : A → Bool) (g : A → A) → ((x : A) → keep x ≡ true → past (g x) ≡ false) → (new xs : List A)
     → put_past past new (retain_map keep g xs) ≡ new ++ retain_map keep g xs
 none_past keep past g q new [] = sym (append-nil new)
 none_past keep past g q new (x ∷ xs) = grind (arith, none_past keep past g q new xs, q x)
 
-pub map-fixed : {A : Type 0} (keep : A → Bool) (g f : A → A) → ((x : A) → keep x ≡ true → f (g x) ≡ g x) → (xs : List A) → map f (retain_map keep g xs) ≡ retain_map keep g xs
+pub map-fixed : {A : Type 0} (keep : A → Bool) (g f : A → A) → ((x : A) → keep x ≡ true → f (g x) ≡ g x) → (xs : List A)
+    → map f (retain_map keep g xs) ≡ retain_map keep g xs
 map-fixed keep g f h [] = refl
 map-fixed keep g f h (x ∷ xs) = grind (arith, map-fixed keep g f h xs, h x)
 
@@ -120,12 +127,14 @@ map-fixed keep g f h (x ∷ xs) = grind (arith, map-fixed keep g f h xs, h x)
 pub map-put : {A : Type 0} (keep seen : A → Bool) (g f : A → A) → ((x : A) → keep x ≡ true → f (g x) ≡ g x) → (p : ℕ) (new xs : List A)
     → map f (put seen no_run p new (retain_map keep g xs)) ≡ put seen no_run p (map f new) (retain_map keep g xs)
 map-put keep seen g f h zero new xs =
-    ap (map f) (put_past-no_run new (retain_map keep g xs)) ∙ map-append f new (retain_map keep g xs) ∙ ap (λ ys. map f new ++ ys) (map-fixed keep g f h xs) ∙ sym (put_past-no_run (map f new) (retain_map keep g xs))
+    ap (map f) (put_past-no_run new (retain_map keep g xs)) ∙ map-append f new (retain_map keep g xs)
+    ∙ ap (λ ys. map f new ++ ys) (map-fixed keep g f h xs) ∙ sym (put_past-no_run (map f new) (retain_map keep g xs))
 map-put keep seen g f h (suc p) new [] = refl
 map-put keep seen g f h (suc p) new (x ∷ xs) = grind (arith, map-put keep seen g f h p new xs, map-put keep seen g f h (suc p) new xs, h x)
 
 -- both tests that agree on the elements of a list, where none is gone past
-pub put-agree : {A : Type 0} (keep seen seen' past : A → Bool) (g : A → A) → ((x : A) → keep x ≡ true → seen (g x) ≡ seen' (g x)) → ((x : A) → keep x ≡ true → past (g x) ≡ false)
+pub put-agree : {A : Type 0} (keep seen seen' past : A → Bool) (g : A → A) → ((x : A) → keep x ≡ true → seen (g x) ≡ seen' (g x))
+    → ((x : A) → keep x ≡ true → past (g x) ≡ false)
     → (p : ℕ) (new xs : List A) → put seen no_run p new (retain_map keep g xs) ≡ put seen' past p new (retain_map keep g xs)
 put-agree keep seen seen' past g h q zero new xs = put_past-no_run new (retain_map keep g xs) ∙ sym (none_past keep past g q new xs)
 put-agree keep seen seen' past g h q (suc p) new [] = refl
@@ -170,7 +179,8 @@ pub expects-seen : (r c k : ℕ) (e : ListElement) → is_sequenced e ≡ true �
 expects-seen r c k e h = rw (not_below k e.ins h, or_false (has_occurred r c e.ins), or_false (list_any (has_occurred r c) e.dels), append-nil e.dels) refl
 
 -- the acknowledgement of an insertion at stage k under number s of connection c
-pub ack-insert : (k n s c r p : ℕ) (props : PropertyList) (items : List ElementContent) (xs : List ListElement) → list_all is_text items ≡ true → list_all (is_from k) xs ≡ true
+pub ack-insert : (k n s c r p : ℕ) (props : PropertyList) (items : List ElementContent) (xs : List ListElement)
+    → list_all is_text items ≡ true → list_all (is_from k) xs ≡ true
     → list_up_to k xs ≡ put (expects r c k) no_run p (new_elements 0 (Local k) [] None props items) (sequenced_elements xs)
     → sequenced_elements (map (acked_element k n s c) xs) ≡ put (seen_by r c) is_pending p (new_elements n (Acked s c) [] (Some (Acked s c)) props items) (sequenced_elements xs)
 ack-insert k n s c r p props items xs text lowest at =
@@ -178,4 +188,5 @@ ack-insert k n s c r p props items xs text lowest at =
     ∙ ap (map (acked_element k n s c)) at
     ∙ map-put is_sequenced (expects r c k) without_pending (acked_element k n s c) (acked-fixed k n s c) p (new_elements 0 (Local k) [] None props items) xs
     ∙ ap (λ new. put (expects r c k) no_run p new (sequenced_elements xs)) (rw add-zero at (new-acked k n s c 0 props items text))
-    ∙ put-agree is_sequenced (expects r c k) (seen_by r c) is_pending without_pending (expects-seen r c k) (λ e h. ap not h) p (new_elements n (Acked s c) [] (Some (Acked s c)) props items) xs
+    ∙ put-agree is_sequenced (expects r c k) (seen_by r c) is_pending without_pending (expects-seen r c k) (λ e h. ap not h) p
+    (new_elements n (Acked s c) [] (Some (Acked s c)) props items) xs

@@ -16,7 +16,8 @@ module _ (floor r c : ℕ) (above : floor ≤ r) where
   known : (s d : ℕ) → nat_le s floor ≡ true → nat_le s r || nat_eq d c ≡ true
   known s d h = grind (arith, nat_tests)
 
-  removal_stage-unseen : (dels : List Stamp) (mark : Option ℕ) → has_collectable_removal floor dels ≡ true → list_any (has_occurred r c) (dels ++ removal_stamp mark) ≡ true
+  removal_stage-unseen : (dels : List Stamp) (mark : Option ℕ) → has_collectable_removal floor dels ≡ true
+      → list_any (has_occurred r c) (dels ++ removal_stamp mark) ≡ true
   removal_stage-unseen [] mark h = (cc)
   removal_stage-unseen (Acked s d ∷ dels) mark h = ap (λ b. b || list_any (has_occurred r c) (dels ++ removal_stamp mark)) (known s d h)
   removal_stage-unseen (Local k ∷ dels) mark h = (cc)
@@ -37,7 +38,8 @@ module _ (floor r c : ℕ) (above : floor ≤ r) where
       unseen false = refl
 
   pub with_universal_insertion-seen : (e : ListElement) → is_insertion_at_or_below floor e.ins ≡ true → seen_by r c (with_universal_insertion e) ≡ seen_by r c e
-  with_universal_insertion-seen e h = ap (λ b. b && not (list_any (has_occurred r c) (e.dels ++ removal_stamp e.removal_stage))) (known 0 0 zero-settled ∙ sym (settled-known e.ins h))
+  with_universal_insertion-seen e h = ap (λ b. b && not (list_any (has_occurred r c) (e.dels ++ removal_stamp e.removal_stage)))
+      (known 0 0 zero-settled ∙ sym (settled-known e.ins h))
 
   pub len-keeps : {held : ElementId → Bool} {ks xs : List ListElement} → Keeps floor held ks xs → len (seen_by r c) ks ≡ len (seen_by r c) xs
   len-keeps none = refl
@@ -46,7 +48,8 @@ module _ (floor r c : ℕ) (above : floor ≤ r) where
   len-keeps (collected {e = e} g h n k) = rw (collected-unseen e g) (len-keeps k)
 
 -- the next element is no pending one in a compacted list either
-pub follows-keeps : {floor : ℕ} {held : ElementId → Bool} {ks xs : List ListElement} → Keeps floor held ks xs → is_before_pending xs ≡ false → is_before_pending ks ≡ false
+pub follows-keeps : {floor : ℕ} {held : ElementId → Bool} {ks xs : List ListElement} → Keeps floor held ks xs
+    → is_before_pending xs ≡ false → is_before_pending ks ≡ false
 follows-keeps none h = refl
 follows-keeps (same k) h = h
 follows-keeps (universal f k) h = refl
@@ -56,7 +59,8 @@ pub keeps-self : (floor : ℕ) (held : ElementId → Bool) (xs : List ListElemen
 keeps-self floor held [] = none
 keeps-self floor held (x ∷ xs) = same (keeps-self floor held xs)
 
-pub keeps-append : {floor : ℕ} {held : ElementId → Bool} {ks xs : List ListElement} (new : List ListElement) → Keeps floor held ks xs → Keeps floor held (new ++ ks) (new ++ xs)
+pub keeps-append : {floor : ℕ} {held : ElementId → Bool} {ks xs : List ListElement} (new : List ListElement) → Keeps floor held ks xs
+    → Keeps floor held (new ++ ks) (new ++ xs)
 keeps-append [] k = k
 keeps-append (e ∷ new) k = same (keeps-append new k)
 
@@ -64,12 +68,14 @@ front : (new xs : List ListElement) → is_before_pending xs ≡ false → put_p
 front new [] h = sym (append-nil new)
 front new (x ∷ xs) h = rw h refl
 
-past-same : {floor : ℕ} {held : ElementId → Bool} (b : Bool) (e : ListElement) {ks xs us vs : List ListElement} → Keeps floor held ks xs → Keeps floor held us vs
+past-same : {floor : ℕ} {held : ElementId → Bool} (b : Bool) (e : ListElement) {ks xs us vs : List ListElement} → Keeps floor held ks xs
+    → Keeps floor held us vs
     → Keeps floor held (cond b (e ∷ ks) us) (cond b (e ∷ xs) vs)
 past-same true e p q = same p
 past-same false e p q = q
 
-past-collected : {floor : ℕ} {held : ElementId → Bool} (b : Bool) (e : ListElement) {us xs vs : List ListElement} → Keeps floor held us (e ∷ xs) → Keeps floor held us vs
+past-collected : {floor : ℕ} {held : ElementId → Bool} (b : Bool) (e : ListElement) {us xs vs : List ListElement}
+    → Keeps floor held us (e ∷ xs) → Keeps floor held us vs
     → Keeps floor held us (cond b (e ∷ xs) vs)
 past-collected true e p q = p
 past-collected false e p q = q
@@ -86,16 +92,19 @@ module _ (new : List ListElement) (acked : list_any is_pending new ≡ false) wh
       heads [] s = h
       heads (y ∷ ys) s = grind (arith)
 
-  follows-put : (seen : ListElement → Bool) (n : ℕ) (xs : List ListElement) → is_before_pending xs ≡ false → is_before_pending (put seen is_pending n new xs) ≡ false
+  follows-put : (seen : ListElement → Bool) (n : ℕ) (xs : List ListElement) → is_before_pending xs ≡ false
+      → is_before_pending (put seen is_pending n new xs) ≡ false
   follows-put seen zero xs h = rw (front new xs h) (follows-append xs h)
   follows-put seen (suc n) [] h = rw (append-nil new) at (follows-append [] refl)
   follows-put seen (suc n) (x ∷ xs) h = h
 
-  pub keeps-past : {floor : ℕ} {held : ElementId → Bool} {ks xs : List ListElement} → Keeps floor held ks xs → Keeps floor held (put_past is_pending new ks) (put_past is_pending new xs)
+  pub keeps-past : {floor : ℕ} {held : ElementId → Bool} {ks xs : List ListElement} → Keeps floor held ks xs
+      → Keeps floor held (put_past is_pending new ks) (put_past is_pending new xs)
   keeps-past {floor} {held} none = keeps-self floor held new
   keeps-past (same {e = e} k) = past-same (is_pending e) e (keeps-past k) (keeps-append new (same k))
   keeps-past {floor} {held} (universal {e = e} {ks = ks} {xs = xs} f k) =
-      subst (λ b. Keeps floor held (new ++ (with_universal_insertion e ∷ ks)) (cond b (e ∷ put_past is_pending new xs) (new ++ (e ∷ xs)))) (sym (settled-sequenced floor e.ins f)) (keeps-append new (universal f k))
+      subst (λ b. Keeps floor held (new ++ (with_universal_insertion e ∷ ks)) (cond b (e ∷ put_past is_pending new xs) (new ++ (e ∷ xs))))
+      (sym (settled-sequenced floor e.ins f)) (keeps-append new (universal f k))
   keeps-past {floor} {held} (collected {e = e} {ks = ks} {xs = xs} g u n k) =
       past-collected (is_pending e) e
       (collected g u (follows-put (λ _. false) zero xs n) (keeps-past k))
@@ -109,7 +118,8 @@ module _ (new : List ListElement) (acked : list_any is_pending new ≡ false) wh
     keeps-put {floor} {held} above (suc n) none = keeps-self floor held new
     keeps-put above (suc n) (same {e = e} k) = same (keeps-put above (cond (seen_by r c e) n (suc n)) k)
     keeps-put {floor} {held} above (suc n) (universal {e = e} {ks = ks} {xs = xs} f k) =
-        subst (λ b. Keeps floor held (with_universal_insertion e ∷ put (seen_by r c) is_pending (cond b n (suc n)) new ks) (e ∷ put (seen_by r c) is_pending (cond (seen_by r c e) n (suc n)) new xs))
+        subst (λ b. Keeps floor held (with_universal_insertion e ∷ put (seen_by r c) is_pending (cond b n (suc n)) new ks)
+        (e ∷ put (seen_by r c) is_pending (cond (seen_by r c e) n (suc n)) new xs))
         (sym (with_universal_insertion-seen floor r c above e f)) (universal f (keeps-put above (cond (seen_by r c e) n (suc n)) k))
     keeps-put {floor} {held} above (suc n) (collected {e = e} {ks = ks} {xs = xs} g u m k) =
         subst (λ b. Keeps floor held (put (seen_by r c) is_pending (suc n) new ks) (e ∷ put (seen_by r c) is_pending (cond b n (suc n)) new xs))
@@ -138,20 +148,23 @@ keeps-higher {low} {high} l (universal {e = e} f k) = universal (settled-higher 
 keeps-higher {low} {high} l (collected {e = e} g u n k) = collected (is_collectable-higher low high e l g) u n (keeps-higher l k)
 
 -- a pending element that follows in the list follows in what is kept of it
-follows-back : {floor : ℕ} {held : ElementId → Bool} {ks xs : List ListElement} → Keeps floor held ks xs → is_before_pending ks ≡ false → is_before_pending xs ≡ false
+follows-back : {floor : ℕ} {held : ElementId → Bool} {ks xs : List ListElement} → Keeps floor held ks xs → is_before_pending ks ≡ false
+    → is_before_pending xs ≡ false
 follows-back none h = refl
 follows-back (same k) h = h
 follows-back {floor} (universal {e = e} f k) h = settled-sequenced floor e.ins f
 follows-back {floor} (collected {e = e} g u n k) h = ap not (both (is_acked e.ins) (has_collectable_removal floor e.dels) g).0
 
-with_universal_insertion-removal_stage : (floor : ℕ) (e : ListElement) → is_insertion_at_or_below floor e.ins ≡ true → is_collectable floor (with_universal_insertion e) ≡ true → is_collectable floor e ≡ true
+with_universal_insertion-removal_stage : (floor : ℕ) (e : ListElement) → is_insertion_at_or_below floor e.ins ≡ true
+    → is_collectable floor (with_universal_insertion e) ≡ true → is_collectable floor e ≡ true
 with_universal_insertion-removal_stage floor e f g = stamped e.ins f
   where
     stamped : (t : Stamp) → is_insertion_at_or_below floor t ≡ true → is_acked t && has_collectable_removal floor e.dels ≡ true
     stamped (Acked s c) f = g
     stamped (Local k) f = (cc)
 
-with_universal_insertion-id : (floor : ℕ) (held : ElementId → Bool) (e : ListElement) → is_insertion_at_or_below floor e.ins ≡ true → held (id (with_universal_insertion e)) ≡ false → held (id e) ≡ false
+with_universal_insertion-id : (floor : ℕ) (held : ElementId → Bool) (e : ListElement) → is_insertion_at_or_below floor e.ins ≡ true
+    → held (id (with_universal_insertion e)) ≡ false → held (id e) ≡ false
 with_universal_insertion-id floor held e f u = stamped e.ins f
   where
     stamped : (t : Stamp) → is_insertion_at_or_below floor t ≡ true → held (id_of_stamp t e.nth) ≡ false
@@ -161,9 +174,12 @@ with_universal_insertion-id floor held e f u = stamped e.ins f
 -- what is kept of a list that begins with a folded element
 data KeepsFolded (floor : ℕ) (held : ElementId → Bool) (e : ListElement) (ms : List ListElement) : List ListElement → Type 0 where
   stays : {ks : List ListElement} → Keeps floor held ks ms → KeepsFolded floor held e ms (with_universal_insertion e ∷ ks)
-  goes : {ks : List ListElement} → is_collectable floor (with_universal_insertion e) ≡ true → held (id (with_universal_insertion e)) ≡ false → is_before_pending ms ≡ false → Keeps floor held ks ms → KeepsFolded floor held e ms ks
+  goes : {ks : List ListElement} → is_collectable floor (with_universal_insertion e) ≡ true
+      → held (id (with_universal_insertion e)) ≡ false → is_before_pending ms ≡ false → Keeps floor held ks ms
+      → KeepsFolded floor held e ms ks
 
-keeps_folded : {floor : ℕ} {held : ElementId → Bool} (e d : ListElement) {ks ms : List ListElement} → d ≡ with_universal_insertion e → Keeps floor held ks (d ∷ ms) → KeepsFolded floor held e ms ks
+keeps_folded : {floor : ℕ} {held : ElementId → Bool} (e d : ListElement) {ks ms : List ListElement} → d ≡ with_universal_insertion e
+    → Keeps floor held ks (d ∷ ms) → KeepsFolded floor held e ms ks
 keeps_folded {floor} {held} e d {ks} {ms} p (same {ks = js} k) = subst (λ x. KeepsFolded floor held e ms (x ∷ js)) (sym p) (stays k)
 keeps_folded {floor} {held} e d {ks} {ms} p (universal {ks = js} f k) = subst (λ x. KeepsFolded floor held e ms (with_universal_insertion x ∷ js)) (sym p) (stays k)
 keeps_folded {floor} {held} e d {ks} {ms} p (collected g u n k) = goes (subst (λ x. is_collectable floor x ≡ true) p g) (subst (λ x. held (id x) ≡ false) p u) n k
@@ -185,7 +201,8 @@ abbrev Clear : ℕ → (ElementId → Bool) → List ListElement → Type 0
 Clear floor held [] = Unit {0}
 Clear floor held (e ∷ xs) = (is_collectable floor e ≡ true → (held (id e) ≡ false) × (is_before_pending xs ≡ false)) × Clear floor held xs
 
-trimmed_here : (floor : ℕ) (held : ElementId → Bool) (b : Bool) (e : ListElement) {ks xs : List ListElement} → is_insertion_at_or_below floor e.ins ≡ b → Keeps floor held ks xs
+trimmed_here : (floor : ℕ) (held : ElementId → Bool) (b : Bool) (e : ListElement) {ks xs : List ListElement}
+    → is_insertion_at_or_below floor e.ins ≡ b → Keeps floor held ks xs
     → Keeps floor held (cond b (with_universal_insertion e) e ∷ ks) (e ∷ xs)
 trimmed_here floor held true e p k = universal p k
 trimmed_here floor held false e p k = same k

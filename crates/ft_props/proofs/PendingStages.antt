@@ -61,7 +61,8 @@ IsBelowStages-trans j k [] h b = tt
 IsBelowStages-trans j k (x ∷ xs) h b = (omega arith, IsBelowStages-trans j k xs h b.1)
 
 -- a stage that isn't above any of them, and isn't the first, is below all
-pub below_first : (k : ℕ) (x : ℕ × Changes) (xs : Pending) → StagesRise xs → All (λ p. k ≤ p.0) xs → Some x ≡ slice_get xs 0 → (x.0 ≡ k → ⊥) → IsBelowStages k xs
+pub below_first : (k : ℕ) (x : ℕ × Changes) (xs : Pending) → StagesRise xs → All (λ p. k ≤ p.0) xs → Some x ≡ slice_get xs 0
+    → (x.0 ≡ k → ⊥) → IsBelowStages k xs
 below_first k x [] r h e n = tt
 below_first k x (y ∷ ys) r h e n =
     let first : x ≡ y = cc in
@@ -71,7 +72,8 @@ below_first k x (y ∷ ys) r h e n =
 
 -- ---- a stage that is the first
 
-pub acked_props-first : (k : ℕ) (props : PropertyList) (x : ℕ × Changes) (xs : Pending) → StagesRise xs → Some x ≡ slice_get xs 0 → x.0 ≡ k → acked_props k props xs ≡ change props x.1
+pub acked_props-first : (k : ℕ) (props : PropertyList) (x : ℕ × Changes) (xs : Pending) → StagesRise xs → Some x ≡ slice_get xs 0 → x.0 ≡ k
+    → acked_props k props xs ≡ change props x.1
 acked_props-first k props x [] r e h = absurd cc
 acked_props-first k props x (y ∷ ys) r e h =
     let first : x ≡ y = cc in
@@ -97,7 +99,8 @@ without_stage-at k (x ∷ xs) r = step (nat_eq x.0 k) refl (without_stage-at k x
     step true e others = rw e (ap (λ j. without_stage j xs) (sym (eqb→eq x.0 k (subst T (sym e) tt))) ∙ without_stage-absent x.0 xs r.0)
     step false e others = rw (e, one-add) (ap (λ ys. x ∷ ys) others)
 
-pub without_stage-found : (k i : ℕ) (xs : Pending) → StagesRise xs → position (λ p. nat_eq p.0 k) xs ≡ Some i → without_stage k xs ≡ take i xs ++ drop (suc i) xs
+pub without_stage-found : (k i : ℕ) (xs : Pending) → StagesRise xs → position (λ p. nat_eq p.0 k) xs ≡ Some i
+    → without_stage k xs ≡ take i xs ++ drop (suc i) xs
 without_stage-found k i xs r h = grind (arith, nat_tests, without_stage-at k xs r)
 
 pub without_stage-missing : (k : ℕ) (xs : Pending) → StagesRise xs → position (λ p. nat_eq p.0 k) xs ≡ None → without_stage k xs ≡ xs

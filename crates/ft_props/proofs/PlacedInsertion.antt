@@ -37,9 +37,11 @@ new-list_up_to k n s c by props [] = refl
 new-list_up_to k n s c by props (b ∷ bs) = rw (new-list_up_to k (n + 1) s c by props bs)
 
 -- a message of another client goes into the list up to a stage as into the whole list
-pub put-list_up_to : (r c k q : ℕ) (other xs : List ListElement) → list_up_to k other ≡ other → list_up_to k (put (seen_by r c) is_pending q other xs) ≡ put (seen_by r c) is_pending q other (list_up_to k xs)
+pub put-list_up_to : (r c k q : ℕ) (other xs : List ListElement) → list_up_to k other ≡ other
+    → list_up_to k (put (seen_by r c) is_pending q other xs) ≡ put (seen_by r c) is_pending q other (list_up_to k xs)
 put-list_up_to r c k q other xs h =
-    put-retain_map (is_upto k) (seen_by r c) (element_up_to k) (seen_by r c) (sees-list_up_to r c k) is_pending is_pending (λ e h. ap not (beyond k e.ins h)) (λ e h. refl) q other xs
+    put-retain_map (is_upto k) (seen_by r c) (element_up_to k) (seen_by r c) (sees-list_up_to r c k) is_pending is_pending
+    (λ e h. ap not (beyond k e.ins h)) (λ e h. refl) q other xs
     ∙ ap (λ ys. put (seen_by r c) is_pending q ys (list_up_to k xs)) h
 
 -- elements that aren't seen add nothing to the length
@@ -107,7 +109,8 @@ pub ins-expected : (r c k : ℕ) (t : Stamp) → stamp_known r c k t ≡ true �
 ins-expected r c k (Acked s d) h = rw h refl
 ins-expected r c k (Local j) h = grind (arith, nat_tests)
 
-pub dels-expected : (r c k : ℕ) (dels : List Stamp) → list_all (has_occurred r c) dels ≡ true → list_any (has_occurred r c) dels ≡ list_any (has_occurred_at_stage k) dels
+pub dels-expected : (r c k : ℕ) (dels : List Stamp) → list_all (has_occurred r c) dels ≡ true
+    → list_any (has_occurred r c) dels ≡ list_any (has_occurred_at_stage k) dels
 dels-expected r c k [] h = refl
 dels-expected r c k (Acked s d ∷ dels) h = grind (arith, dels-expected r c k dels)
 dels-expected r c k (Local j ∷ dels) h = (cc)
@@ -147,7 +150,8 @@ list_up_to-now r c k (e ∷ xs) h =
     let stamp = reached-now r c k e.ins (all_four (stamp_known r c k e.ins) (list_all (has_occurred r c) e.dels) (mark_upto k e.removal_stage) (list_all (λ q. nat_le q.0 k) e.pending) p.0).0 in
     rw (stamp, element_up_to-now r c k e p.0, list_up_to-now r c k xs p.1) refl
 
-pub put-agree-now : (r c k p : ℕ) (new xs : List ListElement) → list_all (is_current r c k) xs ≡ true → put (seen k) no_run p new xs ≡ put (expects r c (suc k)) no_run p new xs
+pub put-agree-now : (r c k p : ℕ) (new xs : List ListElement) → list_all (is_current r c k) xs ≡ true
+    → put (seen k) no_run p new xs ≡ put (expects r c (suc k)) no_run p new xs
 put-agree-now r c k zero new xs h = refl
 put-agree-now r c k (suc p) new [] h = refl
 put-agree-now r c k (suc p) new (e ∷ xs) h =
@@ -161,17 +165,20 @@ len-agree-now r c k (e ∷ xs) h =
     rw (expected-now r c k e q.0) (ap (one_more_if (seen k e)) (len-agree-now r c k xs q.1))
 
 -- elements that are left out leave no trace where they were put
-pub drop-append : {A : Type 0} (keep : A → Bool) (f : A → A) (new xs : List A) → list_any keep new ≡ false → retain_map keep f (new ++ xs) ≡ retain_map keep f xs
+pub drop-append : {A : Type 0} (keep : A → Bool) (f : A → A) (new xs : List A) → list_any keep new ≡ false
+    → retain_map keep f (new ++ xs) ≡ retain_map keep f xs
 drop-append keep f [] xs h = refl
 drop-append keep f (y ∷ ys) xs h = grind (arith, drop-append keep f ys xs)
 
-pub drop-put : {A : Type 0} (keep test : A → Bool) (f : A → A) (p : ℕ) (new xs : List A) → list_any keep new ≡ false → retain_map keep f (put test no_run p new xs) ≡ retain_map keep f xs
+pub drop-put : {A : Type 0} (keep test : A → Bool) (f : A → A) (p : ℕ) (new xs : List A) → list_any keep new ≡ false
+    → retain_map keep f (put test no_run p new xs) ≡ retain_map keep f xs
 drop-put keep test f zero new [] h = rw append-nil at (drop-append keep f new [] h)
 drop-put keep test f zero new (x ∷ xs) h = drop-append keep f new (x ∷ xs) h
 drop-put keep test f (suc p) new [] h = rw append-nil at (drop-append keep f new [] h)
 drop-put keep test f (suc p) new (x ∷ xs) h = grind (arith, drop-put keep test f p new xs, drop-put keep test f (suc p) new xs)
 
-pub all-put : {A : Type 0} (is test : A → Bool) (p : ℕ) (new xs : List A) → list_all is new ≡ true → list_all is xs ≡ true → list_all is (put test no_run p new xs) ≡ true
+pub all-put : {A : Type 0} (is test : A → Bool) (p : ℕ) (new xs : List A) → list_all is new ≡ true → list_all is xs ≡ true
+    → list_all is (put test no_run p new xs) ≡ true
 all-put is test zero new [] g h = g
 all-put is test zero new (x ∷ xs) g h = all-both new g
   where
@@ -208,16 +215,19 @@ own-stage k = grind (arith, nat_tests)
 pub own-later : (k : ℕ) → nat_le (suc k) k ≡ false
 own-later k = grind (arith, nat_tests)
 
-pub after_local_insertion-current : (r c k i : ℕ) (props : PropertyList) (items : List ElementContent) → list_all (is_current r c (suc k)) (new_elements i (Local (suc k)) [] None props items) ≡ true
+pub after_local_insertion-current : (r c k i : ℕ) (props : PropertyList) (items : List ElementContent)
+    → list_all (is_current r c (suc k)) (new_elements i (Local (suc k)) [] None props items) ≡ true
 after_local_insertion-current r c k i props [] = refl
 after_local_insertion-current r c k i props (b ∷ bs) = rw (own-stage k, after_local_insertion-current r c k (i + 1) props bs) refl
 
-pub after_local_insertion-later : (k i : ℕ) (props : PropertyList) (items : List ElementContent) → list_any (is_upto k) (new_elements i (Local (suc k)) [] None props items) ≡ false
+pub after_local_insertion-later : (k i : ℕ) (props : PropertyList) (items : List ElementContent)
+    → list_any (is_upto k) (new_elements i (Local (suc k)) [] None props items) ≡ false
 after_local_insertion-later k i props [] = refl
 after_local_insertion-later k i props (b ∷ bs) = rw (own-later k) (after_local_insertion-later k (i + 1) props bs)
 
 -- an edit of the client's own makes it true of its stage
-pub edit-places : (k p r c : ℕ) (props : PropertyList) (items : List ElementContent) (xs : List ListElement) → list_all (is_current r c k) xs ≡ true → p ≤ len (seen k) xs
+pub edit-places : (k p r c : ℕ) (props : PropertyList) (items : List ElementContent) (xs : List ListElement)
+    → list_all (is_current r c k) xs ≡ true → p ≤ len (seen k) xs
     → IsPlaced k p r c (new_elements 0 (Local (suc k)) [] None props items) (put (seen k) no_run p (new_elements 0 (Local (suc k)) [] None props items) xs)
 edit-places k p r c props items xs current here =
     let block = new_elements 0 (Local (suc k)) [] None props items in

@@ -27,7 +27,8 @@ put-filter test place h (suc p) new [] = refl
 put-filter test place h (suc p) new (x ∷ xs) = grind (arith, put-filter test place h p new xs, put-filter test place h (suc p) new xs, h x)
 
 -- a narrower test after a wider one
-pub filter-twice : {A : Type 0} (narrow wide : A → Bool) → ((x : A) → wide x ≡ false → narrow x ≡ false) → (xs : List A) → filter narrow (filter wide xs) ≡ filter narrow xs
+pub filter-twice : {A : Type 0} (narrow wide : A → Bool) → ((x : A) → wide x ≡ false → narrow x ≡ false) → (xs : List A)
+    → filter narrow (filter wide xs) ≡ filter narrow xs
 filter-twice narrow wide h [] = refl
 filter-twice narrow wide h (x ∷ xs) = grind (arith, filter-twice narrow wide h xs, h x)
 
@@ -44,7 +45,8 @@ pub any-both : {A : Type 0} (is : A → Bool) (ys zs : List A) → list_any is y
 any-both is [] zs g h = h
 any-both is (y ∷ ys) zs g h = grind (arith, any-both is ys zs)
 
-pub any-put : {A : Type 0} (is test : A → Bool) (p : ℕ) (new xs : List A) → list_any is new ≡ false → list_any is xs ≡ false → list_any is (put test no_run p new xs) ≡ false
+pub any-put : {A : Type 0} (is test : A → Bool) (p : ℕ) (new xs : List A) → list_any is new ≡ false → list_any is xs ≡ false
+    → list_any is (put test no_run p new xs) ≡ false
 any-put is test zero new xs g h = ap (list_any is) (put_past-no_run new xs) ∙ any-both is new xs g h
 any-put is test (suc p) new [] g h = g
 any-put is test (suc p) new (x ∷ xs) g h = grind (arith, any-put is test p new xs, any-put is test (suc p) new xs)
@@ -53,7 +55,8 @@ pub any-filter : {A : Type 0} (is test : A → Bool) → ((x : A) → test x ≡
 any-filter is test h [] = refl
 any-filter is test h (x ∷ xs) = grind (arith, any-filter is test h xs, h x)
 
-pub any-retain_map : {A : Type 0} (is keep : A → Bool) (f : A → A) → ((x : A) → keep x ≡ true → is (f x) ≡ false) → (xs : List A) → list_any is (retain_map keep f xs) ≡ false
+pub any-retain_map : {A : Type 0} (is keep : A → Bool) (f : A → A) → ((x : A) → keep x ≡ true → is (f x) ≡ false) → (xs : List A)
+    → list_any is (retain_map keep f xs) ≡ false
 any-retain_map is keep f h [] = refl
 any-retain_map is keep f h (x ∷ xs) = grind (arith, any-retain_map is keep f h xs, h x)
 
@@ -116,7 +119,8 @@ or_right true b h = refl
 or_right false b h = h
 
 -- what is seen at each stage is the same before and after
-pub stage_view-rebuilt : (xs : List ListElement) → SideBySide xs → filter (seen 0) (stage_list xs 0) ≡ filter (seen 0) xs → (k : ℕ) → filter (seen k) (stage_list xs k) ≡ filter (seen k) xs
+pub stage_view-rebuilt : (xs : List ListElement) → SideBySide xs → filter (seen 0) (stage_list xs 0) ≡ filter (seen 0) xs → (k : ℕ)
+    → filter (seen k) (stage_list xs k) ≡ filter (seen k) xs
 stage_view-rebuilt xs side base zero = base
 stage_view-rebuilt xs side base (suc k) =
     let block = filter (is_inserted_by (suc k)) xs in
@@ -125,7 +129,8 @@ stage_view-rebuilt xs side base (suc k) =
     ∙ sym (filter-twice (seen (suc k)) (wide k) (narrow k) (put (seen k) no_run p block (stage_list xs k)))
     ∙ ap (filter (seen (suc k)))
     (put-filter (wide k) (seen k) (λ e h. or_left (seen k e) (is_inserted_by (suc k) e) h) p block (stage_list xs k)
-    ∙ ap (λ ys. put (seen k) no_run p ys (filter (wide k) (stage_list xs k))) (filter-all (wide k) (is_inserted_by (suc k)) (λ e h. or_right (seen k e) (is_inserted_by (suc k) e) h) xs)
+    ∙ ap (λ ys. put (seen k) no_run p ys (filter (wide k) (stage_list xs k))) (filter-all (wide k) (is_inserted_by (suc k))
+    (λ e h. or_right (seen k e) (is_inserted_by (suc k) e) h) xs)
     ∙ ap (put (seen k) no_run p block) (filter-or (seen k) (is_inserted_by (suc k)) (stage_list xs k) (later xs k (suc k) (omega arith)) ∙ stage_view-rebuilt xs side base k)
     ∙ sym (side k))
     ∙ filter-twice (seen (suc k)) (wide k) (narrow k) xs

@@ -80,7 +80,8 @@ module _ {V : Type 0} where
   missing-in_range key (suc i) (x ∷ xs) h = grind (arith, missing-in_range key i xs)
 
   -- the value of a key is that at its place
-  pub value_of-found : (key : Characters) (i : ℕ) (d : Characters × V) (xs : List (Characters × V)) → key_place key xs ≡ Ok i → value_of key xs ≡ Some (get_or xs i d).1
+  pub value_of-found : (key : Characters) (i : ℕ) (d : Characters × V) (xs : List (Characters × V)) → key_place key xs ≡ Ok i
+      → value_of key xs ≡ Some (get_or xs i d).1
   value_of-found key i d [] h = cc
   value_of-found key zero d (x ∷ xs) h = grind (arith, value_of-found key zero d xs)
   value_of-found key (suc i) d (x ∷ xs) h = grind (arith, value_of-found key i d xs)
@@ -97,19 +98,22 @@ module _ {V : Type 0} where
   value_of-missing key (suc i) (x ∷ xs) r h = grind (arith, value_of-missing key i xs r.1)
 
   -- what is put stands at its key's place, or where the key would stand
-  pub put_rising-found : (key : Characters) (v : V) (i : ℕ) (xs : List (Characters × V)) → key_place key xs ≡ Ok i → put_rising key_cmp (key, v) xs ≡ set xs i (key, v)
+  pub put_rising-found : (key : Characters) (v : V) (i : ℕ) (xs : List (Characters × V)) → key_place key xs ≡ Ok i
+      → put_rising key_cmp (key, v) xs ≡ set xs i (key, v)
   put_rising-found key v i [] h = cc
   put_rising-found key v zero (x ∷ xs) h = grind (arith, put_rising-found key v zero xs)
   put_rising-found key v (suc i) (x ∷ xs) h = grind (arith, put_rising-found key v i xs)
 
-  pub put_rising-missing : (key : Characters) (v : V) (i : ℕ) (xs : List (Characters × V)) → key_place key xs ≡ Err i → put_rising key_cmp (key, v) xs ≡ insert xs i (key, v)
+  pub put_rising-missing : (key : Characters) (v : V) (i : ℕ) (xs : List (Characters × V)) → key_place key xs ≡ Err i
+      → put_rising key_cmp (key, v) xs ≡ insert xs i (key, v)
   put_rising-missing key v zero [] h = refl
   put_rising-missing key v (suc i) [] h = absurd cc
   put_rising-missing key v zero (x ∷ xs) h = grind arith
   put_rising-missing key v (suc i) (x ∷ xs) h = grind (arith, put_rising-missing key v i xs)
 
   -- a key that rises above another is still above it where a third is put that is too
-  IsBeforeKeys-put : (a key : Characters) (v : V) (xs : List (Characters × V)) → text_cmp a key ≡ Less → IsBeforeKeys a xs → IsBeforeKeys a (put_rising key_cmp (key, v) xs)
+  IsBeforeKeys-put : (a key : Characters) (v : V) (xs : List (Characters × V)) → text_cmp a key ≡ Less → IsBeforeKeys a xs
+      → IsBeforeKeys a (put_rising key_cmp (key, v) xs)
   IsBeforeKeys-put a key v [] h b = (h, tt)
   IsBeforeKeys-put a key v (x ∷ xs) h b =
       let P : List (Characters × V) → Type 0 = λ ys. IsBeforeKeys a ys in
@@ -129,12 +133,14 @@ module _ {V : Type 0} where
       (λ e. subst P (sym (put-greater key_cmp (key, v) x xs e)) (IsBeforeKeys-put x.0 key v xs (text_cmp-turned key x.0 e) r.0, KeysRise-put key v xs r.1))
 
   -- what is removed stood at its key's place
-  pub remove_rising-found : (key : Characters) (v : V) (i : ℕ) (xs : List (Characters × V)) → key_place key xs ≡ Ok i → remove_rising key_cmp (key, v) xs ≡ remove xs i
+  pub remove_rising-found : (key : Characters) (v : V) (i : ℕ) (xs : List (Characters × V)) → key_place key xs ≡ Ok i
+      → remove_rising key_cmp (key, v) xs ≡ remove xs i
   remove_rising-found key v i [] h = absurd cc
   remove_rising-found key v zero (x ∷ xs) h = grind (arith, remove_rising-found key v zero xs)
   remove_rising-found key v (suc i) (x ∷ xs) h = grind (arith, remove_rising-found key v i xs)
 
-  pub remove_rising-missing : (key : Characters) (v : V) (i : ℕ) (xs : List (Characters × V)) → key_place key xs ≡ Err i → remove_rising key_cmp (key, v) xs ≡ xs
+  pub remove_rising-missing : (key : Characters) (v : V) (i : ℕ) (xs : List (Characters × V)) → key_place key xs ≡ Err i
+      → remove_rising key_cmp (key, v) xs ≡ xs
   remove_rising-missing key v i [] h = refl
   remove_rising-missing key v zero (x ∷ xs) h = grind arith
   remove_rising-missing key v (suc i) (x ∷ xs) h = grind (arith, remove_rising-missing key v i xs)
@@ -161,13 +167,15 @@ module _ {V : Type 0} where
   abbrev order_at : Characters → List (Characters × V) → ℕ → (Characters × V) → Ordering
   order_at key xs i d = text_cmp (get_or xs i d).0 key
 
-  at-before : (key : Characters) (xs : List (Characters × V)) (i : ℕ) (d : Characters × V) → IsBeforeKeys key xs → i < length xs → text_cmp key (get_or xs i d).0 ≡ Less
+  at-before : (key : Characters) (xs : List (Characters × V)) (i : ℕ) (d : Characters × V) → IsBeforeKeys key xs → i < length xs
+      → text_cmp key (get_or xs i d).0 ≡ Less
   at-before key [] i d b l = absurd (omega arith)
   at-before key (x ∷ xs) zero d b l = b.0
   at-before key (x ∷ xs) (suc i) d b l = at-before key xs i d b.1 (omega arith)
 
   -- a key that is found by comparing stands at its place
-  pub key_place-equal : (key : Characters) (xs : List (Characters × V)) (i : ℕ) (d : Characters × V) → KeysRise xs → i < length xs → order_at key xs i d ≡ Equal → key_place key xs ≡ Ok i
+  pub key_place-equal : (key : Characters) (xs : List (Characters × V)) (i : ℕ) (d : Characters × V) → KeysRise xs → i < length xs
+      → order_at key xs i d ≡ Equal → key_place key xs ≡ Ok i
   key_place-equal key [] i d r l h = absurd (omega arith)
   key_place-equal key (x ∷ xs) zero d r l h = grind (arith, tied_back nat_list_cmp_total x.0 key h)
   key_place-equal key (x ∷ xs) (suc i) d r l h =

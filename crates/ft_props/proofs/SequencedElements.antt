@@ -19,7 +19,8 @@ has_occurred-pending r c (Acked s d) h = (cc)
 has_occurred-pending r c (Local k) h = refl
 
 -- a pending removal counts for no perspective
-pub any-has_occurred : (r c : ℕ) (dels : List Stamp) (removal_stage : Option ℕ) → list_any (has_occurred r c) (dels ++ removal_stamp removal_stage) ≡ list_any (has_occurred r c) dels
+pub any-has_occurred : (r c : ℕ) (dels : List Stamp) (removal_stage : Option ℕ)
+    → list_any (has_occurred r c) (dels ++ removal_stamp removal_stage) ≡ list_any (has_occurred r c) dels
 any-has_occurred r c [] None = refl
 any-has_occurred r c [] (Some k) = refl
 any-has_occurred r c (t ∷ dels) removal_stage = ap (λ b. has_occurred r c t || b) (any-has_occurred r c dels removal_stage)
@@ -75,7 +76,8 @@ map-id (Some e) = refl
 pub slide-sequenced : (xs : List ListElement) (x : Option ElementId) → slide (sequenced_elements xs) x ≡ slide xs x
 slide-sequenced xs None = refl
 slide-sequenced xs (Some x) =
-    ap (option_map id) (settled-retain_map is_sequenced (λ e. is_sequenced e && has_id x e) is_unremoved without_pending (λ e. is_sequenced e && has_id x e) is_unremoved (has_id-sequenced x) is_unremoved-sequenced None xs)
+    ap (option_map id) (settled-retain_map is_sequenced (λ e. is_sequenced e && has_id x e) is_unremoved without_pending
+    (λ e. is_sequenced e && has_id x e) is_unremoved (has_id-sequenced x) is_unremoved-sequenced None xs)
     ∙ map-id (settled (λ e. is_sequenced e && has_id x e) is_unremoved xs)
 
 -- a removal of another client

@@ -35,8 +35,10 @@ is_before_pending (e ∷ xs) = is_pending e
 pub data Keeps (floor : ℕ) (held : ElementId → Bool) : List ListElement → List ListElement → Type 0 where
   none : Keeps floor held [] []
   same : {e : ListElement} {ks xs : List ListElement} → Keeps floor held ks xs → Keeps floor held (e ∷ ks) (e ∷ xs)
-  universal : {e : ListElement} {ks xs : List ListElement} → is_insertion_at_or_below floor e.ins ≡ true → Keeps floor held ks xs → Keeps floor held (with_universal_insertion e ∷ ks) (e ∷ xs)
-  collected : {e : ListElement} {ks xs : List ListElement} → is_collectable floor e ≡ true → held (id e) ≡ false → is_before_pending xs ≡ false → Keeps floor held ks xs → Keeps floor held ks (e ∷ xs)
+  universal : {e : ListElement} {ks xs : List ListElement} → is_insertion_at_or_below floor e.ins ≡ true → Keeps floor held ks xs
+      → Keeps floor held (with_universal_insertion e ∷ ks) (e ∷ xs)
+  collected : {e : ListElement} {ks xs : List ListElement} → is_collectable floor e ≡ true → held (id e) ≡ false
+      → is_before_pending xs ≡ false → Keeps floor held ks xs → Keeps floor held ks (e ∷ xs)
 
 -- the same for a list with its count
 pub record KeepsList (floor : ℕ) (held : ElementId → Bool) (kept list : Sequence) : Type 0 where

@@ -17,9 +17,12 @@ returns c =
     let raised_fits : FitsSigned w128 c.raised.result = search rules in
     let lowered_fits : FitsSigned w128 c.lowered-bounded.result = search rules in
     let is_raised : c.raised.result ≡ int_max (unwrap_or a.min (n +ℤ a.delta)) (n +ℤ a.delta) = rw sum at c.raised.ensures in
-    let is_lowered : c.lowered-bounded.result ≡ int_min (unwrap_or a.max c.raised.result) c.raised.result = rw (to_z-of_z w128 c.raised.result raised_fits) at c.lowered-bounded.ensures in
+    let is_lowered : c.lowered-bounded.result ≡ int_min (unwrap_or a.max c.raised.result) c.raised.result =
+    rw (to_z-of_z w128 c.raised.result raised_fits) at c.lowered-bounded.ensures in
     let low : to_z w128 (of_z w128 (pos 0 -ℤ to_z w128 (of_z w128 c.from-3.result))) ≡ negsuc 9007199254740990 = omega (arith, ints) in
     let high : to_z w128 (of_z w128 c.from-4.result) ≡ pos 9007199254740991 = omega (arith, ints) in
-    let is_clamped : c.clamp.result ≡ int_max (negsuc 9007199254740990) (int_min c.lowered-bounded.result (pos 9007199254740991)) = rw (low, high, to_z-of_z w128 c.lowered-bounded.result lowered_fits) at c.clamp.ensures.value in
+    let is_clamped : c.clamp.result ≡ int_max (negsuc 9007199254740990) (int_min c.lowered-bounded.result (pos 9007199254740991)) =
+    rw (low, high, to_z-of_z w128 c.lowered-bounded.result lowered_fits) at c.clamp.ensures.value in
     let is_kept : to_z w64 (of_z w64 (to_z w128 (of_z w128 c.clamp.result))) ≡ c.clamp.result = omega (arith, ints, clamps) in
-    is_kept ∙ is_clamped ∙ clamped_either_way c.lowered-bounded.result ∙ ap (clamped (negsuc 9007199254740990) (pos 9007199254740991)) (is_lowered ∙ ap (λ r. int_min (unwrap_or a.max r) r) is_raised)
+    is_kept ∙ is_clamped ∙ clamped_either_way c.lowered-bounded.result
+    ∙ ap (clamped (negsuc 9007199254740990) (pos 9007199254740991)) (is_lowered ∙ ap (λ r. int_min (unwrap_or a.max r) r) is_raised)

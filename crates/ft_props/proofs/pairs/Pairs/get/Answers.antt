@@ -9,7 +9,8 @@ index-requires g c =
 
 pub returns-in-Ok : goal.returns-in-Ok
 returns-in-Ok g c =
-    let found = value_of-found (chars c.args.key.now) c.in-Ok.i c.index.result.now c.self.inside.items.items (ap (key_place (chars c.args.key.now)) c.self.view_is ∙ sym c.search.ensures ∙ c.in-Ok.is) in
+    let found = value_of-found (chars c.args.key.now) c.in-Ok.i c.index.result.now c.self.inside.items.items
+    (ap (key_place (chars c.args.key.now)) c.self.view_is ∙ sym c.search.ensures ∙ c.in-Ok.is) in
     ap (λ x. Some x.1) c.index.ensures ∙ sym found ∙ ap (value_of (chars c.args.key.now)) c.self.view_is
 
 pub returns-in-Err : goal.returns-in-Err
