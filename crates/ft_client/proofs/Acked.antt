@@ -121,13 +121,15 @@ module _ (s c : ℕ) where
       let same = list-same t.stage s c doc.cols h.0 in
       cols-stay ts (λ x. acked_id t.stage (made_before doc t.sub_operation) (f x)) (ack_stage s c f t doc) (subst (λ (l : Sequence). AreUnmarked ts l.items) (sym same) h.1) ∙ same
 
-  pub cells-stay : (ts : List Stage) (f : ElementId → ElementId) (doc : Document) → list_all (λ t. is_on_text t.sub_operation) ts ≡ true → (ack_stages s c f ts doc).0.cells ≡ doc.cells
+  pub cells-stay : (ts : List Stage) (f : ElementId → ElementId) (doc : Document) → list_all (λ t. is_on_text t.sub_operation) ts ≡ true
+      → (ack_stages s c f ts doc).0.cells ≡ doc.cells
   cells-stay [] f doc h = refl
   cells-stay (t ∷ ts) f doc h =
       let p = both (is_on_text t.sub_operation) (list_all (λ (t : Stage). is_on_text t.sub_operation) ts) h in
       cells-stay ts (λ x. acked_id t.stage (made_before doc t.sub_operation) (f x)) (ack_stage s c f t doc) p.1 ∙ one t.sub_operation t.names p.0
     where
-      one : (o : SubOperation) (names : NamedElements) → is_on_text o ≡ true → (ack_stage s c f (record { stage = t.stage; sub_operation = o; names = names }) doc).cells ≡ doc.cells
+      one : (o : SubOperation) (names : NamedElements) → is_on_text o ≡ true
+          → (ack_stage s c f (record { stage = t.stage; sub_operation = o; names = names }) doc).cells ≡ doc.cells
       one (OnText op) names g = refl
       one (OnIntervals op) names g = refl
       one (OnGrid op) names g = (cc)
@@ -136,7 +138,8 @@ module _ (s c : ℕ) where
     pub text : after.text ≡ doc.text
     pub intervals : after.intervals ≡ doc.intervals
 
-  pub text-stays : (ts : List Stage) (f : ElementId → ElementId) (doc : Document) → AreUnmarked ts doc.text.items → list_all is_grid_stage ts ≡ true → Once doc.text.items
+  pub text-stays : (ts : List Stage) (f : ElementId → ElementId) (doc : Document) → AreUnmarked ts doc.text.items
+      → list_all is_grid_stage ts ≡ true → Once doc.text.items
       → EndsStand doc.text.items doc.intervals → TextStays doc (ack_stages s c f ts doc).0
   text-stays [] f doc h g once stand = record { text = refl; intervals = refl }
   text-stays (t ∷ ts) f doc h g once stand =
@@ -184,13 +187,15 @@ module _ (s c : ℕ) where
   name-kept k n (SequencedId i) h = refl
   name-kept k n (PendingId j i) h = rw h refl
 
-  name-stays : (ts : List Stage) (f : ElementId → ElementId) (doc : Document) (x : ElementId) → f x ≡ x → Each (λ t. IsOtherName x t.stage) ts → (ack_stages s c f ts doc).1 x ≡ x
+  name-stays : (ts : List Stage) (f : ElementId → ElementId) (doc : Document) (x : ElementId) → f x ≡ x
+      → Each (λ t. IsOtherName x t.stage) ts → (ack_stages s c f ts doc).1 x ≡ x
   name-stays [] f doc x e h = e
   name-stays (t ∷ ts) f doc x e h =
       let k = made_before doc t.sub_operation in
       name-stays ts (λ y. acked_id t.stage k (f y)) (ack_stage s c f t doc) x (ap (acked_id t.stage k) e ∙ name-kept t.stage k x h.0) h.1
 
-  other-name : (last : ℕ) (list : Sequence) → IsWellNumbered last list → (x : ElementId) → 1 ≤ len (has_id x) list.items → (k : ℕ) → Each (IsUnmarked k) list.items → IsOtherName x k
+  other-name : (last : ℕ) (list : Sequence) → IsWellNumbered last list → (x : ElementId) → 1 ≤ len (has_id x) list.items → (k : ℕ)
+      → Each (IsUnmarked k) list.items → IsOtherName x k
   other-name last list w (SequencedId n) l k u = tt
   other-name last list w (PendingId j n) l k u = step (nat_eq j k) refl
     where
@@ -208,13 +213,15 @@ module _ (s c : ℕ) where
       step true e = never (len (has_id (PendingId j n)) list.items) l
           (w.counted j n (below (len (is_inserted_by j) list.items) n (subst (λ i. len (is_inserted_by i) list.items ≡ 0) (same e) (none-of k list.items u))))
 
-  other-names : (last : ℕ) (list : Sequence) → IsWellNumbered last list → (x : ElementId) → 1 ≤ len (has_id x) list.items → (ts : List Stage) → AreUnmarked ts list.items
+  other-names : (last : ℕ) (list : Sequence) → IsWellNumbered last list → (x : ElementId) → 1 ≤ len (has_id x) list.items
+      → (ts : List Stage) → AreUnmarked ts list.items
       → Each (λ t. IsOtherName x t.stage) ts
   other-names last list w x l [] u = tt
   other-names last list w x l (t ∷ ts) u = (other-name last list w x l t.stage u.0, other-names last list w x l ts u.1)
 
   -- an element that is named in a list goes on to be named so
-  pub named-stays : (ts : List Stage) (doc : Document) (last : ℕ) (list : Sequence) → IsWellNumbered last list → AreUnmarked ts list.items → (o : Option ElementId)
+  pub named-stays : (ts : List Stage) (doc : Document) (last : ℕ) (list : Sequence) → IsWellNumbered last list → AreUnmarked ts list.items
+      → (o : Option ElementId)
       → StandsIn list.items o → renamed (ack_stages s c (λ i. i) ts doc).1 o ≡ o
   named-stays ts doc last list w u None t = refl
   named-stays ts doc last list w u (Some x) t = ap Some (name-stays ts (λ i. i) doc x refl (other-names last list w x t ts u))
@@ -246,7 +253,8 @@ module _ (inserts removes annotates : SubOperation → Bool) (stages : List Stag
       let p = both (is_stage_of annotates stages q.0) (list_all (λ (q : ℕ × Changes). is_stage_of annotates stages q.0) qs) h in
       rw (apart (nat_eq q.0 k) q.0 (is_stage_of annotates stages) refl p.0 a) (changes-unmarked qs p.1)
 
-  pub list-unmarked : (xs : List ListElement) → list_all (has_marks_of inserts removes stages) xs ≡ true → list_all (λ e. list_all (λ q. is_stage_of annotates stages q.0) e.pending) xs ≡ true
+  pub list-unmarked : (xs : List ListElement) → list_all (has_marks_of inserts removes stages) xs ≡ true
+      → list_all (λ e. list_all (λ q. is_stage_of annotates stages q.0) e.pending) xs ≡ true
       → Each (IsUnmarked k) xs
   list-unmarked [] m n = tt
   list-unmarked (x ∷ xs) m n =

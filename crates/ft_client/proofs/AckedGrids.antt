@@ -1,5 +1,5 @@
 -- The stages of an edit of the table acknowledged one after another: names go on to fit, and each renaming comes after those before.
-use Rattle.std.proofs.Common.{◌≡◌, ℕ, zero, suc, ◌+◌, ◌-◌, ◌≤◌, ◌<◌, All, Bool, true, false, cond, nat_eq, List, [], ◌∷◌, ◌++◌, Option, Some, None, refl, sym, ◌∙◌, ap, subst, map, length, drop, get_or, slice_get, arith, append-nil}
+use Rattle.std.proofs.Common.{◌≡◌, ℕ, zero, suc, ◌+◌, ◌-◌, ◌≤◌, ◌<◌, All, Bool, true, false, cond, nat_eq, List, [], ◌∷◌, ◌++◌, Some, None, refl, sym, ◌∙◌, ap, subst, map, length, drop, get_or, slice_get, arith, append-nil}
 use Rattle.std.proofs.Math.Seq.{drop-cons}
 use Rattle.std.specs.List.{AllByRecursion}
 use Rattle.std.proofs.lemmas.Bool.Decides.{nat_tests}
@@ -9,13 +9,13 @@ use Rattle.ft_op.specs.declared.operations.CellOp.TheVariants.{SpliceIn, SpliceO
 use Rattle.ft_op.specs.declared.operations.Target.TheVariants.{Rows, Cols}
 use Rattle.ft_op.specs.Operation.{OnGrid, OnIntervals, OnText, SubOperation}
 use Rattle.ft_op.specs.Document.{Document}
-use Rattle.ft_op.specs.Intervals.{NamedElements}
 use Rattle.ft_op.specs.Stages.{Stage}
 use Rattle.ft_props.specs.Element.{ElementId}
 use Rattle.ft_props.specs.Steps.{Sequence, acked_id, acked_list, is_inserted_by}
 use Rattle.ft_msg.specs.Acknowledgement.{ack_stage, ack_stages, made_before, renamed, renamed_names, renamed_stage}
 use Rattle.ft_msg.specs.Indexed.{IndexedStage, indexed_stage}
 use Rattle.ft_laws_agreement.specs.Sequencing.{is_grid_stage}
+use Rattle.ft_laws_agreement.proofs.NamedByPlace.{names-not_renamed}
 use Rattle.ft_laws_names.specs.GridFacts.{AreCounted, IsCounted, grid_stages}
 use Rattle.ft_laws_names.specs.WellNamed.{AreWellNamed, HasItsStages, IsWellNumbered, RiseTo}
 use Rattle.ft_laws_names.proofs.AckedLists.{stage-count}
@@ -33,17 +33,10 @@ use Rattle.ft_client.proofs.Known.{client_of, named-of, one-edit}
 
 -- ---- renamed stages
 
-renamed-itself : (o : Option ElementId) → renamed (λ i. i) o ≡ o
-renamed-itself None = refl
-renamed-itself (Some a) = refl
-
-names-itself : (names : NamedElements) → renamed_names (λ i. i) names ≡ names
-names-itself names = rw (renamed-itself names.first, renamed-itself names.second) refl
-
 stages-itself : (ts : List Stage) → map (renamed_stage (λ i. i)) ts ≡ ts
 stages-itself [] = refl
 stages-itself (t ∷ ts) =
-    ap (λ n. record t { names = n } ∷ map (renamed_stage (λ i. i)) ts) (names-itself t.names) ∙ ap (λ us. t ∷ us) (stages-itself ts)
+    ap (λ n. record t { names = n } ∷ map (renamed_stage (λ i. i)) ts) (names-not_renamed t.names) ∙ ap (λ us. t ∷ us) (stages-itself ts)
 
 rise-back : (f : ElementId → ElementId) (low last : ℕ) (ts : List Stage) → RiseTo low last (map (renamed_stage f) ts) → RiseTo low last ts
 rise-back f low last [] h = h
@@ -74,17 +67,20 @@ module _ (last s c : ℕ) (f : ElementId → ElementId) (t : Stage) (ts : List S
       a = alike-itself (client_of last doc (map (renamed_stage f) (t ∷ ts))) (named-of last doc (map (renamed_stage f) (t ∷ ts)) h)
 
       e : AckedEdits last 0 ts ts (ack_stages s c f (t ∷ []) doc) (ack_stages s c f (t ∷ []) doc)
-      e = edit-alike last s c 0 ts ts f f (t ∷ []) (t ∷ []) doc doc refl a.doc (one-edit doc doc _ _ a.pending) (put-in-back f (t ∷ ts) doc h.own) (rise-back f 0 last (t ∷ ts) h.rise)
+      e = edit-alike last s c 0 ts ts f f (t ∷ []) (t ∷ []) doc doc refl a.doc (one-edit doc doc _ _ a.pending)
+          (put-in-back f (t ∷ ts) doc h.own) (rise-back f 0 last (t ∷ ts) h.rise)
 
 -- ---- the stages of an edit
 
-same-count : (k last s c : ℕ) (list : Sequence) (j : ℕ) → IsWellNumbered last list → k < j → len (is_inserted_by j) (acked_list k s c list).items ≡ len (is_inserted_by j) list.items
+same-count : (k last s c : ℕ) (list : Sequence) (j : ℕ) → IsWellNumbered last list → k < j
+    → len (is_inserted_by j) (acked_list k s c list).items ≡ len (is_inserted_by j) list.items
 same-count k last s c list j w l = stage-count last k s c list w j false (apart j l)
   where
     apart : (j : ℕ) → k < j → nat_eq j k ≡ false
     apart j l = grind (arith, nat_tests)
 
-one-counted : (last s c : ℕ) (f : ElementId → ElementId) (t : Stage) (doc : Document) (j : ℕ) (o : SubOperation) → IsWellNumbered last doc.rows → IsWellNumbered last doc.cols → t.stage < j
+one-counted : (last s c : ℕ) (f : ElementId → ElementId) (t : Stage) (doc : Document) (j : ℕ) (o : SubOperation)
+    → IsWellNumbered last doc.rows → IsWellNumbered last doc.cols → t.stage < j
     → IsCounted doc j o → IsCounted (ack_stage s c f t doc) j o
 one-counted last s c f t doc j (OnText op) w v l g = tt
 one-counted last s c f t doc j (OnIntervals op) w v l g = tt
@@ -93,7 +89,8 @@ one-counted last s c f t doc j (OnGrid (SpliceIn Cols i count)) w v l g = same-c
 one-counted last s c f t doc j (OnGrid (SpliceOut target i n)) w v l g = tt
 one-counted last s c f t doc j (OnGrid (Set i n value)) w v l g = tt
 
-later-counted : (last s c : ℕ) (f : ElementId → ElementId) (t : Stage) (doc : Document) (low : ℕ) (ts rest : List Stage) → IsWellNumbered last doc.rows → IsWellNumbered last doc.cols
+later-counted : (last s c : ℕ) (f : ElementId → ElementId) (t : Stage) (doc : Document) (low : ℕ) (ts rest : List Stage)
+    → IsWellNumbered last doc.rows → IsWellNumbered last doc.cols
     → t.stage ≤ low → RiseTo low last (ts ++ rest) → AllByRecursion (λ (u : Stage). IsCounted doc u.stage u.sub_operation) ts
     → AllByRecursion (λ (u : Stage). IsCounted (ack_stage s c f t doc) u.stage u.sub_operation) ts
 later-counted last s c f t doc low [] rest w v l r a = tt
@@ -107,12 +104,14 @@ lowest-stages doc k low last (t ∷ ts) l r =
     let m = r.0 in
     step (is_grid_stage t) (omega (arith, l, m)) (lowest-stages doc k t.stage last ts (omega (arith, l, m)) r.1)
   where
-    step : (b : Bool) → k ≤ t.stage → AllByRecursion (λ u. k ≤ u.stage) (grid_stages doc ts) → AllByRecursion (λ u. k ≤ u.stage) (cond b (indexed_stage doc t ∷ grid_stages doc ts) (grid_stages doc ts))
+    step : (b : Bool) → k ≤ t.stage → AllByRecursion (λ u. k ≤ u.stage) (grid_stages doc ts)
+        → AllByRecursion (λ u. k ≤ u.stage) (cond b (indexed_stage doc t ∷ grid_stages doc ts) (grid_stages doc ts))
     step true g a = (g, a)
     step false g a = a
 
 module _ (last s c : ℕ) (doc : Document) (mine rest : List Stage) where
-  pub none-acked-yet : (g : GridState) → AreWellNamed last doc (mine ++ rest) → HoldsGrid g doc (mine ++ rest) → AreCounted doc mine → AcksSome last s c g doc mine mine rest
+  pub none-acked-yet : (g : GridState) → AreWellNamed last doc (mine ++ rest) → HoldsGrid g doc (mine ++ rest) → AreCounted doc mine
+      → AcksSome last s c g doc mine mine rest
   none-acked-yet g w h n = record {
     between = doc;
     rename = λ i. i;
@@ -154,11 +153,12 @@ module _ (last s c : ℕ) (doc : Document) (mine rest : List Stage) where
           holds = subst (λ us. HoldsGrid new later us) (stages-twice p.rename (acked_id t.stage k) (ts ++ rest))
               (subst (λ d. HoldsGrid new d (map (renamed_stage (acked_id t.stage k)) (map (renamed_stage p.rename) (ts ++ rest)))) same g);
           same = p.same;
-          counted = later-counted last s c p.rename t p.between t.stage ts rest p.named.rows p.named.cols (omega arith) (rise-back p.rename t.stage last (ts ++ rest) p.named.rise.1) p.counted.1;
+          counted = later-counted last s c p.rename t p.between t.stage ts rest p.named.rows p.named.cols (omega arith)
+              (rise-back p.rename t.stage last (ts ++ rest) p.named.rise.1) p.counted.1;
         }
       where
         same-stage : ack_stage s c (λ i. i) (renamed_stage p.rename t) p.between ≡ ack_stage s c p.rename t p.between
-        same-stage = rw (names-itself (renamed_names p.rename t.names)) refl
+        same-stage = rw (names-not_renamed (renamed_names p.rename t.names)) refl
 
   pub all-acked : (g : GridState) → AcksSome last s c g doc mine [] rest → HoldsAckedGrid g s c mine rest doc
   all-acked g p =
@@ -173,7 +173,8 @@ pub record IsNextStage (mine : List Stage) (i : ℕ) (x : OwnStage) : Type 0 whe
   pub after : drop (i + 1) mine ≡ left
   pub number : stage.stage ≡ x.stage
 
-pub next-stage : (mine : List Stage) (own : List OwnStage) (i : ℕ) (x : OwnStage) (more : List OwnStage) → map own_stage mine ≡ own → drop i own ≡ x ∷ more → IsNextStage mine i x
+pub next-stage : (mine : List Stage) (own : List OwnStage) (i : ℕ) (x : OwnStage) (more : List OwnStage) → map own_stage mine ≡ own
+    → drop i own ≡ x ∷ more → IsNextStage mine i x
 next-stage [] own i x more e d = absurd (none i (ap (drop i) e ∙ d))
   where
     none : (i : ℕ) → drop i [] ≡ x ∷ more → ⊥
@@ -209,7 +210,8 @@ module _ (last s c : ℕ) (doc : Document) (mine rest : List Stage) (own : List 
   AcksNext new = (last : ℕ) (doc : Document) (t : Stage) (rest : List Stage) → t.stage ≡ x.stage → AreWellNamed last doc (t ∷ rest) → AreCounted doc (t ∷ [])
       → HoldsGrid old doc (t ∷ rest) → HoldsAckedGrid new s c (t ∷ []) rest doc
 
-  pub acked-next : (new : GridState) → AcksNext new → AcksSome last s c old doc mine (drop i mine) rest → AcksSome last s c new doc mine (drop (i + 1) mine) rest
+  pub acked-next : (new : GridState) → AcksNext new → AcksSome last s c old doc mine (drop i mine) rest
+      → AcksSome last s c new doc mine (drop (i + 1) mine) rest
   acked-next new f p =
       let q = subst (λ ts. AcksSome last s c old doc mine ts rest) at-place.is p in
       subst (λ ts. AcksSome last s c new doc mine ts rest) (sym at-place.after)
@@ -225,7 +227,8 @@ none-behind (t ∷ mine) own zero e d =
     (cc)
 none-behind (t ∷ mine) own (suc i) e d = none-behind mine (map own_stage mine) i refl (ap (drop (suc i)) e ∙ d)
 
-pub acked-last : (last s c : ℕ) (doc : Document) (mine rest : List Stage) (own : List OwnStage) (i : ℕ) (g : GridState) → map own_stage mine ≡ own → drop i own ≡ []
+pub acked-last : (last s c : ℕ) (doc : Document) (mine rest : List Stage) (own : List OwnStage) (i : ℕ) (g : GridState)
+    → map own_stage mine ≡ own → drop i own ≡ []
     → AcksSome last s c g doc mine (drop i mine) rest → HoldsAckedGrid g s c mine rest doc
 acked-last last s c doc mine rest own i g e d p = all-acked last s c doc mine rest g (subst (λ ts. AcksSome last s c g doc mine ts rest) (none-behind mine own i e d) p)
 
@@ -239,7 +242,8 @@ no-fewer k last (t ∷ mine) rest r =
     let m = no-fewer t.stage last mine rest r.1 in
     omega (arith, l, m)
 
-in-a-row : (k last : ℕ) (mine rest : List Stage) → RiseTo k last (mine ++ rest) → last_from k (map own_stage mine) ≤ k + length mine → map (λ t. t.stage) mine ≡ numbers_from (k + 1) (length mine)
+in-a-row : (k last : ℕ) (mine rest : List Stage) → RiseTo k last (mine ++ rest) → last_from k (map own_stage mine) ≤ k + length mine
+    → map (λ t. t.stage) mine ≡ numbers_from (k + 1) (length mine)
 in-a-row k last [] rest r h = refl
 in-a-row k last (t ∷ mine) rest r h =
     let l = r.0 in
@@ -252,7 +256,8 @@ stage-length : (ts : List Stage) → length (map own_stage ts) ≡ length ts
 stage-length [] = refl
 stage-length (t ∷ ts) = ap suc (stage-length ts)
 
-pub row-numbers : (last : ℕ) (mine rest : List Stage) (own : List OwnStage) (first : OwnStage) → map own_stage mine ≡ own → slice_get own 0 ≡ Some first → RiseTo 0 last (mine ++ rest)
+pub row-numbers : (last : ℕ) (mine rest : List Stage) (own : List OwnStage) (first : OwnStage) → map own_stage mine ≡ own
+    → slice_get own 0 ≡ Some first → RiseTo 0 last (mine ++ rest)
     → last_from 0 own - first.stage < length own → map (λ t. t.stage) mine ≡ numbers_from first.stage (length own)
 row-numbers last [] rest own first n e r h =
     let never : None ≡ Some first = ap (λ xs. slice_get xs 0) n ∙ e in
@@ -271,7 +276,8 @@ row-numbers last (t ∷ mine) rest own first n e r h =
     under a b n e f g h k = omega (arith, e, f, g, h, k)
 
 -- the first is the lowest
-pub row-lowest : (last s c : ℕ) (doc : Document) (mine rest : List Stage) (own : List OwnStage) (first : OwnStage) (g : GridState) → map own_stage mine ≡ own → slice_get own 0 ≡ Some first
+pub row-lowest : (last s c : ℕ) (doc : Document) (mine rest : List Stage) (own : List OwnStage) (first : OwnStage) (g : GridState)
+    → map own_stage mine ≡ own → slice_get own 0 ≡ Some first
     → AreWellNamed last doc (mine ++ rest) → HoldsGrid g doc (mine ++ rest) → AreCounted doc mine → All (λ u. first.stage ≤ u.stage) g.stages
 row-lowest last s c doc [] rest own first g n e w h a =
     let never : None ≡ Some first = ap (λ xs. slice_get xs 0) n ∙ e in

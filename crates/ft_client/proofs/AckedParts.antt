@@ -31,14 +31,18 @@ use Rattle.ft_client.proofs.Known.{client-sound, cols-changes, cols-marks, held-
 -- ---- one part
 
 pub on-text : {E : Type 0} (r : Result (Unit {0}) E) (own : List OwnStage) (s c : ℕ) (old new : TreeOwn) → list_all (λ t. is_text_part t.part) own ≡ true
-    → ((last : ℕ) (doc : Document) (mine rest : List Stage) → AreOldest 1 (1 + last_from 0 own) mine rest → IsTextSound last doc (mine ++ rest) → HoldsText old.text doc (mine ++ rest)
-    → OnOk r (HoldsAcked new.text s c mine rest doc)) → OnOk r (KeepsText old.text new.text) → new ≡ record old { text = new.text } → OnOk r (AcksPart own s c old new)
+    → ((last : ℕ) (doc : Document) (mine rest : List Stage) → AreOldest 1 (1 + last_from 0 own) mine rest
+    → IsTextSound last doc (mine ++ rest) → HoldsText old.text doc (mine ++ rest)
+    → OnOk r (HoldsAcked new.text s c mine rest doc)) → OnOk r (KeepsText old.text new.text) → new ≡ record old { text = new.text } → OnOk
+    r (AcksPart own s c old new)
 on-text (Ok u) own s c old new h f k e = acks_text h (λ last doc mine rest a i t. f last doc mine rest a i t) k e
 on-text (Err x) own s c old new h f k e = tt
 
 pub on-grid : {E : Type 0} (r : Result (Unit {0}) E) (own : List OwnStage) (s c : ℕ) (old new : TreeOwn) → list_all (λ t. is_grid_part t.part) own ≡ true
-    → ((last : ℕ) (doc : Document) (mine rest : List Stage) → map own_stage mine ≡ own → AreWellNamed last doc (mine ++ rest) → AreCounted doc mine → HoldsGrid old.table doc (mine ++ rest)
-    → OnOk r (HoldsAckedGrid new.table s c mine rest doc)) → OnOk r (KeepsGrid old.table new.table) → new ≡ record old { table = new.table } → OnOk r (AcksPart own s c old new)
+    → ((last : ℕ) (doc : Document) (mine rest : List Stage) → map own_stage mine ≡ own → AreWellNamed last doc (mine ++ rest)
+    → AreCounted doc mine → HoldsGrid old.table doc (mine ++ rest)
+    → OnOk r (HoldsAckedGrid new.table s c mine rest doc)) → OnOk r (KeepsGrid old.table new.table) → new
+    ≡ record old { table = new.table } → OnOk r (AcksPart own s c old new)
 on-grid (Ok u) own s c old new h f k e = acks_grid h (λ last doc mine rest n w a t. f last doc mine rest n w a t) k e
 on-grid (Err x) own s c old new h f k e = tt
 
@@ -50,9 +54,11 @@ record IsFront (ts us : List Stage) : Type 0 where
   pub is : us ≡ ts ++ behind
 
 counted-front : (doc : Document) (ts us : List Stage) → AreCounted doc (ts ++ us) → AreCounted doc ts
-counted-front doc ts us h = All-from_recursion (λ (t : Stage). IsCounted doc t.stage t.sub_operation) ts (front ts (recursion_from_All (λ (t : Stage). IsCounted doc t.stage t.sub_operation) (ts ++ us) h))
+counted-front doc ts us h = All-from_recursion (λ (t : Stage). IsCounted doc t.stage t.sub_operation) ts
+    (front ts (recursion_from_All (λ (t : Stage). IsCounted doc t.stage t.sub_operation) (ts ++ us) h))
   where
-    front : (vs : List Stage) → AllByRecursion (λ t. IsCounted doc t.stage t.sub_operation) (vs ++ us) → AllByRecursion (λ t. IsCounted doc t.stage t.sub_operation) vs
+    front : (vs : List Stage) → AllByRecursion (λ t. IsCounted doc t.stage t.sub_operation) (vs ++ us)
+        → AllByRecursion (λ t. IsCounted doc t.stage t.sub_operation) vs
     front [] g = tt
     front (v ∷ vs) g = (g.0, front vs g.1)
 
@@ -76,13 +82,15 @@ module _ (s : TreeOwn) (entry : Entry) (count : ℕ) (known : HoldsOne HoldsTree
   oldest-one [] h = refl
   oldest-one (e ∷ es) h = of-one e (both (is_one_operation e) (list_all is_one_operation es) h).0
 
-  pub one-part : (own : List OwnStage) → own ≡ take count s.stages.items → list_all (λ t. is_text_part t.part) own ≡ false → list_all (λ t. is_grid_part t.part) own ≡ true
+  pub one-part : (own : List OwnStage) → own ≡ take count s.stages.items → list_all (λ t. is_text_part t.part) own ≡ false
+      → list_all (λ t. is_grid_part t.part) own ≡ true
   one-part own o none =
       let f = oldest-first p.pending in
       let front = taken-are s.stages.items (stages_of p) (oldest_stages p.pending) f.behind count known.document.stages f.is known.fits.2 in
       or-grid own (subst (λ ts. are_of_one_edit ts ≡ true) (sym (o ∙ front)) (oldest-one p.pending (is-ready known.start p known.made).edits)) none
 
-  pub oldest-text : (own : List OwnStage) → own ≡ take count s.stages.items → list_all (λ t. is_text_part t.part) own ≡ true → HoldsOldest p.last_stage 1 (1 + last_from 0 own) s.text
+  pub oldest-text : (own : List OwnStage) → own ≡ take count s.stages.items → list_all (λ t. is_text_part t.part) own ≡ true
+      → HoldsOldest p.last_stage 1 (1 + last_from 0 own) s.text
   oldest-text own o h =
       let c = cut (stages_of p) count known.fits.1 in
       let front = taken-are s.stages.items (stages_of p) c.front c.behind count known.document.stages c.is c.counted in
@@ -113,7 +121,8 @@ module _ (s : TreeOwn) (entry : Entry) (count : ℕ) (known : HoldsOne HoldsTree
 
   -- ---- and after it
   pub own-acked : (own : List OwnStage) (before mid new : TreeOwn) → before ≡ record s { stages = before.stages } → own ≡ take count s.stages.items
-      → new.stages.items ≡ drop count s.stages.items → AcksPart own entry.msg.seq entry.origin before mid → new ≡ record mid { stages = new.stages; numbers = new.numbers }
+      → new.stages.items ≡ drop count s.stages.items → AcksPart own entry.msg.seq entry.origin before mid
+      → new ≡ record mid { stages = new.stages; numbers = new.numbers }
       → new.numbers ≡ record mid.numbers { number = entry.msg.seq; minimum = entry.msg.min }
       → (held : HeldDocument) (mine rest : List Stage) → NamesFit held → held.stages ≡ mine ++ rest → length mine ≡ count → HoldsTree s held
       → HoldsTree new (acknowledged entry mine rest held)
@@ -125,9 +134,12 @@ module _ (s : TreeOwn) (entry : Entry) (count : ℕ) (known : HoldsOne HoldsTree
       let text : new.text ≡ mid.text = ap (λ (x : TreeOwn). x.text) u in
       let acked = f held.last held.doc mine rest
       (subst (λ ts. AreOldest 1 (1 + last_from 0 ts) mine rest) (sym (o ∙ front)) (are-oldest held.last mine rest (subst (λ ts. RiseTo 0 held.last ts) parts named.rise) on))
-      (subst (λ ts. IsTextSound held.last held.doc ts) parts sound) (subst (λ t. HoldsText t held.doc (mine ++ rest)) (sym (ap (λ (x : TreeOwn). x.text) b)) (subst (λ ts. HoldsText s.text held.doc ts) parts holds.text)) in
+      (subst (λ ts. IsTextSound held.last held.doc ts) parts sound)
+      (subst (λ t. HoldsText t held.doc (mine ++ rest)) (sym (ap (λ (x : TreeOwn). x.text) b))
+      (subst (λ ts. HoldsText s.text held.doc ts) parts holds.text)) in
       text-acked s new held named holds entry mine rest parts (l ∙ behind)
-      (numbers ∙ ap (λ (x : TreeOwn). record x.numbers { number = entry.msg.seq; minimum = entry.msg.min }) same ∙ ap (λ (x : TreeOwn). record x.numbers { number = entry.msg.seq; minimum = entry.msg.min }) b) on
+      (numbers ∙ ap (λ (x : TreeOwn). record x.numbers { number = entry.msg.seq; minimum = entry.msg.min }) same
+      ∙ ap (λ (x : TreeOwn). record x.numbers { number = entry.msg.seq; minimum = entry.msg.min }) b) on
       (record {
         marks = rows-marks known.start p known.made s known.low known.document held named holds;
         changes = rows-changes known.start p known.made s known.low known.document held named holds;
@@ -149,7 +161,8 @@ module _ (s : TreeOwn) (entry : Entry) (count : ℕ) (known : HoldsOne HoldsTree
       (counted-front held.doc mine rest (subst (AreCounted held.doc) parts (held-counted known.start p known.made s known.low known.document held named holds)))
       (subst (λ g. HoldsGrid g held.doc (mine ++ rest)) (sym (ap (λ (x : TreeOwn). x.table) b)) (subst (λ ts. HoldsGrid s.table held.doc ts) parts holds.table)) in
       grid-acked s new held named holds entry mine rest parts (l ∙ behind)
-      (numbers ∙ ap (λ (x : TreeOwn). record x.numbers { number = entry.msg.seq; minimum = entry.msg.min }) same ∙ ap (λ (x : TreeOwn). record x.numbers { number = entry.msg.seq; minimum = entry.msg.min }) b) on sound
+      (numbers ∙ ap (λ (x : TreeOwn). record x.numbers { number = entry.msg.seq; minimum = entry.msg.min }) same
+      ∙ ap (λ (x : TreeOwn). record x.numbers { number = entry.msg.seq; minimum = entry.msg.min }) b) on sound
       (subst (λ g. HoldsAckedGrid g entry.msg.seq entry.origin mine rest held.doc) (sym table) acked)
       (subst (KeepsGrid s.table) (sym table) (subst (λ g. KeepsGrid g mid.table) (ap (λ (x : TreeOwn). x.table) b) k))
       (ap (λ (x : TreeOwn). x.text) u ∙ ap (λ (x : TreeOwn). x.text) same ∙ ap (λ (x : TreeOwn). x.text) b)

@@ -27,6 +27,7 @@ use Rattle.ft_string.specs.State.{KeepsRest as KeepsText, TextState}
 use Rattle.ft_matrix.specs.Conditions.{KeepsRest as KeepsGrid}
 use Rattle.ft_matrix.specs.GridStates.{GridState}
 use Rattle.ft_matrix.specs.HoldsGrid.{HoldsGrid}
+use Rattle.ft_named.proofs.Lists.{map-append}
 use Rattle.ft_client.specs.declared.own.TreeOwn.{TreeOwn}
 use Rattle.ft_client.specs.declared.stages.OwnStage.{OwnStage}
 use Rattle.ft_client.specs.Acks.{HoldsAckedGrid, last_from}
@@ -55,7 +56,8 @@ grid-parts (t ∷ ts) h =
     let p = both (is_grid_part (part_of t.sub_operation)) (list_all (λ (t : OwnStage). is_grid_part t.part) (map own_stage ts)) h in
     rw (one t.sub_operation t.names p.0, grid-parts ts p.1) refl
   where
-    one : (o : SubOperation) (names : NamedElements) → is_grid_part (part_of o) ≡ true → is_grid_stage (record { stage = t.stage; sub_operation = o; names = names }) ≡ true
+    one : (o : SubOperation) (names : NamedElements) → is_grid_part (part_of o) ≡ true
+        → is_grid_stage (record { stage = t.stage; sub_operation = o; names = names }) ≡ true
     one (OnGrid op) names g = refl
     one (OnText op) names g = (cc)
     one (OnIntervals op) names g = (cc)
@@ -64,7 +66,8 @@ grid-parts (t ∷ ts) h =
 abbrev LeavesKinds : (SubOperation → Bool) → (SubOperation → Bool) → (SubOperation → Bool) → Stage → Type 0
 LeavesKinds i r a t = (i t.sub_operation ≡ false) × (r t.sub_operation ≡ false) × (a t.sub_operation ≡ false)
 
-text-kinds : (target : Target) (ts : List Stage) → list_all (λ t. is_on_text t.sub_operation) ts ≡ true → Each (LeavesKinds (inserts_in target) (removes_in target) no_kind) ts
+text-kinds : (target : Target) (ts : List Stage) → list_all (λ t. is_on_text t.sub_operation) ts ≡ true
+    → Each (LeavesKinds (inserts_in target) (removes_in target) no_kind) ts
 text-kinds target [] h = tt
 text-kinds target (t ∷ ts) h =
     let p = both (is_on_text t.sub_operation) (list_all (λ (t : Stage). is_on_text t.sub_operation) ts) h in
@@ -103,7 +106,8 @@ module _ (f : ElementId → ElementId) (doc : Document) where
   abbrev pub KeepsNames : Sequence → Type 0
   KeepsNames list = (o : Option ElementId) → StandsIn list.items o → renamed f o ≡ o
 
-  pub grid-renamed : KeepsNames doc.rows → KeepsNames doc.cols → (ts : List Stage) → AreStagesNamed doc ts → grid_stages doc (map (renamed_stage f) ts) ≡ grid_stages doc ts
+  pub grid-renamed : KeepsNames doc.rows → KeepsNames doc.cols → (ts : List Stage) → AreStagesNamed doc ts
+      → grid_stages doc (map (renamed_stage f) ts) ≡ grid_stages doc ts
   grid-renamed rows cols [] h = refl
   grid-renamed rows cols (t ∷ ts) h = step t.sub_operation t.names h.0.0 (grid-renamed rows cols ts h.1)
     where
@@ -172,10 +176,13 @@ module _ (old new : TreeOwn) (held : HeldDocument) (named : NamesFit held) (h : 
 
   pub text-acked : list_all (λ t. is_on_text t.sub_operation) own ≡ true → ListFacts (inserts_in Rows) (removes_in Rows) no_kind held.stages held.doc.rows.items
       → ListFacts (inserts_in Cols) (removes_in Cols) no_kind held.stages held.doc.cols.items
-      → HoldsAcked new.text entry.msg.seq entry.origin own rest held.doc → KeepsText old.text new.text → new.table ≡ old.table → HoldsTree new (acknowledged entry own rest held)
+      → HoldsAcked new.text entry.msg.seq entry.origin own rest held.doc → KeepsText old.text new.text → new.table ≡ old.table
+      → HoldsTree new (acknowledged entry own rest held)
   text-acked on r c t keeps table =
-      let rows = own-unmarked (inserts_in Rows) (removes_in Rows) no_kind held.stages held.doc.rows.items r.marks r.changes 0 held.last own rest parts named.rise (text-kinds Rows own on) in
-      let cols = own-unmarked (inserts_in Cols) (removes_in Cols) no_kind held.stages held.doc.cols.items c.marks c.changes 0 held.last own rest parts named.rise (text-kinds Cols own on) in
+      let rows = own-unmarked (inserts_in Rows) (removes_in Rows) no_kind held.stages held.doc.rows.items r.marks r.changes 0 held.last own
+      rest parts named.rise (text-kinds Rows own on) in
+      let cols = own-unmarked (inserts_in Cols) (removes_in Cols) no_kind held.stages held.doc.cols.items c.marks c.changes 0 held.last own
+      rest parts named.rise (text-kinds Cols own on) in
       let after = with_numbers entry acked.0 in
       let stages = map (renamed_stage acked.1) rest in
       record {
@@ -198,10 +205,12 @@ module _ (old new : TreeOwn) (held : HeldDocument) (named : NamesFit held) (h : 
         };
       }
 
-  pub grid-acked : list_all is_grid_stage own ≡ true → IsTextSound held.last held.doc held.stages → HoldsAckedGrid new.table entry.msg.seq entry.origin own rest held.doc
+  pub grid-acked : list_all is_grid_stage own ≡ true → IsTextSound held.last held.doc held.stages
+      → HoldsAckedGrid new.table entry.msg.seq entry.origin own rest held.doc
       → KeepsGrid old.table new.table → new.text ≡ old.text → HoldsTree new (acknowledged entry own rest held)
   grid-acked on sound g keeps text =
-      let marked = own-unmarked inserts_text removes_text annotates_text held.stages held.doc.text.items sound.place.marks sound.changes 0 held.last own rest parts named.rise (grid-kinds own on) in
+      let marked = own-unmarked inserts_text removes_text annotates_text held.stages held.doc.text.items sound.place.marks sound.changes 0
+      held.last own rest parts named.rise (grid-kinds own on) in
       let stays = text-stays entry.msg.seq entry.origin own (λ i. i) held.doc marked on named.text.once (ends-stand held.doc.text.items held.doc.intervals sound.ends) in
       let after = with_numbers entry acked.0 in
       let stages = map (renamed_stage acked.1) rest in
@@ -226,21 +235,19 @@ module _ (old new : TreeOwn) (held : HeldDocument) (named : NamesFit held) (h : 
 
 -- ---- the first stages
 
-map-more : {A B : Type 0} (f : A → B) (xs ys : List A) → map f (xs ++ ys) ≡ map f xs ++ map f ys
-map-more f [] ys = refl
-map-more f (x ∷ xs) ys = ap (λ zs. f x ∷ zs) (map-more f xs ys)
-
 map-length : {A B : Type 0} (f : A → B) (xs : List A) → length (map f xs) ≡ length xs
 map-length f [] = refl
 map-length f (x ∷ xs) = ap suc (map-length f xs)
 
-pub taken-are : (items : List OwnStage) (stages own rest : List Stage) (count : ℕ) → items ≡ map own_stage stages → stages ≡ own ++ rest → length own ≡ count → take count items ≡ map own_stage own
+pub taken-are : (items : List OwnStage) (stages own rest : List Stage) (count : ℕ) → items ≡ map own_stage stages → stages ≡ own ++ rest
+    → length own ≡ count → take count items ≡ map own_stage own
 taken-are items stages own rest count e p n =
-    ap (take count) (e ∙ ap (map own_stage) p ∙ map-more own_stage own rest) ∙ take_at (map own_stage own) (map own_stage rest) count (map-length own_stage own ∙ n)
+    ap (take count) (e ∙ ap (map own_stage) p ∙ map-append own_stage own rest) ∙ take_at (map own_stage own) (map own_stage rest) count (map-length own_stage own ∙ n)
 
-pub left-are : (items : List OwnStage) (stages own rest : List Stage) (count : ℕ) → items ≡ map own_stage stages → stages ≡ own ++ rest → length own ≡ count → drop count items ≡ map own_stage rest
+pub left-are : (items : List OwnStage) (stages own rest : List Stage) (count : ℕ) → items ≡ map own_stage stages → stages ≡ own ++ rest
+    → length own ≡ count → drop count items ≡ map own_stage rest
 left-are items stages own rest count e p n =
-    ap (drop count) (e ∙ ap (map own_stage) p ∙ map-more own_stage own rest) ∙ drop_at (map own_stage own) (map own_stage rest) count (map-length own_stage own ∙ n)
+    ap (drop count) (e ∙ ap (map own_stage) p ∙ map-append own_stage own rest) ∙ drop_at (map own_stage own) (map own_stage rest) count (map-length own_stage own ∙ n)
 
 -- a list in two
 pub record IsCut {A : Type 0} (xs : List A) (count : ℕ) : Type 0 where

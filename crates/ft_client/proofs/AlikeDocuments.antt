@@ -44,11 +44,13 @@ all-twins test other f (next {x = x} {y = y} {xs = xs} t ts) h =
     let p = both (test x) (list_all test xs) h in
     rw (sym (f x y t) ∙ p.0, all-twins test other f ts p.1) refl
 
-each-twins : (P Q : ListElement → Type 0) → ((x y : ListElement) → IsTwin x y → P x → Q y) → {xs ys : List ListElement} → BesideList IsTwin xs ys → Each P xs → Each Q ys
+each-twins : (P Q : ListElement → Type 0) → ((x y : ListElement) → IsTwin x y → P x → Q y) → {xs ys : List ListElement}
+    → BesideList IsTwin xs ys → Each P xs → Each Q ys
 each-twins P Q f ends h = tt
 each-twins P Q f (next {x = x} {y = y} t ts) h = (f x y t h.0, each-twins P Q f ts h.1)
 
-block-twins : (props : PropertyList) (cs : List ElementContent) {xs ys : List ListElement} → BesideList IsTwin xs ys → IsBlockOf props cs xs → IsBlockOf props cs ys
+block-twins : (props : PropertyList) (cs : List ElementContent) {xs ys : List ListElement} → BesideList IsTwin xs ys
+    → IsBlockOf props cs xs → IsBlockOf props cs ys
 block-twins props [] ends h = tt
 block-twins props [] (next t ts) h = (cc)
 block-twins props (c ∷ cs) ends h = (cc)
@@ -100,7 +102,8 @@ module _ (last : ℕ) (p q : Document) (h : DocsAlike last p q) {ts us : List St
   noted-alike kind (m ∷ ms) = rw (stage_of-alike kind m.0, noted-alike kind ms) refl
 
   pub changes-carried : (kind : SubOperation → Bool) {xs ys : List ListElement} → BesideList IsTwin xs ys
-      → list_all (λ e. list_all (λ m. is_stage_of kind ts m.0) e.pending) xs ≡ true → list_all (λ e. list_all (λ m. is_stage_of kind us m.0) e.pending) ys ≡ true
+      → list_all (λ e. list_all (λ m. is_stage_of kind ts m.0) e.pending) xs ≡ true
+      → list_all (λ e. list_all (λ m. is_stage_of kind us m.0) e.pending) ys ≡ true
   changes-carried kind t m = all-twins (λ e. list_all (λ m. is_stage_of kind ts m.0) e.pending) (λ e. list_all (λ m. is_stage_of kind us m.0) e.pending)
       (λ x y t. noted-alike kind x.pending ∙ same-of (λ (e : ListElement). list_all (λ m. is_stage_of kind us m.0) e.pending) (λ e n. refl) x y t) t m
 
@@ -166,7 +169,8 @@ module _ (last : ℕ) (p q : Document) (h : DocsAlike last p q) where
     typed-carried rs g.1,
   )
 
-  counted-each : {ts us : List Stage} → StagesBeside p q ts us → AllByRecursion (λ t. IsCounted p t.stage t.sub_operation) ts → AllByRecursion (λ t. IsCounted q t.stage t.sub_operation) us
+  counted-each : {ts us : List Stage} → StagesBeside p q ts us → AllByRecursion (λ t. IsCounted p t.stage t.sub_operation) ts
+      → AllByRecursion (λ t. IsCounted q t.stage t.sub_operation) us
   counted-each ends g = tt
   counted-each (next {x = t} {y = u} r rs) g = (
     subst (λ (v : Stage). IsCounted q v.stage v.sub_operation) (sym r.rest) (counted-alike last p q h (next r rs) t.stage t.sub_operation g.0),
@@ -174,7 +178,8 @@ module _ (last : ℕ) (p q : Document) (h : DocsAlike last p q) where
   )
 
   pub counted-carried : {ts us : List Stage} → StagesBeside p q ts us → AreCounted p ts → AreCounted q us
-  counted-carried {ts} {us} b g = All-from_recursion (λ t. IsCounted q t.stage t.sub_operation) us (counted-each b (recursion_from_All (λ t. IsCounted p t.stage t.sub_operation) ts g))
+  counted-carried {ts} {us} b g = All-from_recursion (λ t. IsCounted q t.stage t.sub_operation) us
+      (counted-each b (recursion_from_All (λ t. IsCounted p t.stage t.sub_operation) ts g))
 
   pub later-carried : {xs ys : List ListElement} → BesideList IsTwin xs ys → list_all is_marked_later xs ≡ true → list_all is_marked_later ys ≡ true
   later-carried t g = all-twins is_marked_later is_marked_later (λ x y s. same-of is_marked_later (λ e n. refl) x y s) t g

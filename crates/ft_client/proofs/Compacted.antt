@@ -94,8 +94,10 @@ module _ (s : TreeOwn) (seq : ℕ) (known : HoldsOne HoldsTree s (λ p. floor p 
 
 -- ---- the whole
 
-pub compacted : (old new : TreeOwn) (low seq : ℕ) (p : NaiveClient) → floor p ≡ seq → HoldsTree old (held_by low p) → CompactsText seq new.text p.doc (stages_of p)
-    → HoldsKept seq new.table p.doc (stages_of p) → new ≡ record old { text = new.text; table = new.table } → new.text.floor ≡ seq → new.text.given ≡ 0 → new.text.usable ≡ true
+pub compacted : (old new : TreeOwn) (low seq : ℕ) (p : NaiveClient) → floor p ≡ seq → HoldsTree old (held_by low p)
+    → CompactsText seq new.text p.doc (stages_of p)
+    → HoldsKept seq new.table p.doc (stages_of p) → new ≡ record old { text = new.text; table = new.table } → new.text.floor ≡ seq
+    → new.text.given ≡ 0 → new.text.usable ≡ true
     → new.table.floor ≡ seq → new.table.given ≡ old.table.given → new.table.usable ≡ old.table.usable → Compacts HoldsTree new p
 compacted old new low seq p e h t k same text_floor text_given text_usable table_floor table_given table_usable =
     let stages = stages_of p in
@@ -112,7 +114,8 @@ compacted old new low seq p e h t k same text_floor text_given text_usable table
       };
       cells = λ row col a b. refl;
       document = record {
-        text = text-same (record p.doc { text = t.kept }) (record p.doc { text = t.kept; rows = k.kept.rows; cols = k.kept.cols }) new.text stages stages refl refl refl refl t.holds;
+        text = text-same (record p.doc { text = t.kept }) (record p.doc { text = t.kept; rows = k.kept.rows; cols = k.kept.cols }) new.text
+            stages stages refl refl refl refl t.holds;
         table = grid-same k.kept (record p.doc { text = t.kept; rows = k.kept.rows; cols = k.kept.cols }) new.table stages stages refl refl (sym cells) refl k.holds;
         stages = ap (λ (s : TreeOwn). s.stages.items) same ∙ h.stages;
         numbers = record {
@@ -139,9 +142,11 @@ compacted old new low seq p e h t k same text_floor text_given text_usable table
     at-most : {n : ℕ} → n ≡ seq → n ≤ floor p
     at-most f = omega (arith, f, e)
 
-pub all-not : (seq : ℕ) (es : List NamelessElement) → All (λ e. has_collectable_removal seq e.stamps.dels ≡ false) es → list_all (λ e. not (has_collectable_removal seq e.stamps.dels)) es ≡ true
+pub all-not : (seq : ℕ) (es : List NamelessElement) → All (λ e. has_collectable_removal seq e.stamps.dels ≡ false) es
+    → list_all (λ e. not (has_collectable_removal seq e.stamps.dels)) es ≡ true
 all-not seq es h = each es (recursion_from_All (λ (e : NamelessElement). has_collectable_removal seq e.stamps.dels ≡ false) es h)
   where
-    each : (xs : List NamelessElement) → AllByRecursion (λ e. has_collectable_removal seq e.stamps.dels ≡ false) xs → list_all (λ e. not (has_collectable_removal seq e.stamps.dels)) xs ≡ true
+    each : (xs : List NamelessElement) → AllByRecursion (λ e. has_collectable_removal seq e.stamps.dels ≡ false) xs
+        → list_all (λ e. not (has_collectable_removal seq e.stamps.dels)) xs ≡ true
     each [] g = refl
     each (x ∷ xs) g = rw (g.0, each xs g.1) refl

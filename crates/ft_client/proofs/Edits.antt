@@ -24,6 +24,7 @@ use Rattle.ft_string.specs.State.{KeepsRest as KeepsText, TextState}
 use Rattle.ft_matrix.specs.Conditions.{IsAboveAll, KeepsRest as KeepsGrid, TakesEdit as TakesGrid}
 use Rattle.ft_matrix.specs.GridStates.{GridState}
 use Rattle.ft_matrix.specs.HoldsGrid.{HoldsGrid}
+use Rattle.ft_named.proofs.Lists.{map-append}
 use Rattle.ft_client.specs.declared.own.TreeOwn.{TreeOwn}
 use Rattle.ft_client.specs.declared.stages.OwnStage.{OwnStage}
 use Rattle.ft_client.specs.declared.stages.Part.{Part}
@@ -74,19 +75,18 @@ ops-are (grid.Group ops) = refl
 
 -- ---- what is noted
 
-map-more : {A B : Type 0} (f : A → B) (xs ys : List A) → map f (xs ++ ys) ≡ map f xs ++ map f ys
-map-more f [] ys = refl
-map-more f (x ∷ xs) ys = ap (λ zs. f x ∷ zs) (map-more f xs ys)
-
 noted-stages : (first count : ℕ) (kind : Part) (before after : List OwnStage) (stages more : List Stage) → before ≡ map own_stage stages
-    → map own_stage more ≡ stages_from first (length more) kind → length more ≡ count → after ≡ before ++ stages_from first count kind → after ≡ map own_stage (stages ++ more)
+    → map own_stage more ≡ stages_from first (length more) kind → length more ≡ count → after ≡ before ++ stages_from first count kind
+    → after ≡ map own_stage (stages ++ more)
 noted-stages first count kind before after stages more e f g h =
     h ∙ ap (λ ss. ss ++ stages_from first count kind) e ∙ ap (λ n. map own_stage stages ++ stages_from first n kind) (sym g) ∙ ap (λ ss. map own_stage stages ++ ss) (sym f)
-    ∙ sym (map-more own_stage stages more)
+    ∙ sym (map-append own_stage stages more)
 
 noted-numbers : (old new mid : NumberState) (doc after : Document) (last count rows cols : ℕ) (more : List Stage) → HasNumbers old doc last
-    → after ≡ record doc { text = after.text; rows = after.rows; cols = after.cols } → count_held after.rows ≡ count_held doc.rows + rows → count_held after.cols ≡ count_held doc.cols + cols
-    → mid ≡ record old { rows = old.rows + rows; cols = old.cols + cols } → new ≡ record mid { last = mid.last + count } → mid.last + count < 2 ^ 64 → length more ≡ count
+    → after ≡ record doc { text = after.text; rows = after.rows; cols = after.cols } → count_held after.rows ≡ count_held doc.rows + rows
+    → count_held after.cols ≡ count_held doc.cols + cols
+    → mid ≡ record old { rows = old.rows + rows; cols = old.cols + cols } → new ≡ record mid { last = mid.last + count }
+    → mid.last + count < 2 ^ 64 → length more ≡ count
     → HasNumbers new after (last + length more)
 noted-numbers old new mid doc after last count rows cols more h same in_rows in_cols m n fits counted =
     let told : new ≡ record { number = old.number; minimum = old.minimum; skipped = old.skipped; other = old.other; rows = old.rows + rows; cols = old.cols + cols; last = old.last + count }
@@ -124,10 +124,12 @@ module _ (old new : TreeOwn) (held : HeldDocument) (h : HoldsTree old held) (fir
           table = subst (λ g. HoldsGrid g t.after (held.stages ++ t.more)) (sym table)
               (grid-same held.doc t.after old.table held.stages (held.stages ++ t.more) (ap (λ (d : Document). d.rows) same) (ap (λ (d : Document). d.cols) same)
               (ap (λ (d : Document). d.cells) same) (grid-apart-stages held.doc held.stages t.more texts.stages) h.table);
-          stages = noted-stages first count (text_part op) old.stages.items new.stages.items held.stages t.more h.stages (run-stages (text_part op) (on-part op) run) t.counted notes.stages;
+          stages = noted-stages first count (text_part op) old.stages.items new.stages.items held.stages t.more h.stages
+              (run-stages (text_part op) (on-part op) run) t.counted notes.stages;
           numbers = noted-numbers old.numbers new.numbers old.numbers held.doc t.after held.last count 0 0 t.more h.numbers
               (same ∙ rw (ap (λ (d : Document). d.rows) same, ap (λ (d : Document). d.cols) same) refl)
-              (ap (λ (d : Document). count_held d.rows) same ∙ no-more (count_held held.doc.rows)) (ap (λ (d : Document). count_held d.cols) same ∙ no-more (count_held held.doc.cols))
+              (ap (λ (d : Document). count_held d.rows) same ∙ no-more (count_held held.doc.rows))
+              (ap (λ (d : Document). count_held d.cols) same ∙ no-more (count_held held.doc.cols))
               (rw (sym (no-more old.numbers.rows), sym (no-more old.numbers.cols)) refl) notes.numbers notes.fits t.counted;
           settled = record {
             text = keeps.usable ∙ h.settled.text;
@@ -143,7 +145,8 @@ module _ (old new : TreeOwn) (held : HeldDocument) (h : HoldsTree old held) (fir
   refused-same : new ≡ old → HoldsTree new held
   refused-same e = subst (λ (s : TreeOwn). HoldsTree s held) (sym e) h
 
-  pub text-refused : (step : Result (Document × List Stage) EditFault) (fault : EditFault) → AnswersText new.text held.stages step (Err fault) → Leaves old.text new.text fault
+  pub text-refused : (step : Result (Document × List Stage) EditFault) (fault : EditFault)
+      → AnswersText new.text held.stages step (Err fault) → Leaves old.text new.text fault
       → new ≡ record old { text = new.text } → AnswersStages (HoldsTree new) held step (Err fault)
   text-refused step OutOfMemory a l e = tt
   text-refused step (Stopped seq) a l e = absurd l
@@ -220,7 +223,8 @@ module _ (s : TreeOwn) (first : ℕ) (known : HoldsOne HoldsTree s (λ p. p.last
   sound-before held named e h =
       subst (λ k. IsTextSound k held.doc held.stages) (before held.last first e) (held-sound known.start known.client known.made s known.low known.document held named h)
 
-pub noted-answer : (Holds : HeldDocument → Type 0) (held : HeldDocument) (step : Result (Document × List Stage) EditFault) (N : ℕ → Type 0) (r : Result ℕ EditFault)
+pub noted-answer : (Holds : HeldDocument → Type 0) (held : HeldDocument) (step : Result (Document × List Stage) EditFault) (N : ℕ → Type 0)
+    (r : Result ℕ EditFault)
     → IfOk r N → IfErr r (λ fault. fault ≡ OutOfMemory) → ((n : ℕ) → N n → AnswersStages Holds held step (Ok n)) → AnswersStages Holds held step r
 noted-answer Holds held step N (Ok n) h e f = f n h
 noted-answer Holds held step N (Err fault) h e f = subst (λ x. AnswersStages Holds held step (Err x)) (sym e) tt

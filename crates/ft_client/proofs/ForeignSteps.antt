@@ -92,10 +92,13 @@ module _ (s c r : ℕ) where
   new-sequenced n by props [] = refl
   new-sequenced n by props (b ∷ bs) = new-sequenced (n + 1) by props bs
 
-  inserted : (p count : ℕ) (list : Sequence) → len is_pending (after_insertion s c r p None [] (replicate count GridUnit) list).items ≡ len is_pending list.items
+  inserted : (p count : ℕ) (list : Sequence) → len is_pending (after_insertion s c r p None [] (replicate count GridUnit) list).items
+      ≡ len is_pending list.items
   inserted p count list =
       sums (len is_pending (after_insertion s c r p None [] (replicate count GridUnit) list).items) (len is_pending list.items)
-      (len is_pending (new_elements list.made (Acked s c) [] None [] (replicate count GridUnit))) (len-put-add is_pending (seen_by r c) is_pending p (new_elements list.made (Acked s c) [] None [] (replicate count GridUnit)) list.items)
+      (len is_pending (new_elements list.made (Acked s c) [] None [] (replicate count GridUnit)))
+      (len-put-add is_pending (seen_by r c) is_pending p (new_elements list.made (Acked s c) [] None [] (replicate count GridUnit))
+      list.items)
       (new-sequenced list.made None [] (replicate count GridUnit))
     where
       sums : (a b n : ℕ) → a ≡ n + b → n ≡ 0 → a ≡ b
@@ -130,10 +133,14 @@ module _ (s c r : ℕ) where
 
   -- no row and no column is ever made undone
   one-grows : (doc : Document) (op : CellOp) → Grows doc (effect doc s c r (OnGrid op))
-  one-grows doc (SpliceIn Rows p count) = choice (Grows doc) (nat_le p (len (seen_by r c) doc.rows.items)) _ _ (up doc.rows.made _, same doc.cols.made) (same doc.rows.made, same doc.cols.made)
-  one-grows doc (SpliceIn Cols p count) = choice (Grows doc) (nat_le p (len (seen_by r c) doc.cols.items)) _ _ (same doc.rows.made, up doc.cols.made _) (same doc.rows.made, same doc.cols.made)
-  one-grows doc (SpliceOut Rows p q) = choice (Grows doc) (nat_le q (len (seen_by r c) doc.rows.items)) _ _ (same doc.rows.made, same doc.cols.made) (same doc.rows.made, same doc.cols.made)
-  one-grows doc (SpliceOut Cols p q) = choice (Grows doc) (nat_le q (len (seen_by r c) doc.cols.items)) _ _ (same doc.rows.made, same doc.cols.made) (same doc.rows.made, same doc.cols.made)
+  one-grows doc (SpliceIn Rows p count) = choice (Grows doc) (nat_le p (len (seen_by r c) doc.rows.items)) _ _
+      (up doc.rows.made _, same doc.cols.made) (same doc.rows.made, same doc.cols.made)
+  one-grows doc (SpliceIn Cols p count) = choice (Grows doc) (nat_le p (len (seen_by r c) doc.cols.items)) _ _
+      (same doc.rows.made, up doc.cols.made _) (same doc.rows.made, same doc.cols.made)
+  one-grows doc (SpliceOut Rows p q) = choice (Grows doc) (nat_le q (len (seen_by r c) doc.rows.items)) _ _
+      (same doc.rows.made, same doc.cols.made) (same doc.rows.made, same doc.cols.made)
+  one-grows doc (SpliceOut Cols p q) = choice (Grows doc) (nat_le q (len (seen_by r c) doc.cols.items)) _ _
+      (same doc.rows.made, same doc.cols.made) (same doc.rows.made, same doc.cols.made)
   one-grows doc (Set i j value) = cell (at (seen_by r c) i doc.rows.items) (at (seen_by r c) j doc.cols.items)
     where
       cell : (o p : Option ListElement) → Grows doc (cell_effect doc o p value)
@@ -170,7 +177,8 @@ no-more n = omega arith
 
 module _ (old new : TreeOwn) (held : HeldDocument) (h : HoldsTree old held) (seq c r : ℕ) where
   pub text-applied : (op : TextOp) (skipped : ℕ) → IsApplied new.text held.doc (effects held.doc seq c r (text_sub_operations op)) held.stages skipped
-      → KeepsText old.text new.text → new ≡ record old { text = new.text; numbers = new.numbers } → new.numbers ≡ record old.numbers { skipped = old.numbers.skipped + skipped }
+      → KeepsText old.text new.text → new ≡ record old { text = new.text; numbers = new.numbers }
+      → new.numbers ≡ record old.numbers { skipped = old.numbers.skipped + skipped }
       → HoldsTree new (record held { doc = effects held.doc seq c r (text_sub_operations op) })
   text-applied op skipped a keeps rest numbers =
       let after = effects held.doc seq c r (text_sub_operations op) in
@@ -202,7 +210,8 @@ module _ (old new : TreeOwn) (held : HeldDocument) (h : HoldsTree old held) (seq
         };
       }
 
-  pub grid-applied : (op : GridOp) (skipped rows cols : ℕ) (k : ℕ) → TakesOp k new.table (effects held.doc seq c r (sub_operations (Grid op))) held.doc held.stages skipped
+  pub grid-applied : (op : GridOp) (skipped rows cols : ℕ) (k : ℕ)
+      → TakesOp k new.table (effects held.doc seq c r (sub_operations (Grid op))) held.doc held.stages skipped
       → KeepsGrid old.table new.table → new ≡ record old { table = new.table; numbers = new.numbers }
       → new.numbers ≡ record old.numbers { rows = old.numbers.rows + rows; cols = old.numbers.cols + cols; skipped = old.numbers.skipped + skipped }
       → new.table.rows_made ≡ old.table.rows_made + rows → new.table.cols_made ≡ old.table.cols_made + cols
@@ -244,7 +253,8 @@ module _ (old new : TreeOwn) (held : HeldDocument) (h : HoldsTree old held) (seq
       counts a b m n i u v e f g l = omega arith
 
 -- a message for another address is counted
-pub other-counted : (old new : TreeOwn) (held : HeldDocument) → HoldsTree old held → new ≡ record old { numbers = new.numbers } → new.numbers ≡ record old.numbers { other = old.numbers.other + 1 }
+pub other-counted : (old new : TreeOwn) (held : HeldDocument) → HoldsTree old held → new ≡ record old { numbers = new.numbers }
+    → new.numbers ≡ record old.numbers { other = old.numbers.other + 1 }
     → HoldsTree new (record held { doc = record held.doc { other = held.doc.other + 1 } })
 other-counted old new held h rest numbers = record {
   text = subst (λ s. HoldsText s (record held.doc { other = held.doc.other + 1 }) held.stages) (sym (ap (λ (s : TreeOwn). s.text) rest))
@@ -273,7 +283,8 @@ other-counted old new held h rest numbers = record {
 }
 
 -- the numbers of the message
-pub numbers-taken : (old new : TreeOwn) (held : HeldDocument) (doc : Document) (entry : Entry) → HoldsTree old (record held { doc = doc }) → new ≡ record old { numbers = new.numbers }
+pub numbers-taken : (old new : TreeOwn) (held : HeldDocument) (doc : Document) (entry : Entry) → HoldsTree old (record held { doc = doc })
+    → new ≡ record old { numbers = new.numbers }
     → new.numbers ≡ record old.numbers { number = entry.msg.seq; minimum = entry.msg.min } → HoldsTree new (record held { doc = with_numbers entry doc })
 numbers-taken old new held doc entry h rest numbers = record {
   text = subst (λ s. HoldsText s (with_numbers entry doc) held.stages) (sym (ap (λ (s : TreeOwn). s.text) rest))
@@ -310,7 +321,8 @@ op-kind msg.Noop sender body op h e = absurd (true-false (sym (ap has_body e) �
 op-kind (msg.Other word) sender body op h e = absurd (true-false (sym (ap has_body e) ∙ h))
 
 -- the floor is no higher than the reference number of an operation that isn't refused
-pub known-above : (s : TreeOwn) (entry : Entry) (op : ChannelOp) (n : ℕ) → IsWellFormedMessage entry.msg → entry.msg.body ≡ Op op → n ≡ reference_number entry.msg.ref_seq
+pub known-above : (s : TreeOwn) (entry : Entry) (op : ChannelOp) (n : ℕ) → IsWellFormedMessage entry.msg → entry.msg.body ≡ Op op
+    → n ≡ reference_number entry.msg.ref_seq
     → HoldsOne HoldsTree s (λ p. process_fault p entry ≡ None) → HoldsOne HoldsTree s (λ p. floor p ≤ n)
 known-above s entry op n formed is same k = record {
   start = k.start;

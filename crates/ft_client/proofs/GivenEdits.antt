@@ -37,7 +37,8 @@ some-of-next s again f = record {
 }
 
 -- what is sent again so far, and the pieces of the next stage, are on one part; and they are few
-pub parts-alike : (s new : TreeOwn) (again : Resent) (op : Option ChannelOp) (f : GivesNext s again) → GivesStage new f.low f.last f.doc (f.front ++ f.mine) f.t f.rest op
+pub parts-alike : (s new : TreeOwn) (again : Resent) (op : Option ChannelOp) (f : GivesNext s again)
+    → GivesStage new f.low f.last f.doc (f.front ++ f.mine) f.t f.rest op
     → (first more : ChannelOp) → again.op ≡ Some first → op ≡ Some more → are_of_one_part first more ≡ true
 parts-alike s new again op f g first more e o =
     of-one-part f.doc f.mine f.t first more (one-kind f.mine f.t f.one) (sym (ap (λ (r : Resent). r.op) f.gives.again) ∙ e) (sym g.sent ∙ o)
@@ -49,8 +50,10 @@ still-few s again f =
     let same : again.stages ≡ length (carried f.doc f.mine) = ap (λ (r : Resent). r.stages) f.gives.again in
     omega (arith, few, least, same)
 
-pub more-given : (s new : TreeOwn) (low last : ℕ) (doc : Document) (front mine : List Stage) (t : Stage) (rest : List Stage) (again v : Resent) (op : Option ChannelOp)
-    → are_of_one_edit (map own_stage (mine ++ t ∷ [])) ≡ true → GivesEdit s low last doc front mine (t ∷ rest) again → GivesStage new low last doc (front ++ mine) t rest op
+pub more-given : (s new : TreeOwn) (low last : ℕ) (doc : Document) (front mine : List Stage) (t : Stage) (rest : List Stage)
+    (again v : Resent) (op : Option ChannelOp)
+    → are_of_one_edit (map own_stage (mine ++ t ∷ [])) ≡ true → GivesEdit s low last doc front mine (t ∷ rest) again
+    → GivesStage new low last doc (front ++ mine) t rest op
     → AddsPieces again op v → GivesEdit new low last doc front (mine ++ t ∷ []) rest v
 more-given s new low last doc front mine t rest again v op one e g a = record {
   tree = subst (λ us. GivesTree new low last doc us rest) (append_assoc front mine (t ∷ [])) g.tree;
@@ -109,10 +112,12 @@ alone-taken (suc i) (t ∷ u ∷ ts) h = (cc)
 
 one-taken : (i : ℕ) (ts : List Stage) → are_of_one_edit (map own_stage ts) ≡ true → are_of_one_edit (map own_stage (take i ts)) ≡ true
 one-taken i ts h =
-    step (list_all (λ (u : OwnStage). is_elements_part u.part) (map own_stage ts)) (list_all (λ (u : OwnStage). is_grid_part u.part) (map own_stage ts)) (is_alone (map own_stage ts))
+    step (list_all (λ (u : OwnStage). is_elements_part u.part) (map own_stage ts))
+    (list_all (λ (u : OwnStage). is_grid_part u.part) (map own_stage ts)) (is_alone (map own_stage ts))
     refl refl refl h
   where
-    step : (a b c : Bool) → list_all (λ (u : OwnStage). is_elements_part u.part) (map own_stage ts) ≡ a → list_all (λ (u : OwnStage). is_grid_part u.part) (map own_stage ts) ≡ b
+    step : (a b c : Bool) → list_all (λ (u : OwnStage). is_elements_part u.part) (map own_stage ts) ≡ a
+        → list_all (λ (u : OwnStage). is_grid_part u.part) (map own_stage ts) ≡ b
         → is_alone (map own_stage ts) ≡ c → a || (b || c) ≡ true → are_of_one_edit (map own_stage (take i ts)) ≡ true
     step true b c e f g k = rw (all-taken (λ (u : OwnStage). is_elements_part u.part) i ts e) refl
     step false true c e f g k =
@@ -144,7 +149,8 @@ module _ (s now : TreeOwn) (count i : ℕ) (again : Resent) (l : i < count) (u :
         rest = drop (i + 1) k.mine ++ k.rest;
         one = subst (λ ts. are_of_one_edit (map own_stage ts) ≡ true) p.upto (one-taken (i + 1) k.mine k.one);
         few = under (length (take i k.mine)) (taken-few i k.mine);
-        gives = subst (λ us. GivesEdit now k.low k.last k.doc k.front (take i k.mine) (us ++ k.rest) again) p.is (u k.low k.last k.doc k.front k.mine k.rest k.counted k.one k.gives);
+        gives = subst (λ us. GivesEdit now k.low k.last k.doc k.front (take i k.mine) (us ++ k.rest) again) p.is
+            (u k.low k.last k.doc k.front k.mine k.rest k.counted k.one k.gives);
       }
     where
       under : (n : ℕ) → n ≤ i → n + 1 < 2 ^ 64
@@ -160,7 +166,8 @@ module _ (s now : TreeOwn) (count i : ℕ) (again : Resent) (l : i < count) (u :
       (subst (λ us. GivesEdit now low last doc front (take i mine) (us ++ rest) again) p.is (u low last doc front mine rest n one g)))
 
 pub all-given : (s now : TreeOwn) (count i : ℕ) (again : Resent) → count ≤ i → GivesUpTo s now count i again
-    → (low last : ℕ) (doc : Document) (front mine rest : List Stage) → length mine ≡ count → are_of_one_edit (map own_stage mine) ≡ true → GivesTree s low last doc front (mine ++ rest)
+    → (low last : ℕ) (doc : Document) (front mine rest : List Stage) → length mine ≡ count → are_of_one_edit (map own_stage mine) ≡ true
+    → GivesTree s low last doc front (mine ++ rest)
     → GivesEdit now low last doc front mine rest again
 all-given s now count i again l u = λ low last doc front mine rest n one g.
     let a = all-of mine i (subst (λ m. m ≤ i) (sym n) l) in
@@ -193,13 +200,15 @@ GivesEach s now counts i again = (low last : ℕ) (doc : Document) (edits : List
     → list_all (λ stages. are_of_one_edit (map own_stage stages)) edits ≡ true → GivesTree s low last doc [] (flat edits)
     → (again ≡ map (resent doc) (take i edits)) × GivesTree now low last doc (flat (take i edits)) (flat (drop i edits))
 
-one-ahead : (edits : List (List Stage)) (i : ℕ) (mine : List Stage) (rest : List (List Stage)) → list_all (λ stages. are_of_one_edit (map own_stage stages)) edits ≡ true
+one-ahead : (edits : List (List Stage)) (i : ℕ) (mine : List Stage) (rest : List (List Stage))
+    → list_all (λ stages. are_of_one_edit (map own_stage stages)) edits ≡ true
     → drop i edits ≡ mine ∷ rest → are_of_one_edit (map own_stage mine) ≡ true
 one-ahead [] zero mine rest h d = (cc)
 one-ahead [] (suc i) mine rest h d = (cc)
 one-ahead (t ∷ edits) zero mine rest h d =
     let same : t ≡ mine = (cc) in
-    subst (λ ts. are_of_one_edit (map own_stage ts) ≡ true) same (both (are_of_one_edit (map own_stage t)) (list_all (λ (ts : List Stage). are_of_one_edit (map own_stage ts)) edits) h).0
+    subst (λ ts. are_of_one_edit (map own_stage ts) ≡ true) same
+    (both (are_of_one_edit (map own_stage t)) (list_all (λ (ts : List Stage). are_of_one_edit (map own_stage ts)) edits) h).0
 one-ahead (t ∷ edits) (suc i) mine rest h d =
     one-ahead edits i mine rest (both (are_of_one_edit (map own_stage t)) (list_all (λ (ts : List Stage). are_of_one_edit (map own_stage ts)) edits) h).1 d
 
@@ -207,7 +216,8 @@ resent-more : (doc : Document) (es fs : List (List Stage)) → map (resent doc) 
 resent-more doc [] fs = refl
 resent-more doc (e ∷ es) fs = ap (λ xs. resent doc e ∷ xs) (resent-more doc es fs)
 
-module _ (s now : TreeOwn) (counts : List ℕ) (i k : ℕ) (ks : List ℕ) (again : List Resent) (d : drop i counts ≡ k ∷ ks) (u : GivesEach s now counts i again) where
+module _ (s now : TreeOwn) (counts : List ℕ) (i k : ℕ) (ks : List ℕ) (again : List Resent) (d : drop i counts ≡ k ∷ ks)
+    (u : GivesEach s now counts i again) where
   pub edit-given : GivesEdits s counts → GivesSome now k
   edit-given g =
       let n = next-edit g.edits i k ks (ap (drop i) g.counted ∙ d) in
@@ -230,7 +240,8 @@ module _ (s now : TreeOwn) (counts : List ℕ) (i k : ℕ) (ks : List ℕ) (agai
       let h = u low last doc edits e one g in
       let r = f low last doc (flat (take i edits)) n.mine (flat (drop (i + 1) edits)) n.counted (one-ahead edits i n.mine (drop (i + 1) edits) one n.is)
       (subst (λ es. GivesTree now low last doc (flat (take i edits)) (flat es)) n.is h.1) in (
-        ap (λ xs. xs ++ v ∷ []) h.0 ∙ ap (λ x. map (resent doc) (take i edits) ++ x ∷ []) r.again ∙ sym (ap (map (resent doc)) n.upto ∙ resent-more doc (take i edits) (n.mine ∷ [])),
+        ap (λ xs. xs ++ v ∷ []) h.0 ∙ ap (λ x. map (resent doc) (take i edits) ++ x ∷ []) r.again
+            ∙ sym (ap (map (resent doc)) n.upto ∙ resent-more doc (take i edits) (n.mine ∷ [])),
         subst (λ us. GivesTree new low last doc us (flat (drop (i + 1) edits)))
             (sym (ap flat n.upto ∙ flat_map-append (λ stages. stages) (take i edits) (n.mine ∷ []) ∙ ap (λ us. flat (take i edits) ++ us) (append-nil n.mine))) r.tree,
       )
@@ -240,7 +251,8 @@ counted-edits [] = refl
 counted-edits (e ∷ edits) = ap suc (counted-edits edits)
 
 pub edits-given : (s now : TreeOwn) (counts : List ℕ) (i : ℕ) (again : List Resent) → length counts ≤ i → GivesEach s now counts i again
-    → (low last : ℕ) (doc : Document) (edits : List (List Stage)) → map (λ stages. length stages) edits ≡ counts → list_all (λ stages. are_of_one_edit (map own_stage stages)) edits ≡ true
+    → (low last : ℕ) (doc : Document) (edits : List (List Stage)) → map (λ stages. length stages) edits ≡ counts
+    → list_all (λ stages. are_of_one_edit (map own_stage stages)) edits ≡ true
     → GivesTree s low last doc [] (flat edits) → (again ≡ map (resent doc) edits) × GivesTree now low last doc (flat edits) []
 edits-given s now counts i again l u = λ low last doc edits e one g.
     let a = all-of edits i (subst (λ n. n ≤ i) (sym (ap length e) ∙ counted-edits edits) l) in

@@ -61,9 +61,12 @@ module _ (s : TreeOwn) (stage : OwnStage) (f : GivesFirst s stage) where
 
   -- ---- and what they answer
   module _ (op : Option TextOp) (new : TextState) where
-    pub gives-text : ((last : ℕ) → (doc : Document) → (front : List Stage) → (mine : List Stage) → (behind : List Stage) → AreNext s.text.given stage.stage (stage.stage + 1) front mine behind
-        → IsTextSound last doc (front ++ (mine ++ behind)) → HoldsGiven s.text doc front (mine ++ behind) → option_map Text op ≡ op_of (flat_map (pieces doc) mine))
-        → ((last : ℕ) → (doc : Document) → (front : List Stage) → (mine : List Stage) → (behind : List Stage) → AreNext s.text.given stage.stage (stage.stage + 1) front mine behind
+    pub gives-text : ((last : ℕ) → (doc : Document) → (front : List Stage) → (mine : List Stage) → (behind : List Stage)
+        → AreNext s.text.given stage.stage (stage.stage + 1) front mine behind
+        → IsTextSound last doc (front ++ (mine ++ behind)) → HoldsGiven s.text doc front (mine ++ behind)
+        → option_map Text op ≡ op_of (flat_map (pieces doc) mine))
+        → ((last : ℕ) → (doc : Document) → (front : List Stage) → (mine : List Stage) → (behind : List Stage)
+        → AreNext s.text.given stage.stage (stage.stage + 1) front mine behind
         → IsTextSound last doc (front ++ (mine ++ behind)) → HoldsGiven s.text doc front (mine ++ behind) → HoldsGiven new doc (front ++ mine) behind)
         → new.given ≡ stage.stage + 1 - 1 → new.floor ≡ s.text.floor → new.usable ≡ true → GivesText stage (option_map Text op) s.text new
     gives-text a b given floor usable =
@@ -76,11 +79,14 @@ module _ (s : TreeOwn) (stage : OwnStage) (f : GivesFirst s stage) where
         }
 
   module _ (op : Option GridOp) (new : GridState) where
-    pub gives-grid : ((last : ℕ) (doc : Document) (before mine rest : List Stage) → AreWellNamed last doc (before ++ (mine ++ rest)) → HoldsGrid s.table doc (before ++ (mine ++ rest))
+    pub gives-grid : ((last : ℕ) (doc : Document) (before mine rest : List Stage) → AreWellNamed last doc (before ++ (mine ++ rest))
+        → HoldsGrid s.table doc (before ++ (mine ++ rest))
         → map (λ t. t.stage) mine ≡ numbers_from stage.stage 1 → list_all is_grid_stage mine ≡ true → option_map Grid op ≡ op_of (flat_map (pieces doc) mine))
-        → ((last : ℕ) (doc : Document) (before mine rest : List Stage) → AreWellNamed last doc (before ++ (mine ++ rest)) → HoldsGrid s.table doc (before ++ (mine ++ rest))
+        → ((last : ℕ) (doc : Document) (before mine rest : List Stage) → AreWellNamed last doc (before ++ (mine ++ rest))
+        → HoldsGrid s.table doc (before ++ (mine ++ rest))
         → map (λ t. t.stage) mine ≡ numbers_from stage.stage 1 → HoldsGrid new doc (before ++ (flat_map (carried_stage doc) mine ++ rest)))
-        → (1 ≤ 1 → new.given ≡ stage.stage + (1 - 1)) → new.floor ≡ s.table.floor → new.usable ≡ s.table.usable → GivesGrid stage (option_map Grid op) s.table new
+        → (1 ≤ 1 → new.given ≡ stage.stage + (1 - 1)) → new.floor ≡ s.table.floor → new.usable ≡ s.table.usable
+        → GivesGrid stage (option_map Grid op) s.table new
     gives-grid a b given floor usable =
         let e : stage.stage + (1 - 1) ≡ stage.stage = omega arith in
         record {
@@ -109,7 +115,8 @@ some-left s k = step k.mine k.counted k.gives
     step [] n g = absurd (omega (arith, n))
     step (t ∷ ts) n g = subst (λ (xs : List OwnStage). 0 < length xs) (sym g.stages) (above (length (map own_stage (ts ++ k.rest) ++ map own_stage (carried k.doc k.front))))
 
-pub first-of : (s mid : TreeOwn) (stage : OwnStage) → GivesSome s 1 → s.stages.items ≡ stage ∷ mid.stages.items → GivesFirst (record s { stages = mid.stages }) stage
+pub first-of : (s mid : TreeOwn) (stage : OwnStage) → GivesSome s 1 → s.stages.items ≡ stage ∷ mid.stages.items
+    → GivesFirst (record s { stages = mid.stages }) stage
 first-of s mid stage k e = step k.mine k.counted k.gives
   where
     step : (mine : List Stage) → length mine ≡ 1 → GivesTree s k.low k.last k.doc k.front (mine ++ k.rest) → GivesFirst (record s { stages = mid.stages }) stage
@@ -138,7 +145,8 @@ module _ (s mid given end : TreeOwn) (stage : OwnStage) (op : Option ChannelOp) 
   left-is : mid.stages.items ≡ map own_stage rest ++ map own_stage (carried doc front)
   left-is = is-left stage (own_stage t) mid.stages.items _ items
 
-  behind-is : given.stages.items ≡ mid.stages.items → op ≡ op_of (pieces doc t) → end.stages.items ≡ map own_stage rest ++ map own_stage (carried doc (front ++ t ∷ []))
+  behind-is : given.stages.items ≡ mid.stages.items → op ≡ op_of (pieces doc t)
+      → end.stages.items ≡ map own_stage rest ++ map own_stage (carried doc (front ++ t ∷ []))
   behind-is g o =
       put ∙ ap (λ (xs : List OwnStage). cond (is_some op) (xs ++ stage ∷ []) xs) g ∙ ap (λ u. cond (is_some op) (mid.stages.items ++ u ∷ []) mid.stages.items) (sym own-is)
       ∙ turned doc front rest t mid.stages.items op left-is o
@@ -157,7 +165,8 @@ module _ (s mid given end : TreeOwn) (stage : OwnStage) (op : Option ChannelOp) 
       = subst (λ n. AreNext s.text.given n (n + 1) (text_only front) (t ∷ []) (text_only rest)) at-number (text-next s s low last doc front rest t h on (t.stage + 1) refl) in
       let r = g.holds last doc (text_only front) (text_only rest) t next (text-sound s s low last doc front rest t h on) (text-holds s s low last doc front rest t h on) in
       record {
-        tree = text-given s new low last doc front rest t h on op r.0 r.1 (g.given ∙ sym at-number) g.floor g.usable (ap (λ (x : TreeOwn). x.table) same) (ap (λ (x : TreeOwn). x.numbers) same)
+        tree = text-given s new low last doc front rest t h on op r.0 r.1 (g.given ∙ sym at-number) g.floor g.usable
+            (ap (λ (x : TreeOwn). x.table) same) (ap (λ (x : TreeOwn). x.numbers) same)
             (behind-is (ap (λ (x : TreeOwn). x.stages.items) same) r.0);
         sent = r.0;
       }
@@ -165,9 +174,11 @@ module _ (s mid given end : TreeOwn) (stage : OwnStage) (op : Option ChannelOp) 
       let new = record given { stages = end.stages } in
       let not_on : is_on_text t.sub_operation ≡ false = sym of-text ∙ e in
       let grid : is_grid_stage t ≡ true = off-text (is_on_text t.sub_operation) (grid-off t) not_on in
-      let r = g.holds last doc (some_carried doc front) rest t at-number grid (grid-named s s low last doc front rest t h not_on) (grid-holds s s low last doc front rest t h not_on) in
+      let r = g.holds last doc (some_carried doc front) rest t at-number grid (grid-named s s low last doc front rest t h not_on)
+      (grid-holds s s low last doc front rest t h not_on) in
       record {
-        tree = grid-given s new low last doc front rest t h not_on op r.0 r.1 (g.given ∙ sym at-number) g.floor g.usable (ap (λ (x : TreeOwn). x.text) same) (ap (λ (x : TreeOwn). x.numbers) same)
+        tree = grid-given s new low last doc front rest t h not_on op r.0 r.1 (g.given ∙ sym at-number) g.floor g.usable
+            (ap (λ (x : TreeOwn). x.text) same) (ap (λ (x : TreeOwn). x.numbers) same)
             (behind-is (ap (λ (x : TreeOwn). x.stages.items) same) r.0);
         sent = r.0;
       }

@@ -4,6 +4,7 @@ use Rattle.std.specs.List.{AllByRecursion}
 use Rattle.std.specs.Option.{is_some}
 use Rattle.std.proofs.lemmas.Bool.Decides.{nat_tests}
 use Rattle.std.proofs.lemmas.List.Elements.{All-from_recursion, recursion_from_All}
+use Rattle.ft_base.proofs.ScanLaws.{retain_map-append}
 use Rattle.ft_op.specs.declared.operations.ChannelOp.{ChannelOp}
 use Rattle.ft_op.specs.Document.{Document}
 use Rattle.ft_op.specs.Intervals.{NamedElements}
@@ -20,13 +21,14 @@ use Rattle.ft_string.specs.Holds.{HoldsText, IsTextSound, is_on_text}
 use Rattle.ft_string.specs.State.{TextState}
 use Rattle.ft_matrix.specs.GridStates.{GridState}
 use Rattle.ft_matrix.specs.HoldsGrid.{HoldsGrid}
+use Rattle.ft_named.proofs.Lists.{map-append}
 use Rattle.ft_client.specs.declared.own.TreeOwn.{TreeOwn}
 use Rattle.ft_client.specs.declared.stages.OwnStage.{OwnStage}
 use Rattle.ft_client.specs.Numbers.{HasNumbers}
 use Rattle.ft_client.specs.Parts.{own_stage}
 use Rattle.ft_client.specs.Rejoins.{GivesTree, IsRejoining, carried, text_only}
 use Rattle.ft_client.proofs.GridCarried.{carried-left, grid-behind, names-left, some_carried}
-use Rattle.ft_client.proofs.Parts.{grid-same, retain-more}
+use Rattle.ft_client.proofs.Parts.{grid-same}
 use Rattle.ft_client.proofs.TextOnly.{only-carried, only-more, only-twice, rise-only, sound-only, text-part}
 
 -- ---- pieces
@@ -62,19 +64,16 @@ pub carried-more : (doc : Document) (ts us : List Stage) → carried doc (ts ++ 
 carried-more doc [] us = refl
 carried-more doc (t ∷ ts) us = ap (λ vs. carried_stage doc t ++ vs) (carried-more doc ts us) ∙ sym (append_assoc (carried_stage doc t) (carried doc ts) (carried doc us))
 
-pub map-more : {A B : Type 0} (f : A → B) (xs ys : List A) → map f (xs ++ ys) ≡ map f xs ++ map f ys
-map-more f [] ys = refl
-map-more f (x ∷ xs) ys = ap (λ zs. f x ∷ zs) (map-more f xs ys)
-
 -- the numbers of the stages, once the first one is taken off, and put behind the others where it goes on
-pub turned : (doc : Document) (front rest : List Stage) (t : Stage) (items : List OwnStage) (op : Option ChannelOp) → items ≡ map own_stage rest ++ map own_stage (carried doc front)
+pub turned : (doc : Document) (front rest : List Stage) (t : Stage) (items : List OwnStage) (op : Option ChannelOp)
+    → items ≡ map own_stage rest ++ map own_stage (carried doc front)
     → op ≡ op_of (pieces doc t) → cond (is_some op) (items ++ own_stage t ∷ []) items ≡ map own_stage rest ++ map own_stage (carried doc (front ++ t ∷ []))
 turned doc front rest t items op e o =
     behind (has_piece (pieces doc t)) (ap is_some o ∙ some-op (pieces doc t)) (goes-on doc t)
   where
     last-one : map own_stage (carried doc (front ++ t ∷ [])) ≡ map own_stage (carried doc front) ++ map own_stage (carried_stage doc t)
     last-one = ap (map own_stage) (carried-more doc front (t ∷ []) ∙ ap (λ us. carried doc front ++ us) (append-nil (carried_stage doc t)))
-        ∙ map-more own_stage (carried doc front) (carried_stage doc t)
+        ∙ map-append own_stage (carried doc front) (carried_stage doc t)
 
     behind : (b : Bool) → is_some op ≡ b → map own_stage (carried_stage doc t) ≡ cond b (own_stage t ∷ []) []
         → cond (is_some op) (items ++ own_stage t ∷ []) items ≡ map own_stage rest ++ map own_stage (carried doc (front ++ t ∷ []))
@@ -142,7 +141,8 @@ module _ (s new : TreeOwn) (low last : ℕ) (doc : Document) (front rest : List 
   module _ (on : is_on_text t.sub_operation ≡ true) where
     pub text-next : (end : ℕ) → end ≡ t.stage + 1 → AreNext s.text.given t.stage end (text_only front) (t ∷ []) (text_only rest)
     text-next end e = record {
-      before = All-from_recursion (λ u. u.stage < s.text.given + 1) (text_only front) (under (text_only front) (recursion_from_All (λ u. u.stage ≤ s.text.given) (text_only front) h.text_below));
+      before = All-from_recursion (λ u. u.stage < s.text.given + 1) (text_only front)
+          (under (text_only front) (recursion_from_All (λ u. u.stage ≤ s.text.given) (text_only front) h.text_below));
       within = subst (λ n. AreWithin t.stage n (t ∷ [])) (sym e)
           (All-from_recursion (λ u. (t.stage ≤ u.stage) × (u.stage < t.stage + 1) × (is_on_text u.sub_operation ≡ true)) (t ∷ []) ((omega arith, omega arith, on), tt));
       one = one-edit t.sub_operation t.names on;
@@ -159,7 +159,8 @@ module _ (s new : TreeOwn) (low last : ℕ) (doc : Document) (front rest : List 
         same : (k : ℕ) → nat_eq k k ≡ true
         same k = grind (arith, nat_tests)
 
-        one-edit : (o : SubOperation) (names : NamedElements) → is_on_text o ≡ true → is_one_edit t.stage (record { stage = t.stage; sub_operation = o; names = names } ∷ []) ≡ true
+        one-edit : (o : SubOperation) (names : NamedElements) → is_on_text o ≡ true
+            → is_one_edit t.stage (record { stage = t.stage; sub_operation = o; names = names } ∷ []) ≡ true
         one-edit (OnText op) names g = refl
         one-edit (OnIntervals op) names g = rw (same t.stage) refl
         one-edit (OnGrid op) names g = (cc)
@@ -177,7 +178,8 @@ module _ (s new : TreeOwn) (low last : ℕ) (doc : Document) (front rest : List 
         ∙ ap (λ us. carried doc (text_only front) ++ us) (only-one t (text_only rest) on ∙ ap (λ us. t ∷ us) (only-twice rest))
         ∙ sym (only-all doc front (t ∷ rest) ∙ ap (λ us. carried doc (text_only front) ++ us) (only-one t rest on))) h.text
 
-    pub text-given : (op : Option ChannelOp) → op ≡ op_of (pieces doc t) → HoldsGiven new.text doc (text_only front ++ t ∷ []) (text_only rest) → new.text.given ≡ t.stage
+    pub text-given : (op : Option ChannelOp) → op ≡ op_of (pieces doc t)
+        → HoldsGiven new.text doc (text_only front ++ t ∷ []) (text_only rest) → new.text.given ≡ t.stage
         → new.text.floor ≡ s.text.floor → new.text.usable ≡ true → new.table ≡ s.table → new.numbers ≡ s.numbers
         → new.stages.items ≡ map own_stage rest ++ map own_stage (carried doc (front ++ t ∷ [])) → GivesTree new low last doc (front ++ t ∷ []) rest
     text-given op o g given floor usable table numbers stages =
@@ -237,7 +239,7 @@ module _ (s new : TreeOwn) (low last : ℕ) (doc : Document) (front rest : List 
         front-grid : grid_stages doc (carried doc (front ++ t ∷ [])) ≡ grid_stages doc (carried doc front)
         front-grid =
             ap (grid_stages doc) (carried-more doc front (t ∷ []) ∙ ap (λ us. carried doc front ++ us) (append-nil (carried_stage doc t)))
-            ∙ retain-more is_grid_stage (indexed_stage doc) (carried doc front) (carried_stage doc t)
+            ∙ retain_map-append is_grid_stage (indexed_stage doc) (carried doc front) (carried_stage doc t)
             ∙ ap (λ us. grid_stages doc (carried doc front) ++ us) none-carried ∙ append-nil (grid_stages doc (carried doc front))
 
         behind-grid : grid_stages doc (t ∷ rest) ≡ grid_stages doc rest
@@ -245,8 +247,8 @@ module _ (s new : TreeOwn) (low last : ℕ) (doc : Document) (front rest : List 
 
         grid-stays : grid_stages doc (carried doc (front ++ t ∷ []) ++ rest) ≡ grid_stages doc (carried doc front ++ (t ∷ rest))
         grid-stays =
-            retain-more is_grid_stage (indexed_stage doc) (carried doc (front ++ t ∷ [])) rest ∙ ap (λ us. us ++ grid_stages doc rest) front-grid
-            ∙ sym (retain-more is_grid_stage (indexed_stage doc) (carried doc front) (t ∷ rest) ∙ ap (λ us. grid_stages doc (carried doc front) ++ us) behind-grid)
+            retain_map-append is_grid_stage (indexed_stage doc) (carried doc (front ++ t ∷ [])) rest ∙ ap (λ us. us ++ grid_stages doc rest) front-grid
+            ∙ sym (retain_map-append is_grid_stage (indexed_stage doc) (carried doc front) (t ∷ rest) ∙ ap (λ us. grid_stages doc (carried doc front) ++ us) behind-grid)
 
   -- ---- the table
   module _ (off : is_on_text t.sub_operation ≡ false) where
@@ -256,11 +258,13 @@ module _ (s new : TreeOwn) (low last : ℕ) (doc : Document) (front rest : List 
     pub grid-holds : HoldsGrid s.table doc (some_carried doc front ++ (t ∷ rest))
     grid-holds = grid-same doc doc s.table (carried doc front ++ (t ∷ rest)) (some_carried doc front ++ (t ∷ rest)) refl refl refl (grid-behind doc doc front (t ∷ rest)) h.table
 
-    pub grid-given : (op : Option ChannelOp) → op ≡ op_of (pieces doc t) → HoldsGrid new.table doc (some_carried doc front ++ (carried doc (t ∷ []) ++ rest)) → new.table.given ≡ t.stage
+    pub grid-given : (op : Option ChannelOp) → op ≡ op_of (pieces doc t)
+        → HoldsGrid new.table doc (some_carried doc front ++ (carried doc (t ∷ []) ++ rest)) → new.table.given ≡ t.stage
         → new.table.floor ≡ s.table.floor → new.table.usable ≡ true → new.text ≡ s.text → new.numbers ≡ s.numbers
         → new.stages.items ≡ map own_stage rest ++ map own_stage (carried doc (front ++ t ∷ [])) → GivesTree new low last doc (front ++ t ∷ []) rest
     grid-given op o g given floor usable text numbers stages =
-        let only : text_only (front ++ t ∷ []) ≡ text_only front = only-more front (t ∷ []) ∙ ap (λ us. text_only front ++ us) (only-none t [] off) ∙ append-nil (text_only front) in
+        let only : text_only (front ++ t ∷ []) ≡ text_only front = only-more front (t ∷ [])
+        ∙ ap (λ us. text_only front ++ us) (only-none t [] off) ∙ append-nil (text_only front) in
         record {
           known = known-on;
           text = subst (λ x. HoldsText x doc (carried doc (front ++ t ∷ []) ++ rest)) (sym text)

@@ -1,6 +1,7 @@
 -- Stages of the grid that are gone since they have no piece: names go on to fit without them.
 use Rattle.std.proofs.Common.{◌≡◌, ◌≤◌, ◌<◌, ℕ, Bool, true, false, cond, not, ◌&&◌, ◌||◌, nat_eq, List, [], ◌∷◌, ◌++◌, append_assoc, refl, sym, ◌∙◌, ap, subst, arith}
 use Rattle.std.specs.List.{flat_map, list_any}
+use Rattle.ft_base.proofs.ScanLaws.{retain_map-append}
 use Rattle.ft_op.specs.declared.operations.CellOp.{CellOp}
 use Rattle.ft_op.specs.declared.operations.CellOp.TheVariants.{SpliceIn, SpliceOut, Set}
 use Rattle.ft_op.specs.declared.operations.Target.TheVariants.{Rows, Cols}
@@ -17,7 +18,6 @@ use Rattle.ft_laws_names.specs.GridFacts.{grid_stages}
 use Rattle.ft_laws_names.specs.WellNamed.{ArePutIn, AreStagesNamed, AreWellNamed, RiseTo, inserts_cols, inserts_rows, puts_text_in}
 use Rattle.ft_laws_names.proofs.OwnAlike.{rise-lower}
 use Rattle.ft_client.specs.Rejoins.{carried}
-use Rattle.ft_client.proofs.Parts.{retain-more}
 
 -- ---- stages left out
 
@@ -49,7 +49,8 @@ any-left kind f k (left_out {t = t} {ts = ts} i h) =
     never true = refl
     never false = refl
 
-put-left : (kind : SubOperation → Bool) → ((t : Stage) → IsIdle t → kind t.sub_operation ≡ false) → {ks ts : List Stage} → LeavesOut ks ts → (xs : List ListElement) → ArePutIn kind ts xs
+put-left : (kind : SubOperation → Bool) → ((t : Stage) → IsIdle t → kind t.sub_operation ≡ false) → {ks ts : List Stage} → LeavesOut ks ts
+    → (xs : List ListElement) → ArePutIn kind ts xs
     → ArePutIn kind ks xs
 put-left kind f h xs g k e = g k (sym (any-left kind f k h) ∙ e)
 
@@ -91,7 +92,8 @@ grid_carried doc t = cond (is_grid_stage t) (carried_stage doc t) (t ∷ [])
 abbrev pub some_carried : Document → List Stage → List Stage
 some_carried doc ts = flat_map (grid_carried doc) ts
 
-idle-pieces : (k : ℕ) (doc : Document) (names : NamedElements) (op : CellOp) → grid_pieces k doc names op ≡ [] → IsIdle (record { stage = k; sub_operation = OnGrid op; names = names })
+idle-pieces : (k : ℕ) (doc : Document) (names : NamedElements) (op : CellOp) → grid_pieces k doc names op ≡ []
+    → IsIdle (record { stage = k; sub_operation = OnGrid op; names = names })
 idle-pieces k doc names (SpliceIn Rows p count) h = record { text = refl; rows = none (nat_eq count 0) _ h; cols = refl }
   where
     none : (b : Bool) (x : SubOperation) → cond b [] (x ∷ []) ≡ [] → not b ≡ false
@@ -140,11 +142,11 @@ one-grid p doc t = step t.stage t.sub_operation t.names
 pub grid-carried : (p doc : Document) (ts : List Stage) → grid_stages p (some_carried doc ts) ≡ grid_stages p (carried doc ts)
 grid-carried p doc [] = refl
 grid-carried p doc (t ∷ ts) =
-    retain-more is_grid_stage (indexed_stage p) (grid_carried doc t) (some_carried doc ts)
+    retain_map-append is_grid_stage (indexed_stage p) (grid_carried doc t) (some_carried doc ts)
     ∙ ap (λ us. us ++ grid_stages p (some_carried doc ts)) (one-grid p doc t) ∙ ap (λ us. grid_stages p (carried_stage doc t) ++ us) (grid-carried p doc ts)
-    ∙ sym (retain-more is_grid_stage (indexed_stage p) (carried_stage doc t) (carried doc ts))
+    ∙ sym (retain_map-append is_grid_stage (indexed_stage p) (carried_stage doc t) (carried doc ts))
 
 pub grid-behind : (p doc : Document) (ts us : List Stage) → grid_stages p (some_carried doc ts ++ us) ≡ grid_stages p (carried doc ts ++ us)
 grid-behind p doc ts us =
-    retain-more is_grid_stage (indexed_stage p) (some_carried doc ts) us ∙ ap (λ vs. vs ++ grid_stages p us) (grid-carried p doc ts)
-    ∙ sym (retain-more is_grid_stage (indexed_stage p) (carried doc ts) us)
+    retain_map-append is_grid_stage (indexed_stage p) (some_carried doc ts) us ∙ ap (λ vs. vs ++ grid_stages p us) (grid-carried p doc ts)
+    ∙ sym (retain_map-append is_grid_stage (indexed_stage p) (carried doc ts) us)

@@ -36,7 +36,8 @@ module _ (inserts removes : SubOperation → Bool) where
   insertion-settled (Acked s c) h = refl
   insertion-settled (Local k) h = (cc)
 
-  removals-settled : (dels : List Stamp) (m : Option ℕ) → list_all is_acked dels ≡ true → has_removal_of removes [] m ≡ true → list_all (is_stamp_below 0) (dels ++ removal_stamp m) ≡ true
+  removals-settled : (dels : List Stamp) (m : Option ℕ) → list_all is_acked dels ≡ true → has_removal_of removes [] m ≡ true
+      → list_all (is_stamp_below 0) (dels ++ removal_stamp m) ≡ true
   removals-settled [] None h g = refl
   removals-settled [] (Some k) h g = (cc)
   removals-settled (Acked s c ∷ dels) m h g = removals-settled dels m h g
@@ -48,14 +49,17 @@ module _ (inserts removes : SubOperation → Bool) where
       let q = both (has_insertion_of inserts [] e.ins) (has_removal_of removes [] e.removal_stage) p.0 in
       rw (insertion-settled e.ins q.0, removals-settled e.dels e.removal_stage p.1 q.1) refl
 
-  units-settled : (xs : List ListElement) → list_all (has_marks_of inserts removes []) xs ≡ true → AllByRecursion (λ e. is_unit_below 0 e ≡ true) (map nameless xs)
+  units-settled : (xs : List ListElement) → list_all (has_marks_of inserts removes []) xs ≡ true
+      → AllByRecursion (λ e. is_unit_below 0 e ≡ true) (map nameless xs)
   units-settled [] h = tt
   units-settled (e ∷ xs) h =
       let p = both (has_marks_of inserts removes [] e) (list_all (has_marks_of inserts removes []) xs) h in
       (unit-settled e p.0, units-settled xs p.1)
 
-  all-settled : (ts : List Stage) (xs : List ListElement) → ts ≡ [] → list_all (has_marks_of inserts removes ts) xs ≡ true → All (λ e. is_unit_below 0 e ≡ true) (map nameless xs)
-  all-settled ts xs e h = All-from_recursion (λ e. is_unit_below 0 e ≡ true) (map nameless xs) (units-settled xs (subst (λ us. list_all (has_marks_of inserts removes us) xs ≡ true) e h))
+  all-settled : (ts : List Stage) (xs : List ListElement) → ts ≡ [] → list_all (has_marks_of inserts removes ts) xs ≡ true
+      → All (λ e. is_unit_below 0 e ≡ true) (map nameless xs)
+  all-settled ts xs e h = All-from_recursion (λ e. is_unit_below 0 e ≡ true) (map nameless xs)
+      (units-settled xs (subst (λ us. list_all (has_marks_of inserts removes us) xs ≡ true) e h))
 
 pub none-pending : (s : TreeOwn) → HoldsOne HoldsTree s (λ p. p.pending ≡ []) → IsAboveAll 0 s.table
 none-pending s known =
@@ -79,12 +83,14 @@ module _ (s : TreeOwn) (known : HoldsOne HoldsTree s (λ p. p.pending ≡ [])) (
   idle = held-idle s known held h
 
   pub text-saved : (conns : List Characters) (bare mid : SumDoc) → bare ≡ bare_summary s.numbers conns
-      → ((last : ℕ) (doc : Document) → IsTextSound last doc [] → HoldsText s.text doc [] → SavesText doc bare mid) → SavesText held.doc (bare_summary s.numbers conns) mid
+      → ((last : ℕ) (doc : Document) → IsTextSound last doc [] → HoldsText s.text doc [] → SavesText doc bare mid)
+      → SavesText held.doc (bare_summary s.numbers conns) mid
   text-saved conns bare mid e saves =
       subst (λ d. SavesText held.doc d mid) e (saves held.last held.doc (saved-sound s known held named h) (subst (λ ts. HoldsText s.text held.doc ts) idle h.text))
 
   pub table-saved : (conns : List Characters) (mid new : SumDoc) → KeepsSummary (bare_summary s.numbers conns) mid
-      → ((last : ℕ) (doc : Document) → AreWellNamed last doc [] → HoldsGrid s.table doc [] → IsAboveAll 0 s.table → doc.minimum ≡ mid.min → new ≡ with_units doc mid)
+      → ((last : ℕ) (doc : Document) → AreWellNamed last doc [] → HoldsGrid s.table doc [] → IsAboveAll 0 s.table → doc.minimum ≡ mid.min
+      → new ≡ with_units doc mid)
       → new ≡ with_units held.doc mid
   table-saved conns mid new keeps saves =
       saves held.last held.doc (subst (λ ts. AreWellNamed held.last held.doc ts) idle named) (subst (λ ts. HoldsGrid s.table held.doc ts) idle h.table) (none-pending s known)

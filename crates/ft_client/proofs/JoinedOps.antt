@@ -24,6 +24,7 @@ use Rattle.ft_replica.specs.declared.document.Resent.{Resent}
 use Rattle.ft_replica.specs.Own.{resent}
 use Rattle.ft_msg.specs.Overlap.{is_on_intervals}
 use Rattle.ft_string.specs.Holds.{is_on_elements}
+use Rattle.ft_laws_agreement.proofs.CarriedEdits.{no-operation}
 use Rattle.ft_client.specs.Parts.{are_of_one_edit, is_alone, is_elements_part, is_grid_part, own_stage, part_of}
 use Rattle.ft_client.specs.Rejoins.{AddsPieces, Joins, JoinsSome, are_of_one_part, base_ops, carried, cell_ops}
 use Rattle.ft_client.specs.declared.stages.OwnStage.{OwnStage}
@@ -54,7 +55,8 @@ grid-apart k doc names (SpliceIn target p count) = step (nat_eq count 0) _
     step : (b : Bool) (o : CellOp) → list_all is_apart (cond b [] (OnGrid o ∷ [])) ≡ true
     step true o = refl
     step false o = refl
-grid-apart k doc names (SpliceOut target p q) = all-are {A = ℕ × ℕ} is_apart (λ r. OnGrid (SpliceOut target r.0 r.1)) (λ r. refl) (lowered_runs 0 (marked_runs k (is_removed_by k) (rows_or_cols target doc).items))
+grid-apart k doc names (SpliceOut target p q) = all-are {A = ℕ × ℕ} is_apart (λ r. OnGrid (SpliceOut target r.0 r.1)) (λ r. refl)
+    (lowered_runs 0 (marked_runs k (is_removed_by k) (rows_or_cols target doc).items))
 grid-apart k doc names (Set i j value) = step _ _
   where
     step : (b : Bool) (o : CellOp) → list_all is_apart (cond b (OnGrid o ∷ []) []) ≡ true
@@ -129,7 +131,8 @@ grid-longer : (u : CellOp) (ps : List SubOperation) (v : CellOp) (qs : List SubO
 grid-longer u [] v qs = refl
 grid-longer u (p ∷ ps) v qs = refl
 
-join-ops : (ps qs : List SubOperation) (f x y : ChannelOp) → op_of ps ≡ Some f → op_of qs ≡ Some x → Joins f x y → list_all is_apart ps ≡ true → list_all is_apart qs ≡ true → op_of (ps ++ qs) ≡ Some y
+join-ops : (ps qs : List SubOperation) (f x y : ChannelOp) → op_of ps ≡ Some f → op_of qs ≡ Some x → Joins f x y
+    → list_all is_apart ps ≡ true → list_all is_apart qs ≡ true → op_of (ps ++ qs) ≡ Some y
 join-ops [] qs f x y e g j a b = (cc)
 join-ops (p ∷ ps) [] f x y e g j a b = (cc)
 join-ops (OnIntervals o ∷ ps) (q ∷ qs) f x y e g j a b = (cc)
@@ -148,25 +151,22 @@ join-ops (OnGrid u ∷ ps) (OnText v ∷ qs) f x y e g j a b = absurd (mixed f x
     mixed (Text i) x s t h = s
 join-ops (OnText u ∷ ps) (OnText v ∷ qs) f x y e g j a b = joined f x (bases u ps f e) (bases v qs x g) j
   where
-    joined : (f x : ChannelOp) → HasBases f (u ∷ flat_map base_op_of ps) → HasBases x (v ∷ flat_map base_op_of qs) → Joins f x y → op_of (OnText u ∷ (ps ++ (OnText v ∷ qs))) ≡ Some y
+    joined : (f x : ChannelOp) → HasBases f (u ∷ flat_map base_op_of ps) → HasBases x (v ∷ flat_map base_op_of qs) → Joins f x y
+        → op_of (OnText u ∷ (ps ++ (OnText v ∷ qs))) ≡ Some y
     joined (Text i) (Text k) s t h = text-longer u ps v qs ∙ ap (λ ops. Some (Text (text.Group ops)))
-        (ap (λ ops. u ∷ ops) (flat_map-append base_op_of ps (OnText v ∷ qs)) ∙ ap (λ ops. ops ++ (v ∷ flat_map base_op_of qs)) (sym s) ∙ ap (λ ops. base_ops i ++ ops) (sym t)) ∙ ap Some (sym h)
+        (ap (λ ops. u ∷ ops) (flat_map-append base_op_of ps (OnText v ∷ qs)) ∙ ap (λ ops. ops ++ (v ∷ flat_map base_op_of qs)) (sym s)
+        ∙ ap (λ ops. base_ops i ++ ops) (sym t)) ∙ ap Some (sym h)
     joined (Grid i) x s t h = absurd s
     joined (Text i) (Grid k) s t h = absurd t
 join-ops (OnGrid u ∷ ps) (OnGrid v ∷ qs) f x y e g j a b = joined f x (cells u ps f e) (cells v qs x g) j
   where
-    joined : (f x : ChannelOp) → HasCells f (u ∷ flat_map cell_op_of ps) → HasCells x (v ∷ flat_map cell_op_of qs) → Joins f x y → op_of (OnGrid u ∷ (ps ++ (OnGrid v ∷ qs))) ≡ Some y
+    joined : (f x : ChannelOp) → HasCells f (u ∷ flat_map cell_op_of ps) → HasCells x (v ∷ flat_map cell_op_of qs) → Joins f x y
+        → op_of (OnGrid u ∷ (ps ++ (OnGrid v ∷ qs))) ≡ Some y
     joined (Grid i) (Grid k) s t h = grid-longer u ps v qs ∙ ap (λ ops. Some (Grid (grid.Group ops)))
-        (ap (λ ops. u ∷ ops) (flat_map-append cell_op_of ps (OnGrid v ∷ qs)) ∙ ap (λ ops. ops ++ (v ∷ flat_map cell_op_of qs)) (sym s) ∙ ap (λ ops. cell_ops i ++ ops) (sym t)) ∙ ap Some (sym h)
+        (ap (λ ops. u ∷ ops) (flat_map-append cell_op_of ps (OnGrid v ∷ qs)) ∙ ap (λ ops. ops ++ (v ∷ flat_map cell_op_of qs)) (sym s)
+        ∙ ap (λ ops. cell_ops i ++ ops) (sym t)) ∙ ap Some (sym h)
     joined (Text i) x s t h = absurd s
     joined (Grid i) (Text k) s t h = absurd t
-
-none-is : (ps : List SubOperation) → op_of ps ≡ None → ps ≡ []
-none-is ps e = step ps (sym (some-op ps) ∙ ap is_some e)
-  where
-    step : (ps : List SubOperation) → has_piece ps ≡ false → ps ≡ []
-    step [] h = refl
-    step (p ∷ ps) h = (cc)
 
 -- ---- an edit with a stage more
 
@@ -197,9 +197,11 @@ module _ (doc : Document) (ts : List Stage) (t : Stage) where
   counted-more = ap length (carried-more doc ts (t ∷ []) ∙ ap (λ us. carried doc ts ++ us) (append-nil (carried_stage doc t)))
       ∙ length-more (carried doc ts) (carried_stage doc t) ∙ ap (λ n. length (carried doc ts) + n) (one-more doc t)
 
-  module _ (alone : Bool) (first : alone ≡ true → ts ≡ []) (others : alone ≡ false → list_all is_apart so-far ≡ true) (last : alone ≡ false → is_on_intervals t.sub_operation ≡ false) where
-    joined-ops : (o : Option ChannelOp) (x y : ChannelOp) → op_of so-far ≡ o → op_of (pieces doc t) ≡ Some x → JoinsSome o x y → op_of (so-far ++ pieces doc t) ≡ Some y
-    joined-ops None x y e q j = ap (λ ps. op_of (ps ++ pieces doc t)) (none-is so-far e) ∙ q ∙ ap Some (sym j)
+  module _ (alone : Bool) (first : alone ≡ true → ts ≡ []) (others : alone ≡ false → list_all is_apart so-far ≡ true)
+      (last : alone ≡ false → is_on_intervals t.sub_operation ≡ false) where
+    joined-ops : (o : Option ChannelOp) (x y : ChannelOp) → op_of so-far ≡ o → op_of (pieces doc t) ≡ Some x → JoinsSome o x y
+        → op_of (so-far ++ pieces doc t) ≡ Some y
+    joined-ops None x y e q j = ap (λ ps. op_of (ps ++ pieces doc t)) (no-operation so-far e) ∙ q ∙ ap Some (sym j)
     joined-ops (Some f) x y e q j = by-alone alone refl
       where
         by-alone : (b : Bool) → alone ≡ b → op_of (so-far ++ pieces doc t) ≡ Some y
@@ -208,12 +210,14 @@ module _ (doc : Document) (ts : List Stage) (t : Stage) where
             let never : None ≡ Some f = sym (ap (λ us. op_of (flat_map (pieces doc) us)) (first a)) ∙ e in
             (cc)
 
-    edit-grown : (again v : Resent) (op : Option ChannelOp) → op ≡ op_of (pieces doc t) → again ≡ resent doc ts → AddsPieces again op v → v ≡ resent doc (ts ++ t ∷ [])
+    edit-grown : (again v : Resent) (op : Option ChannelOp) → op ≡ op_of (pieces doc t) → again ≡ resent doc ts → AddsPieces again op v
+        → v ≡ resent doc (ts ++ t ∷ [])
     edit-grown again v None o a j =
-        let none : pieces doc t ≡ [] = none-is (pieces doc t) (sym o) in
+        let none : pieces doc t ≡ [] = no-operation (pieces doc t) (sym o) in
         j ∙ a ∙ same-resent (resent doc ts) (op_of (flat_map (pieces doc) (ts ++ t ∷ []))) (length (carried doc (ts ++ t ∷ [])))
         (ap op_of (sym (pieces-more doc ts t ∙ ap (λ ps. so-far ++ ps) none ∙ append-nil so-far)))
-        (none-counted (length (carried doc ts)) (length (carried doc (ts ++ t ∷ []))) (counted-more ∙ ap (λ ps. length (carried doc ts) + length (cond (has_piece ps) (own_stage t ∷ []) [])) none))
+        (none-counted (length (carried doc ts)) (length (carried doc (ts ++ t ∷ [])))
+        (counted-more ∙ ap (λ ps. length (carried doc ts) + length (cond (has_piece ps) (own_stage t ∷ []) [])) none))
       where
         none-counted : (n m : ℕ) → m ≡ n + 0 → n ≡ m
         none-counted n m e = omega (arith, e)
@@ -246,7 +250,8 @@ grid-on k doc names (SpliceIn target p count) = step (nat_eq count 0) _
     step : (b : Bool) (o : CellOp) → list_all is_on_grid (cond b [] (OnGrid o ∷ [])) ≡ true
     step true o = refl
     step false o = refl
-grid-on k doc names (SpliceOut target p q) = all-are {A = ℕ × ℕ} is_on_grid (λ r. OnGrid (SpliceOut target r.0 r.1)) (λ r. refl) (lowered_runs 0 (marked_runs k (is_removed_by k) (rows_or_cols target doc).items))
+grid-on k doc names (SpliceOut target p q) = all-are {A = ℕ × ℕ} is_on_grid (λ r. OnGrid (SpliceOut target r.0 r.1)) (λ r. refl)
+    (lowered_runs 0 (marked_runs k (is_removed_by k) (rows_or_cols target doc).items))
 grid-on k doc names (Set i j value) = step _ _
   where
     step : (b : Bool) (o : CellOp) → list_all is_on_grid (cond b (OnGrid o ∷ []) []) ≡ true
@@ -272,7 +277,8 @@ grid-pieces doc t h = step t.stage t.sub_operation t.names h
     step k (OnGrid op) names e = grid-on k doc names op
 
 -- a test of all pieces of stages, where it holds of those of each of a kind
-module _ (doc : Document) (kind : OwnStage → Bool) (test : SubOperation → Bool) (each : (t : Stage) → kind (own_stage t) ≡ true → list_all test (pieces doc t) ≡ true) where
+module _ (doc : Document) (kind : OwnStage → Bool) (test : SubOperation → Bool)
+    (each : (t : Stage) → kind (own_stage t) ≡ true → list_all test (pieces doc t) ≡ true) where
   all-added : (xs ys : List SubOperation) → list_all test xs ≡ true → list_all test ys ≡ true → list_all test (xs ++ ys) ≡ true
   all-added [] ys a b = b
   all-added (x ∷ xs) ys a b =
@@ -314,7 +320,8 @@ pub data IsOneKind (ts : List Stage) (t : Stage) : Type 0 where
   on_grid : list_all (λ (u : OwnStage). is_grid_part u.part) (map own_stage ts) ≡ true → is_grid_part (part_of t.sub_operation) ≡ true → IsOneKind ts t
   alone : ts ≡ [] → IsOneKind ts t
 
-split-all : (kind : OwnStage → Bool) (ts : List Stage) (t : Stage) → list_all kind (map own_stage (ts ++ t ∷ [])) ≡ true → (list_all kind (map own_stage ts) ≡ true) × (kind (own_stage t) ≡ true)
+split-all : (kind : OwnStage → Bool) (ts : List Stage) (t : Stage) → list_all kind (map own_stage (ts ++ t ∷ [])) ≡ true
+    → (list_all kind (map own_stage ts) ≡ true) × (kind (own_stage t) ≡ true)
 split-all kind [] t h = (refl, (both (kind (own_stage t)) true h).0)
 split-all kind (u ∷ ts) t h =
     let p = both (kind (own_stage u)) (list_all kind (map own_stage (ts ++ t ∷ []))) h in
@@ -334,14 +341,16 @@ one-kind ts t h =
     all = map own_stage (ts ++ t ∷ [])
 
     step : (a b c : Bool) → list_all (λ (u : OwnStage). is_elements_part u.part) (map own_stage (ts ++ t ∷ [])) ≡ a
-        → list_all (λ (u : OwnStage). is_grid_part u.part) (map own_stage (ts ++ t ∷ [])) ≡ b → is_alone (map own_stage (ts ++ t ∷ [])) ≡ c → a || (b || c) ≡ true → IsOneKind ts t
+        → list_all (λ (u : OwnStage). is_grid_part u.part) (map own_stage (ts ++ t ∷ [])) ≡ b → is_alone (map own_stage (ts ++ t ∷ [])) ≡ c
+        → a || (b || c) ≡ true → IsOneKind ts t
     step true b c e f g k = let p = split-all (λ (u : OwnStage). is_elements_part u.part) ts t e in on_text p.0 p.1
     step false true c e f g k = let p = split-all (λ (u : OwnStage). is_grid_part u.part) ts t f in on_grid p.0 p.1
     step false false true e f g k = alone (none-alone ts t g)
     step false false false e f g k = (cc)
 
 -- an operation of the stages so far is on the same part as that of the next one
-pub of-one-part : (doc : Document) (ts : List Stage) (t : Stage) (f x : ChannelOp) → IsOneKind ts t → op_of (flat_map (pieces doc) ts) ≡ Some f → op_of (pieces doc t) ≡ Some x
+pub of-one-part : (doc : Document) (ts : List Stage) (t : Stage) (f x : ChannelOp) → IsOneKind ts t
+    → op_of (flat_map (pieces doc) ts) ≡ Some f → op_of (pieces doc t) ≡ Some x
     → are_of_one_part f x ≡ true
 of-one-part doc ts t f x (on_text a b) e g =
     both-text f x
@@ -366,7 +375,8 @@ grid-off_intervals (OnText op) h = (cc)
 grid-off_intervals (OnIntervals op) h = (cc)
 
 -- the edit with its next stage
-pub edit-more : (doc : Document) (ts : List Stage) (t : Stage) → IsOneKind ts t → (again v : Resent) (op : Option ChannelOp) → op ≡ op_of (pieces doc t) → again ≡ resent doc ts
+pub edit-more : (doc : Document) (ts : List Stage) (t : Stage) → IsOneKind ts t → (again v : Resent) (op : Option ChannelOp)
+    → op ≡ op_of (pieces doc t) → again ≡ resent doc ts
     → AddsPieces again op v → v ≡ resent doc (ts ++ t ∷ [])
 edit-more doc ts t (on_text a b) again v op o e j =
     edit-grown doc ts t false (λ g. (cc))

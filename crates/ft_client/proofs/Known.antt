@@ -82,12 +82,14 @@ one-run {A = A} is (x ∷ xs) h = step (is x) (one-run is xs) h
     front [] g = refl
     front (y ∷ ys) g = grind (arith, front ys)
 
-    step : (b : Bool) → (is_one_run is xs ≡ true → is_one_run_listed is xs ≡ true) → cond b (runs_on is xs) (is_one_run is xs) ≡ true → cond b (is_run_at_front is xs) (is_one_run_listed is xs) ≡ true
+    step : (b : Bool) → (is_one_run is xs ≡ true → is_one_run_listed is xs ≡ true) → cond b (runs_on is xs) (is_one_run is xs) ≡ true
+        → cond b (is_run_at_front is xs) (is_one_run_listed is xs) ≡ true
     step true ih g = front xs g
     step false ih g = ih g
 
 side : (es : List NamelessElement) → StandInRuns es → StandSideBySide (λ (e : NamelessElement). e.stamps) es
-side es h k = one-run (λ (e : NamelessElement). is_of_stage (suc k) e.stamps.ins) (filter (λ (e : NamelessElement). seen_at e.stamps k || is_of_stage (suc k) e.stamps.ins) es) (h k)
+side es h k = one-run (λ (e : NamelessElement). is_of_stage (suc k) e.stamps.ins)
+    (filter (λ (e : NamelessElement). seen_at e.stamps k || is_of_stage (suc k) e.stamps.ins) es) (h k)
 
 -- ---- of the one client
 

@@ -46,7 +46,8 @@ counted : (a b m p : ℕ) → a ≡ b → m ≡ b → p ≡ 0 → a ≡ m + p
 counted a b m p e f g = omega arith
 
 pub loaded : (s : TreeOwn) (sum : SumDoc) (rows cols : ℕ) → HoldsText s.text (doc_of sum) [] → HoldsGrid s.table (doc_of sum) [] → s.stages.items ≡ []
-    → s.numbers ≡ summary_numbers sum rows cols → rows ≡ s.table.rows_made → cols ≡ s.table.cols_made → s.text.floor ≡ 0 → s.text.given ≡ 0 → s.text.usable ≡ true
+    → s.numbers ≡ summary_numbers sum rows cols → rows ≡ s.table.rows_made → cols ≡ s.table.cols_made → s.text.floor ≡ 0 → s.text.given ≡ 0
+    → s.text.usable ≡ true
     → s.table.floor ≡ 0 → s.table.given ≡ 0 → s.table.usable ≡ true → HoldsTree s (record { doc = doc_of sum; stages = []; last = 0; low = sum.min })
 loaded s sum rows cols text table stages numbers in_rows in_cols tf tg tu gf gg gu = record {
   text = text;

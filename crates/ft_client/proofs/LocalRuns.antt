@@ -56,7 +56,8 @@ same-run k doc stages os r q e h =
     let same : r ≡ q = (cc) in
     subst (IsRun k doc stages os) same h
 
-second : (k : ℕ) (doc : Document) (stages : List Stage) (o : SubOperation) (os : List SubOperation) (q : Document × List Stage) (d : Document) (a : NamedElements)
+second : (k : ℕ) (doc : Document) (stages : List Stage) (o : SubOperation) (os : List SubOperation) (q : Document × List Stage)
+    (d : Document) (a : NamedElements)
     → local_sub_operation doc stages k o ≡ Ok (d, a) → Goes k stages o os → (r : Steps) → local_sub_operations d (stages ++ (here_of k o a ∷ [])) (k + 1) os ≡ r
     → rest_of (here_of k o a) r ≡ Ok q → IsRun k doc stages (o ∷ os) q
 second k doc stages o os q d a f ih (Err fault) g h = (cc)
@@ -71,7 +72,8 @@ first : (k : ℕ) (doc : Document) (stages : List Stage) (o : SubOperation) (os 
 first k doc stages o os q (Err fault) f ih h = (cc)
 first k doc stages o os q (Ok r) f ih h = second k doc stages o os q r.0 r.1 f ih (local_sub_operations r.0 (stages ++ (here_of k o r.1 ∷ [])) (k + 1) os) refl h
 
-run-of : (k : ℕ) (doc : Document) (stages : List Stage) (os : List SubOperation) (q : Document × List Stage) → local_sub_operations doc stages k os ≡ Ok q → IsRun k doc stages os q
+run-of : (k : ℕ) (doc : Document) (stages : List Stage) (os : List SubOperation) (q : Document × List Stage)
+    → local_sub_operations doc stages k os ≡ Ok q → IsRun k doc stages os q
 run-of k doc stages [] q h = same-run k doc stages [] (doc, []) q h done
 run-of k doc stages (o ∷ os) q h =
     first k doc stages o os q (local_sub_operation doc stages k o) refl (λ d a r g. run-of (k + 1) d (stages ++ (here_of k o a ∷ [])) os r g) h
@@ -104,11 +106,13 @@ in-range P p n d h = step (nat_le p n)
 abbrev pub LeavesTable : Document → Document → Type 0
 LeavesTable doc d = d ≡ record doc { text = d.text }
 
-text-leaves : (k : ℕ) (doc : Document) (stages : List Stage) (o : SubOperation) → is_on_text o ≡ true → IfTaken (LeavesTable doc) (local_sub_operation doc stages k o)
+text-leaves : (k : ℕ) (doc : Document) (stages : List Stage) (o : SubOperation) → is_on_text o ≡ true
+    → IfTaken (LeavesTable doc) (local_sub_operation doc stages k o)
 text-leaves k doc stages (OnText (Insert p seg props)) h = in-range (LeavesTable doc) p _ _ refl
 text-leaves k doc stages (OnText (Remove p q)) h = in-range (LeavesTable doc) q _ _ refl
 text-leaves k doc stages (OnText (Annotate p q changes)) h = in-range (LeavesTable doc) q _ _ refl
-text-leaves k doc stages (OnIntervals op) h = step (id_fault (shown_intervals doc.text.items doc.intervals stages) op) (given_ends_fit (len (seen (k - 1)) doc.text.items) (ends_of op))
+text-leaves k doc stages (OnIntervals op) h = step (id_fault (shown_intervals doc.text.items doc.intervals stages) op)
+    (given_ends_fit (len (seen (k - 1)) doc.text.items) (ends_of op))
   where
     step : (f : Option EditFault) (b : Bool) → IfTaken (LeavesTable doc) (unless_fault f (cond b (Ok (doc, elements_at_given_ends (seen (k - 1)) doc.text.items (ends_of op))) (Err (EditFault.OutOfRange (len (seen (k - 1)) doc.text.items)))))
     step (Some fault) b = tt
@@ -194,7 +198,8 @@ pub record RunsOnGrid (k : ℕ) (doc e : Document) (os : List SubOperation) (ts 
 added : (a b c m n : ℕ) → b ≡ a + m → c ≡ b + n → c ≡ a + (m + n)
 added a b c m n f g = omega arith
 
-pub grid-run : (ops : List CellOp) {k : ℕ} {doc e : Document} {stages ts : List Stage} {os : List SubOperation} → os ≡ map (λ op. OnGrid op) ops → LocalRun k doc stages os e ts
+pub grid-run : (ops : List CellOp) {k : ℕ} {doc e : Document} {stages ts : List Stage} {os : List SubOperation}
+    → os ≡ map (λ op. OnGrid op) ops → LocalRun k doc stages os e ts
     → RunsOnGrid k doc e os ts
 grid-run ops {doc = doc} h done = record { leaves = refl; stages = refl; rows = no-more (count_held doc.rows); cols = no-more (count_held doc.cols) }
 grid-run [] h (more f run) = (cc)

@@ -17,7 +17,8 @@ use Rattle.ft_client.specs.Parts.{are_of_one_edit, is_alone, is_elements_part, i
 elements-of : (t : Stage) → is_text_stage t ≡ true → is_elements_part (part_of t.sub_operation) ≡ true
 elements-of t h = step t.stage t.sub_operation t.names h
   where
-    step : (k : ℕ) (o : SubOperation) (names : NamedElements) → is_text_stage (record { stage = k; sub_operation = o; names = names }) ≡ true → is_elements_part (part_of o) ≡ true
+    step : (k : ℕ) (o : SubOperation) (names : NamedElements)
+        → is_text_stage (record { stage = k; sub_operation = o; names = names }) ≡ true → is_elements_part (part_of o) ≡ true
     step k (OnText op) names g = refl
     step k (OnIntervals op) names g = (cc)
     step k (OnGrid op) names g = (cc)
@@ -25,12 +26,14 @@ elements-of t h = step t.stage t.sub_operation t.names h
 grid-of : (t : Stage) → is_grid_stage t ≡ true → is_grid_part (part_of t.sub_operation) ≡ true
 grid-of t h = step t.stage t.sub_operation t.names h
   where
-    step : (k : ℕ) (o : SubOperation) (names : NamedElements) → is_grid_stage (record { stage = k; sub_operation = o; names = names }) ≡ true → is_grid_part (part_of o) ≡ true
+    step : (k : ℕ) (o : SubOperation) (names : NamedElements)
+        → is_grid_stage (record { stage = k; sub_operation = o; names = names }) ≡ true → is_grid_part (part_of o) ≡ true
     step k (OnGrid op) names g = refl
     step k (OnText op) names g = (cc)
     step k (OnIntervals op) names g = (cc)
 
-all-of-kind : (test : Stage → Bool) (kind : OwnStage → Bool) → ((t : Stage) → test t ≡ true → kind (own_stage t) ≡ true) → (ts : List Stage) → list_all test ts ≡ true
+all-of-kind : (test : Stage → Bool) (kind : OwnStage → Bool) → ((t : Stage) → test t ≡ true → kind (own_stage t) ≡ true)
+    → (ts : List Stage) → list_all test ts ≡ true
     → list_all kind (map own_stage ts) ≡ true
 all-of-kind test kind f [] h = refl
 all-of-kind test kind f (t ∷ ts) h =
@@ -65,7 +68,8 @@ of-one e h = step (list_all is_text_stage e.stages) (list_all is_grid_stage e.st
         (last-true (list_all (λ (u : OwnStage). is_elements_part u.part) (map own_stage e.stages)) (list_all (λ (u : OwnStage). is_grid_part u.part) (map own_stage e.stages)))
     step false false false f g i k = (cc)
 
-pub each-of-one : (edits : List PendingEdit) → list_all is_one_operation edits ≡ true → list_all (λ stages. are_of_one_edit (map own_stage stages)) (map (λ e. e.stages) edits) ≡ true
+pub each-of-one : (edits : List PendingEdit) → list_all is_one_operation edits ≡ true
+    → list_all (λ stages. are_of_one_edit (map own_stage stages)) (map (λ e. e.stages) edits) ≡ true
 each-of-one [] h = refl
 each-of-one (e ∷ edits) h =
     let p = both (is_one_operation e) (list_all is_one_operation edits) h in
@@ -100,7 +104,8 @@ each-alike [] (f ∷ fs) n e h = (cc)
 each-alike (d ∷ es) (f ∷ fs) n e h =
     let head : length d ≡ length f = (cc) in
     let tail : map (λ (stages : List Stage). length stages) es ≡ map (λ (stages : List Stage). length stages) fs = (cc) in
-    let p = parts-same (map own_stage d) (map own_stage (flat_map (λ (stages : List Stage). stages) es)) (map own_stage f) (map own_stage (flat_map (λ (stages : List Stage). stages) fs))
+    let p = parts-same (map own_stage d) (map own_stage (flat_map (λ (stages : List Stage). stages) es)) (map own_stage f)
+    (map own_stage (flat_map (λ (stages : List Stage). stages) fs))
     (long d ∙ head ∙ sym (long f))
     (sym (map-more d (flat_map (λ (stages : List Stage). stages) es)) ∙ e ∙ map-more f (flat_map (λ (stages : List Stage). stages) fs)) in
     let q = both (are_of_one_edit (map own_stage d)) (list_all (λ (stages : List Stage). are_of_one_edit (map own_stage stages)) es) h in
@@ -132,7 +137,8 @@ pub or-grid : (ts : List OwnStage) → are_of_one_edit ts ≡ true → list_all 
 or-grid ts h none =
     step (list_all (λ (u : OwnStage). is_elements_part u.part) ts) (list_all (λ (u : OwnStage). is_grid_part u.part) ts) (is_alone ts) refl refl refl h
   where
-    step : (a b c : Bool) → list_all (λ (u : OwnStage). is_elements_part u.part) ts ≡ a → list_all (λ (u : OwnStage). is_grid_part u.part) ts ≡ b → is_alone ts ≡ c
+    step : (a b c : Bool) → list_all (λ (u : OwnStage). is_elements_part u.part) ts ≡ a
+        → list_all (λ (u : OwnStage). is_grid_part u.part) ts ≡ b → is_alone ts ≡ c
         → a || (b || c) ≡ true → list_all (λ (u : OwnStage). is_grid_part u.part) ts ≡ true
     step true b c e f g k =
         let never : true ≡ false = sym (all-text ts e) ∙ none in

@@ -47,7 +47,8 @@ use Rattle.ft_client.proofs.TextOnly.{only-carried, only-twice, sound-only, text
 
 -- ---- numbers of stages
 
-other-kind : (kind : SubOperation → Bool) (j : ℕ) (ts : List Stage) → list_any (nat_eq j) (map (λ t. t.stage) ts) ≡ false → list_any (λ t. nat_eq j t.stage && kind t.sub_operation) ts ≡ false
+other-kind : (kind : SubOperation → Bool) (j : ℕ) (ts : List Stage) → list_any (nat_eq j) (map (λ t. t.stage) ts) ≡ false
+    → list_any (λ t. nat_eq j t.stage && kind t.sub_operation) ts ≡ false
 other-kind kind j [] h = refl
 other-kind kind j (t ∷ ts) h = step (nat_eq j t.stage) (list_any (nat_eq j) (map (λ t. t.stage) ts)) h refl (λ g. other-kind kind j ts g)
   where
@@ -57,7 +58,8 @@ other-kind kind j (t ∷ ts) h = step (nat_eq j t.stage) (list_any (nat_eq j) (m
     step false c g e f = rw (e, f g) refl
 
 -- none at or below the lowest
-below-kind : (kind : SubOperation → Bool) (k low last : ℕ) (ts : List Stage) → k ≤ low → RiseTo low last ts → list_any (λ t. nat_eq k t.stage && kind t.sub_operation) ts ≡ false
+below-kind : (kind : SubOperation → Bool) (k low last : ℕ) (ts : List Stage) → k ≤ low → RiseTo low last ts
+    → list_any (λ t. nat_eq k t.stage && kind t.sub_operation) ts ≡ false
 below-kind kind k low last [] l r = refl
 below-kind kind k low last (t ∷ ts) l r =
     let m = r.0 in
@@ -176,7 +178,8 @@ carried-numbers entry doc ts = flat-same (carried_stage (with_numbers entry doc)
 
 resent-numbers : (entry : Entry) (doc : Document) (ts : List Stage) → resent (with_numbers entry doc) ts ≡ resent doc ts
 resent-numbers entry doc ts =
-    ap {B = Resent} (λ ps. record { op = op_of ps; stages = length (carried (with_numbers entry doc) ts) }) (flat-same (pieces (with_numbers entry doc)) (pieces doc) (pieces-numbers entry doc) ts)
+    ap {B = Resent} (λ ps. record { op = op_of ps; stages = length (carried (with_numbers entry doc) ts) })
+    (flat-same (pieces (with_numbers entry doc)) (pieces doc) (pieces-numbers entry doc) ts)
     ∙ ap {B = Resent} (λ us. record { op = op_of (flat_map (pieces doc) ts); stages = length us }) (carried-numbers entry doc ts)
 
 -- ---- a document with all its stages
@@ -191,7 +194,8 @@ module _ (last : ℕ) (doc : Document) (ts : List Stage) (w : AreWellNamed last 
     cols = λ k h. w.own.cols k (other-kind inserts_cols k ts h);
   }
 
-  kept-count : (kind : SubOperation → Bool) (list : Sequence) → IsWellNumbered last list → ArePutIn kind ts list.items → count_held (rebuilt_list ms list) ≡ count_held list
+  kept-count : (kind : SubOperation → Bool) (list : Sequence) → IsWellNumbered last list → ArePutIn kind ts list.items
+      → count_held (rebuilt_list ms list) ≡ count_held list
   kept-count kind list n p =
       ap (λ m. list.made + m)
       (rebuilt-pending last ms list
@@ -207,7 +211,8 @@ module _ (last : ℕ) (doc : Document) (ts : List Stage) (w : AreWellNamed last 
   same-text : rebuilt_list ms doc.text ≡ rebuilt_list (map (λ t. t.stage) (text_only ts)) doc.text
   same-text = ap (λ xs. record doc.text { items = xs }) (same-put doc.text.items _ 0 last ts w.rise (λ k l h. w.own.text k h))
 
-  pub text-again : (entry : Entry) (s : TextState) → HoldsRejoined s doc (text_only ts) → HoldsText s (rebuilt_document ms (with_numbers entry doc)) (carried (with_numbers entry doc) ts)
+  pub text-again : (entry : Entry) (s : TextState) → HoldsRejoined s doc (text_only ts)
+      → HoldsText s (rebuilt_document ms (with_numbers entry doc)) (carried (with_numbers entry doc) ts)
   text-again entry s h =
       let p = rebuilt_document (map (λ t. t.stage) (text_only ts)) doc in
       let q = rebuilt_document ms (with_numbers entry doc) in
@@ -224,7 +229,8 @@ module _ (last : ℕ) (doc : Document) (ts : List Stage) (w : AreWellNamed last 
       (grid-same p q g (some_carried doc ts ++ []) (carried doc ts) refl refl refl (ap (grid_stages p) (sym (append-nil (carried doc ts))) ∙ sym (grid-behind p doc ts [])) h)
 
 -- ---- before and after the stages are given
-pub begins : (s : TreeOwn) (held : HeldDocument) → NamesFit held → IsTextSound held.last held.doc held.stages → HoldsTree s held → GivesTree s held.low held.last held.doc [] held.stages
+pub begins : (s : TreeOwn) (held : HeldDocument) → NamesFit held → IsTextSound held.last held.doc held.stages → HoldsTree s held
+    → GivesTree s held.low held.last held.doc [] held.stages
 begins s held named sound h = record {
   known = record { named = named; sound = sound };
   text = h.text;
@@ -241,7 +247,8 @@ begins s held named sound h = record {
 }
   where
     given : (n : ℕ) → n ≡ 0 → All (λ t. n < t.stage) held.stages
-    given n e = subst (λ k. All (λ t. k < t.stage) held.stages) (sym e) (All-from_recursion (λ t. 0 < t.stage) held.stages (later-each 0 0 held.last held.stages (omega arith) named.rise))
+    given n e = subst (λ k. All (λ t. k < t.stage) held.stages) (sym e)
+        (All-from_recursion (λ t. 0 < t.stage) held.stages (later-each 0 0 held.last held.stages (omega arith) named.rise))
 
 module _ (s : TreeOwn) (low last : ℕ) (doc : Document) (ts : List Stage) (h : GivesTree s low last doc ts []) where
   named-all : AreWellNamed last doc ts
@@ -252,7 +259,8 @@ module _ (s : TreeOwn) (low last : ℕ) (doc : Document) (ts : List Stage) (h : 
 
   pub text-all : HoldsGiven s.text doc (text_only ts) []
   text-all = text-part s.text doc (carried doc ts ++ []) (carried doc (text_only ts) ++ [])
-      (ap text_only (append-nil (carried doc (text_only ts))) ∙ only-carried doc (text_only ts) ∙ ap (carried doc) (only-twice ts) ∙ sym (ap text_only (append-nil (carried doc ts)) ∙ only-carried doc ts)) h.text
+      (ap text_only (append-nil (carried doc (text_only ts))) ∙ only-carried doc (text_only ts) ∙ ap (carried doc) (only-twice ts)
+      ∙ sym (ap text_only (append-nil (carried doc ts)) ∙ only-carried doc ts)) h.text
 
   pub text-sound-all : IsTextSound last doc (text_only ts)
   text-sound-all = sound-only last doc ts sound-all
@@ -307,7 +315,8 @@ count-edits (e ∷ edits) = ap (λ ns. length e.stages ∷ ns) (count-edits edit
 
 abbrev pub GivesAll : TreeOwn → TreeOwn → List ℕ → List Resent → Type 0
 GivesAll s now counts again = (low last : ℕ) (doc : Document) (edits : List (List Stage)) → map (λ stages. length stages) edits ≡ counts
-    → list_all (λ stages. are_of_one_edit (map own_stage stages)) edits ≡ true → GivesTree s low last doc [] (flat edits) → (again ≡ map (resent doc) edits) × GivesTree now low last doc (flat edits) []
+    → list_all (λ stages. are_of_one_edit (map own_stage stages)) edits ≡ true → GivesTree s low last doc [] (flat edits)
+    → (again ≡ map (resent doc) edits) × GivesTree now low last doc (flat edits) []
 
 module _ (s : TreeOwn) (entry : Entry) (counts : List ℕ) (k : HoldsOne HoldsTree s (λ p. (process_fault p entry ≡ None) × (map (λ e. length e.stages) p.pending ≡ counts))) where
   abbrev p : NaiveClient
@@ -340,16 +349,20 @@ module _ (s : TreeOwn) (entry : Entry) (counts : List ℕ) (k : HoldsOne HoldsTr
     now-held = (p.last_stage, all-held now k.low p.last_stage p.doc (flat mine) all-client)
 
     pub now-rows : StandSideBySide (λ (e : NamelessElement). e.stamps) now.table.rows
-    now-rows = subst (λ es. StandSideBySide (λ (e : NamelessElement). e.stamps) es) (sym k.document.table.rows ∙ all-client.table.rows) (side-rows k.start p k.made s k.low k.document)
+    now-rows = subst (λ es. StandSideBySide (λ (e : NamelessElement). e.stamps) es) (sym k.document.table.rows ∙ all-client.table.rows)
+        (side-rows k.start p k.made s k.low k.document)
 
     pub now-cols : StandSideBySide (λ (e : NamelessElement). e.stamps) now.table.cols
-    now-cols = subst (λ es. StandSideBySide (λ (e : NamelessElement). e.stamps) es) (sym k.document.table.cols ∙ all-client.table.cols) (side-cols k.start p k.made s k.low k.document)
+    now-cols = subst (λ es. StandSideBySide (λ (e : NamelessElement). e.stamps) es) (sym k.document.table.cols ∙ all-client.table.cols)
+        (side-cols k.start p k.made s k.low k.document)
 
     -- ---- each document that it holds
-    module _ (held : HeldDocument) (edits : List (List Stage)) (named : NamesFit held) (parts : held.stages ≡ flat edits) (counted : map (λ stages. length stages) edits ≡ counts) (h : HoldsTree s held) where
+    module _ (held : HeldDocument) (edits : List (List Stage)) (named : NamesFit held) (parts : held.stages ≡ flat edits)
+        (counted : map (λ stages. length stages) edits ≡ counts) (h : HoldsTree s held) where
       all-after : (again ≡ map (resent held.doc) edits) × GivesTree now held.low held.last held.doc held.stages []
       all-after =
-          let each = each-alike mine edits (count-edits p.pending ∙ k.fits.1 ∙ sym counted) (ap (map own_stage) (flat-edits p.pending) ∙ sym k.document.stages ∙ h.stages ∙ ap (map own_stage) parts) each-one in
+          let each = each-alike mine edits (count-edits p.pending ∙ k.fits.1 ∙ sym counted)
+          (ap (map own_stage) (flat-edits p.pending) ∙ sym k.document.stages ∙ h.stages ∙ ap (map own_stage) parts) each-one in
           let r = g held.low held.last held.doc edits counted each (subst (λ ts. GivesTree s held.low held.last held.doc [] ts) parts
           (begins s held named (held-sound k.start p k.made s k.low k.document held named h) h)) in
           (r.0, subst (λ ts. GivesTree now held.low held.last held.doc ts []) (sym parts) r.1)
@@ -361,11 +374,15 @@ module _ (s : TreeOwn) (entry : Entry) (counts : List ℕ) (k : HoldsOne HoldsTr
       after-given = all-after.1
 
       pub joined-tree : (new : TreeOwn)
-          → ((last : ℕ) → (doc : Document) → (stages : List Stage) → IsTextSound last doc stages → HoldsGiven now.text doc stages [] → HoldsRejoined new.text doc stages)
-          → ((last : ℕ) (doc : Document) (stages : List Stage) (numbers : List ℕ) → AreWellNamed last doc stages → HoldsGrid now.table doc stages → AreItsStages last numbers doc
+          → ((last : ℕ) → (doc : Document) → (stages : List Stage) → IsTextSound last doc stages → HoldsGiven now.text doc stages []
+          → HoldsRejoined new.text doc stages)
+          → ((last : ℕ) (doc : Document) (stages : List Stage) (numbers : List ℕ) → AreWellNamed last doc stages
+          → HoldsGrid now.table doc stages → AreItsStages last numbers doc
           → HoldsGrid new.table (rebuilt_document numbers doc) stages)
-          → new.text.given ≡ 0 → new.table.given ≡ 0 → new.text.floor ≡ now.text.floor → new.table.floor ≡ now.table.floor → new.text.usable ≡ true → new.table.usable ≡ now.table.usable
-          → new.stages.items ≡ now.stages.items → new.numbers ≡ record now.numbers { number = entry.msg.seq; minimum = entry.msg.min } → HoldsTree new (rejoined entry held)
+          → new.text.given ≡ 0 → new.table.given ≡ 0 → new.text.floor ≡ now.text.floor → new.table.floor ≡ now.table.floor
+          → new.text.usable ≡ true → new.table.usable ≡ now.table.usable
+          → new.stages.items ≡ now.stages.items → new.numbers ≡ record now.numbers { number = entry.msg.seq; minimum = entry.msg.min }
+          → HoldsTree new (rejoined entry held)
       joined-tree new a b text_given table_given text_floor table_floor text_usable table_usable stages numbers =
           let f = after-given in
           rejoined-tree now held.low held.last held.doc held.stages f entry new

@@ -26,8 +26,10 @@ module _ (s : TreeOwn) (last : ℕ) (known : HoldsOne HoldsTree s (λ p. p.last_
       next-one : (a b c : ℕ) → a ≡ b → c ≡ b → a < c + 1
       next-one a b c e f = omega arith
 
-pub shows-all : (p : NaiveClient) (mid new : View) → ShowsText p.last_stage p.doc (stages_of p) mid → new ≡ with_grid p.last_stage p.doc (stages_of p) mid → view_content new ≡ content p
+pub shows-all : (p : NaiveClient) (mid new : View) → ShowsText p.last_stage p.doc (stages_of p) mid
+    → new ≡ with_grid p.last_stage p.doc (stages_of p) mid → view_content new ≡ content p
 shows-all p mid new t e = ap view_content e ∙ rw (t.text, t.markers, t.runs, t.intervals) refl
 
-pub same-numbers : (p : NaiveClient) (old mid new : View) (numbers : Numbers) → old.numbers ≡ numbers → KeepsOthers old mid → new ≡ with_grid p.last_stage p.doc (stages_of p) mid → new.numbers ≡ numbers
+pub same-numbers : (p : NaiveClient) (old mid new : View) (numbers : Numbers) → old.numbers ≡ numbers → KeepsOthers old mid
+    → new ≡ with_grid p.last_stage p.doc (stages_of p) mid → new.numbers ≡ numbers
 same-numbers p old mid new numbers e k g = ap (λ (v : View). v.numbers) g ∙ k.numbers ∙ e

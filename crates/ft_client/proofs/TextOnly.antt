@@ -24,7 +24,8 @@ use Rattle.ft_client.proofs.Parts.{text-same}
 
 -- ---- tests that only stages of the text pass
 
-any-only : (test : Stage → Bool) → ((t : Stage) → test t ≡ true → is_on_text t.sub_operation ≡ true) → (ts : List Stage) → list_any test (text_only ts) ≡ list_any test ts
+any-only : (test : Stage → Bool) → ((t : Stage) → test t ≡ true → is_on_text t.sub_operation ≡ true) → (ts : List Stage)
+    → list_any test (text_only ts) ≡ list_any test ts
 any-only test f [] = refl
 any-only test f (t ∷ ts) = step (is_on_text t.sub_operation) refl (test t) refl (any-only test f ts)
   where
@@ -36,7 +37,8 @@ any-only test f (t ∷ ts) = step (is_on_text t.sub_operation) refl (test t) ref
         let never : true ≡ false = sym (f t g) ∙ e in
         (cc)
 
-numbered-kind : (kind : SubOperation → Bool) → ((o : SubOperation) → kind o ≡ true → is_on_text o ≡ true) → (b : Bool) → (t : Stage) → b && kind t.sub_operation ≡ true → is_on_text t.sub_operation ≡ true
+numbered-kind : (kind : SubOperation → Bool) → ((o : SubOperation) → kind o ≡ true → is_on_text o ≡ true) → (b : Bool) → (t : Stage)
+    → b && kind t.sub_operation ≡ true → is_on_text t.sub_operation ≡ true
 numbered-kind kind f b t h = f t.sub_operation (both b (kind t.sub_operation) h).1
 
 inserts-on : (o : SubOperation) → inserts_text o ≡ true → is_on_text o ≡ true
@@ -59,7 +61,8 @@ puts-on (OnText op) h = refl
 puts-on (OnIntervals op) h = refl
 puts-on (OnGrid op) h = (cc)
 
-stage-only : (kind : SubOperation → Bool) → ((o : SubOperation) → kind o ≡ true → is_on_text o ≡ true) → (ts : List Stage) (k : ℕ) → is_stage_of kind (text_only ts) k ≡ is_stage_of kind ts k
+stage-only : (kind : SubOperation → Bool) → ((o : SubOperation) → kind o ≡ true → is_on_text o ≡ true) → (ts : List Stage) (k : ℕ)
+    → is_stage_of kind (text_only ts) k ≡ is_stage_of kind ts k
 stage-only kind f ts k = any-only (λ (t : Stage). nat_eq t.stage k && kind t.sub_operation) (λ t h. numbered-kind kind f (nat_eq t.stage k) t h) ts
 
 put-only : (ts : List Stage) (xs : List ListElement) → ArePutIn puts_text_in ts xs → ArePutIn puts_text_in (text_only ts) xs
@@ -95,7 +98,8 @@ each-only P (t ∷ ts) h = step (is_on_text t.sub_operation) (each-only P ts h.1
     step true r = (h.0, r)
     step false r = r
 
-marks-only : (ts : List Stage) (xs : List ListElement) → list_all (has_marks_of inserts_text removes_text ts) xs ≡ true → list_all (has_marks_of inserts_text removes_text (text_only ts)) xs ≡ true
+marks-only : (ts : List Stage) (xs : List ListElement) → list_all (has_marks_of inserts_text removes_text ts) xs ≡ true
+    → list_all (has_marks_of inserts_text removes_text (text_only ts)) xs ≡ true
 marks-only ts [] h = refl
 marks-only ts (x ∷ xs) h =
     let p = both (has_marks_of inserts_text removes_text ts x) (list_all (has_marks_of inserts_text removes_text ts) xs) h in
@@ -168,7 +172,8 @@ intervals-only (t ∷ ts) = step t.sub_operation t.names (intervals-only ts)
 
 -- stages with the same ones of the text
 pub text-part : (s : TextState) (doc : Document) (ts us : List Stage) → text_only us ≡ text_only ts → HoldsText s doc ts → HoldsText s doc us
-text-part s doc ts us e h = text-same doc doc s ts us refl refl (sym (elements-only us) ∙ ap element_stages e ∙ elements-only ts) (sym (intervals-only us) ∙ ap interval_stages e ∙ intervals-only ts) h
+text-part s doc ts us e h = text-same doc doc s ts us refl refl (sym (elements-only us) ∙ ap element_stages e ∙ elements-only ts)
+    (sym (intervals-only us) ∙ ap interval_stages e ∙ intervals-only ts) h
 
 pub only-more : (ts us : List Stage) → text_only (ts ++ us) ≡ text_only ts ++ text_only us
 only-more [] us = refl
@@ -205,7 +210,8 @@ one-carried doc t = step t.stage t.sub_operation t.names
 pub only-carried : (doc : Document) (ts : List Stage) → text_only (carried doc ts) ≡ carried doc (text_only ts)
 only-carried doc [] = refl
 only-carried doc (t ∷ ts) =
-    only-more (carried_stage doc t) (carried doc ts) ∙ ap (λ us. us ++ text_only (carried doc ts)) (one-carried doc t) ∙ ap (λ us. carried doc (text_only (t ∷ [])) ++ us) (only-carried doc ts)
+    only-more (carried_stage doc t) (carried doc ts) ∙ ap (λ us. us ++ text_only (carried doc ts)) (one-carried doc t)
+    ∙ ap (λ us. carried doc (text_only (t ∷ [])) ++ us) (only-carried doc ts)
     ∙ step (is_on_text t.sub_operation)
   where
     nil-behind : (us : List Stage) → (us ++ []) ++ carried doc (text_only ts) ≡ us ++ carried doc (text_only ts)

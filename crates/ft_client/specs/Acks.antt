@@ -55,7 +55,8 @@ pub record AcksSome (last s c : ℕ) (g : GridState) (doc : Document) (mine left
 
 -- what an acknowledgement of the stages up to n makes of the documents whose text is held
 abbrev pub AcksText : ℕ → ℕ → ℕ → TextState → TextState → Type 0
-AcksText n s c old new = (last : ℕ) (doc : Document) (mine rest : List Stage) → AreOldest 1 (1 + n) mine rest → IsTextSound last doc (mine ++ rest) → HoldsText old doc (mine ++ rest)
+AcksText n s c old new = (last : ℕ) (doc : Document) (mine rest : List Stage) → AreOldest 1 (1 + n) mine rest → IsTextSound last doc
+    (mine ++ rest) → HoldsText old doc (mine ++ rest)
     → HoldsAcked new s c mine rest doc
 
 -- and what one of these stages makes of those whose table is
@@ -65,6 +66,8 @@ AcksGrid own s c old new = (last : ℕ) (doc : Document) (mine rest : List Stage
 
 -- the one or the other, as these stages are of the text or of the grid
 pub data AcksPart (own : List OwnStage) (s c : ℕ) (old new : TreeOwn) : Type 0 where
-  acks_text : list_all (λ t. is_text_part t.part) own ≡ true → AcksText (last_from 0 own) s c old.text new.text → KeepsText old.text new.text → new ≡ record old { text = new.text } → AcksPart own s c old new
-  acks_grid : list_all (λ t. is_grid_part t.part) own ≡ true → AcksGrid own s c old.table new.table → KeepsGrid old.table new.table → new ≡ record old { table = new.table }
+  acks_text : list_all (λ t. is_text_part t.part) own ≡ true → AcksText (last_from 0 own) s c old.text new.text
+      → KeepsText old.text new.text → new ≡ record old { text = new.text } → AcksPart own s c old new
+  acks_grid : list_all (λ t. is_grid_part t.part) own ≡ true → AcksGrid own s c old.table new.table → KeepsGrid old.table new.table
+      → new ≡ record old { table = new.table }
       → AcksPart own s c old new

@@ -71,13 +71,15 @@ with_body entry held = record held { doc = body_effect held.doc entry.msg.seq en
 -- ---- what it shows is what it holds
 
 merged-kept : (doc : Document) (ts : List Stage)
-    → merged (map (λ (t : OwnStage). t.part) (map own_stage ts)) (map (indexed_stage doc) (element_stages ts)) (map (indexed_stage doc) (interval_stages ts)) (grid_stages doc ts)
+    → merged (map (λ (t : OwnStage). t.part) (map own_stage ts)) (map (indexed_stage doc) (element_stages ts))
+    (map (indexed_stage doc) (interval_stages ts)) (grid_stages doc ts)
     ≡ map (indexed_stage doc) ts
 merged-kept doc [] = refl
 merged-kept doc (t ∷ ts) = step t.stage t.sub_operation t.names (merged-kept doc ts)
   where
     step : (k : ℕ) (o : SubOperation) (names : NamedElements)
-        → merged (map (λ (t : OwnStage). t.part) (map own_stage ts)) (map (indexed_stage doc) (element_stages ts)) (map (indexed_stage doc) (interval_stages ts)) (grid_stages doc ts)
+        → merged (map (λ (t : OwnStage). t.part) (map own_stage ts)) (map (indexed_stage doc) (element_stages ts))
+        (map (indexed_stage doc) (interval_stages ts)) (grid_stages doc ts)
         ≡ map (indexed_stage doc) ts
         → (let u : Stage = record { stage = k; sub_operation = o; names = names } in
         merged (map (λ (t : OwnStage). t.part) (map own_stage (u ∷ ts))) (map (indexed_stage doc) (element_stages (u ∷ ts))) (map (indexed_stage doc) (interval_stages (u ∷ ts)))

@@ -154,13 +154,15 @@ pub record GivesFirst (s : TreeOwn) (stage : OwnStage) : Type 0 where
 -- what a part makes of its stage
 pub record GivesText (stage : OwnStage) (given_op : Option ChannelOp) (old new : TextState) : Type 0 where
   pub holds : (last : ℕ) (doc : Document) (front rest : List Stage) (t : Stage) → AreNext old.given stage.stage (stage.stage + 1) front (t ∷ []) rest
-      → IsTextSound last doc (front ++ (t ∷ rest)) → HoldsGiven old doc front (t ∷ rest) → (given_op ≡ op_of (pieces doc t)) × HoldsGiven new doc (front ++ t ∷ []) rest
+      → IsTextSound last doc (front ++ (t ∷ rest)) → HoldsGiven old doc front (t ∷ rest)
+      → (given_op ≡ op_of (pieces doc t)) × HoldsGiven new doc (front ++ t ∷ []) rest
   pub given : new.given ≡ stage.stage
   pub floor : new.floor ≡ old.floor
   pub usable : new.usable ≡ true
 
 pub record GivesGrid (stage : OwnStage) (given_op : Option ChannelOp) (old new : GridState) : Type 0 where
-  pub holds : (last : ℕ) (doc : Document) (front rest : List Stage) (t : Stage) → t.stage ≡ stage.stage → is_grid_stage t ≡ true → AreWellNamed last doc (front ++ (t ∷ rest))
+  pub holds : (last : ℕ) (doc : Document) (front rest : List Stage) (t : Stage) → t.stage ≡ stage.stage → is_grid_stage t ≡ true
+      → AreWellNamed last doc (front ++ (t ∷ rest))
       → HoldsGrid old doc (front ++ (t ∷ rest)) → (given_op ≡ op_of (pieces doc t)) × HoldsGrid new doc (front ++ (carried doc (t ∷ []) ++ rest))
   pub given : new.given ≡ stage.stage
   pub floor : new.floor ≡ old.floor
@@ -169,4 +171,5 @@ pub record GivesGrid (stage : OwnStage) (given_op : Option ChannelOp) (old new :
 -- the one part or the other
 pub data GivesPart (stage : OwnStage) (given : Option ChannelOp) (old new : TreeOwn) : Type 0 where
   gives_text : is_text_part stage.part ≡ true → GivesText stage given old.text new.text → new ≡ record old { text = new.text } → GivesPart stage given old new
-  gives_grid : is_text_part stage.part ≡ false → GivesGrid stage given old.table new.table → new ≡ record old { table = new.table } → GivesPart stage given old new
+  gives_grid : is_text_part stage.part ≡ false → GivesGrid stage given old.table new.table → new ≡ record old { table = new.table }
+      → GivesPart stage given old new

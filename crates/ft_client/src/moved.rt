@@ -5,8 +5,8 @@ ghost use Rattle.std.specs.Prelude.{◌≡◌, ◌++◌, ◌∷◌, [], List, If
 use ft_base::{List, OutOfMemory};
 use std::alloc::Global;
 
-/// The item alone.
-pub(crate) fn alone<T: Drop>(alloc: Global, item: T) -> Result<List<T>, OutOfMemory>
+/// A list of the item alone.
+pub(crate) fn one_item<T: Drop>(alloc: Global, item: T) -> Result<List<T>, OutOfMemory>
     ensures { IfOk result (λ items. items ≡ item ∷ []) }
 {
     let mut items = List::new(alloc);

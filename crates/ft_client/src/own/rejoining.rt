@@ -15,7 +15,7 @@ ghost use Rattle.ft_client.specs.Holds.{HoldsTree};
 ghost use Rattle.ft_client.specs.Parts.{are_of_one_edit, is_text_part, own_stage};
 ghost use Rattle.ft_client.specs.Rejoins.{AddsPieces, GivesEdit, GivesEdits, GivesFirst, GivesNext, GivesPart, GivesSome, GivesStage, GivesTree, Joins, are_of_one_part, base_ops, cell_ops};
 
-use crate::moved::{alone, joined};
+use crate::moved::{joined, one_item};
 use crate::own::TreeOwn;
 use crate::stages::{OwnStage, Part};
 use ft_base::OutOfMemory;
@@ -228,7 +228,7 @@ fn base_ops(alloc: Global, op: TextOp) -> Result<BaseOps, OutOfMemory>
     ensures { IfOk result (λ ops. ops ≡ base_ops op) }
 {
     match op {
-        TextOp::One(op) => alone(alloc, op),
+        TextOp::One(op) => one_item(alloc, op),
         TextOp::Group(ops) => Ok(ops),
         TextOp::IntervalAdd { .. }
         | TextOp::IntervalChange { .. }
@@ -241,7 +241,7 @@ fn cell_ops(alloc: Global, op: GridOp) -> Result<CellOps, OutOfMemory>
     ensures { IfOk result (λ ops. ops ≡ cell_ops op) }
 {
     match op {
-        GridOp::One(op) => alone(alloc, op),
+        GridOp::One(op) => one_item(alloc, op),
         GridOp::Group(ops) => Ok(ops),
     }
 }

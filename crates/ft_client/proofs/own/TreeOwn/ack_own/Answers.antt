@@ -5,7 +5,8 @@ use Rattle.ft_client.proofs.own.TreeOwn.ack_own.Goals as goal
 
 pub ack-requires-clause-held : goal.ack-requires-clause-held
 ack-requires-clause-held c =
-    subst (λ n. (last : ℕ) × HoldsOldest last 1 (1 + n) c.args.self.now.text) (sym c.last_number.ensures) (c.requires.front.of_text (sym c.are_of_text.ensures ∙ c.if-are_of_text.true))
+    subst (λ n. (last : ℕ) × HoldsOldest last 1 (1 + n) c.args.self.now.text) (sym c.last_number.ensures)
+    (c.requires.front.of_text (sym c.are_of_text.ensures ∙ c.if-are_of_text.true))
 
 pub ack_table-requires-clause-held : goal.ack_table-requires-clause-held
 ack_table-requires-clause-held c = c.requires.front.of_grid (c.requires.front.of_one (sym c.are_of_text.ensures ∙ c.if-are_of_text.false))

@@ -6,7 +6,8 @@ use Rattle.ft_client.proofs.own.TreeOwn.acknowledge.Goals as goal
 
 pub ack_front-requires-clause-enough : goal.ack_front-requires-clause-enough
 ack_front-requires-clause-enough c =
-    subst (λ (q : VecDeque OwnStage Global). c.args.count ≤ length q.items) (sym c.replace-stages.ensures.value) (enough c.args.self.now c.args.entry.now c.args.count c.requires.known)
+    subst (λ (q : VecDeque OwnStage Global). c.args.count ≤ length q.items) (sym c.replace-stages.ensures.value)
+    (enough c.args.self.now c.args.entry.now c.args.count c.requires.known)
 
 pub ack_front-requires-clause-front : goal.ack_front-requires-clause-front
 ack_front-requires-clause-front c =
@@ -24,6 +25,7 @@ pub returns : goal.returns
 returns c = λ held mine rest named parts counted h.
     let s = c.args.self.now in
     let stages = ap (λ (q : VecDeque OwnStage Global). q.items) c.replace-stages.ensures.value in
-    own-acked s c.args.entry.now c.args.count c.requires.known (take c.args.count c.replace-stages.result.items) (record s { stages = c.replace-stages.new.dest }) c.ack_front.new.self
+    own-acked s c.args.entry.now c.args.count c.requires.known (take c.args.count c.replace-stages.result.items)
+    (record s { stages = c.replace-stages.new.dest }) c.ack_front.new.self
     (record c.ack_front.new.self { stages = c.drop_front.new.stages; numbers = c.take.new.self }) refl (ap (take c.args.count) stages)
     (c.drop_front.ensures ∙ ap (drop c.args.count) (c.ack_front.ensures.stages ∙ stages)) c.in_ok-ack_front.ensures.acks refl c.take.ensures held mine rest named parts counted h

@@ -25,7 +25,8 @@ returns-clause-answers g c = λ held named e h.
     let old = c.args.self.now in
     let new = record c.args.self.now { text = c.edit.new.self; stages = c.note.new.stages; numbers = c.note.new.numbers } in
     noted-answer (HoldsTree new) held (local_sub_operations held.doc held.stages c.args.first (text_sub_operations c.args.op.now))
-    (λ n. Notes c.args.first c.in_ok-count.count c.text_part.result n old.stages.items new.stages.items old.numbers new.numbers) c.note.result c.note.ensures.noted c.note.ensures.err
+    (λ n. Notes c.args.first c.in_ok-count.count c.text_part.result n old.stages.items new.stages.items old.numbers new.numbers)
+    c.note.result c.note.ensures.noted c.note.ensures.err
     (λ n notes. text-taken old new held h c.args.first c.args.op.now c.in_ok-count.count n
     (c.in_ok-count.ensures.answers held.doc held.stages (sound-before old c.args.first c.requires.known held named e h) h.text) c.in_ok-count.ensures.rest refl
     (subst (λ part. Notes c.args.first c.in_ok-count.count part n old.stages.items new.stages.items old.numbers new.numbers) c.text_part.ensures notes))

@@ -11,7 +11,8 @@ give_more-requires c = record {
 
 pub loop-i-preserved : goal.loop-i-preserved
 loop-i-preserved c =
-    up-to-next c.args.self.now c.loop-i.self c.args.count c.loop-i._i c.loop-i.again c.loop-i-test.true c.loop-i.invariant c.give_more.new.self c.in_ok-again.again c.in_ok-again.ensures
+    up-to-next c.args.self.now c.loop-i.self c.args.count c.loop-i._i c.loop-i.again c.loop-i-test.true c.loop-i.invariant
+    c.give_more.new.self c.in_ok-again.again c.in_ok-again.ensures
 
 pub returns : goal.returns
 returns c = all-given c.args.self.now c.loop-i.self c.args.count c.loop-i._i c.loop-i.again c.loop-i-test.false c.loop-i.invariant

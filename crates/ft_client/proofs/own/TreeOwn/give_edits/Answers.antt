@@ -7,7 +7,8 @@ give_edit-requires c =
     let counts = c.args.counts.now in
     let i = c.loop-count.count-index in
     record {
-      known = edit-given c.args.self.now c.loop-count.self counts i (slice_index_or counts i 0) (drop (i + 1) counts) c.loop-count.again.items (count-ahead counts i 0 c.loop-count-test.true) c.loop-count.invariant c.requires.known;
+      known = edit-given c.args.self.now c.loop-count.self counts i (slice_index_or counts i 0) (drop (i + 1) counts)
+          c.loop-count.again.items (count-ahead counts i 0 c.loop-count-test.true) c.loop-count.invariant c.requires.known;
     }
 
 pub loop-count-preserved : goal.loop-count-preserved
@@ -15,7 +16,8 @@ loop-count-preserved c =
     let counts = c.args.counts.now in
     let i = c.loop-count.count-index in
     subst (GivesEach c.args.self.now c.give_edit.new.self counts (i + 1)) (sym c.in_ok-push_back.ensures.items)
-    (each-next c.args.self.now c.loop-count.self counts i (slice_index_or counts i 0) (drop (i + 1) counts) c.loop-count.again.items (count-ahead counts i 0 c.loop-count-test.true) c.loop-count.invariant
+    (each-next c.args.self.now c.loop-count.self counts i (slice_index_or counts i 0) (drop (i + 1) counts) c.loop-count.again.items
+    (count-ahead counts i 0 c.loop-count-test.true) c.loop-count.invariant
     c.give_edit.new.self c.in_ok-edit.edit c.in_ok-edit.ensures)
 
 pub returns : goal.returns

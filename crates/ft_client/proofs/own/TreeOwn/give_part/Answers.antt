@@ -15,5 +15,6 @@ returns-in_ok-op c =
 pub returns-in_ok-op-2 : goal.returns-in_ok-op-2
 returns-in_ok-op-2 c =
     let e = c.in_ok-op-2.ensures in
-    gives_grid (sym c.is_of_text.ensures ∙ c.if-is_of_text.false) (subst (λ o. GivesGrid c.args.stage o c.args.self.now.table c.reconnect-else-is_of_text.new.self) (sym c.grid_again.ensures)
+    gives_grid (sym c.is_of_text.ensures ∙ c.if-is_of_text.false)
+    (subst (λ o. GivesGrid c.args.stage o c.args.self.now.table c.reconnect-else-is_of_text.new.self) (sym c.grid_again.ensures)
     (gives-grid c.args.self.now c.args.stage c.requires.known c.in_ok-op-2.op c.reconnect-else-is_of_text.new.self e.answer e.holds e.given e.floor e.usable)) refl

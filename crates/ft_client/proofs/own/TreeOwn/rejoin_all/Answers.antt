@@ -34,6 +34,7 @@ returns c = λ held edits named parts counted h.
     let table = c.in_ok-normalise-2.ensures in
     let new = record c.give_edits.new.self { text = c.normalise.new.self; table = c.normalise-2.new.self; numbers = c.take.new.self } in (
       sent-again s c.args.entry.now c.args.counts.now c.requires.known now again c.in_ok-again.ensures held edits named parts counted h,
-      joined-tree s c.args.entry.now c.args.counts.now c.requires.known now again c.in_ok-again.ensures held edits named parts counted h new text.holds table.rebuilt text.given table.given text.floor table.floor
+      joined-tree s c.args.entry.now c.args.counts.now c.requires.known now again c.in_ok-again.ensures held edits named parts counted h
+          new text.holds table.rebuilt text.given table.given text.floor table.floor
           text.usable table.usable refl c.take.ensures,
     )

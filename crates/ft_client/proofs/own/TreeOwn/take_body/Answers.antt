@@ -6,7 +6,8 @@ use Rattle.ft_client.proofs.ForeignSteps.{known-above, other-counted}
 use Rattle.ft_client.proofs.own.TreeOwn.take_body.Goals as goal
 
 pub apply-requires-clause-known : goal.apply-requires-clause-known
-apply-requires-clause-known g c = known-above c.args.self.now c.args.entry.now c.in-Op.op c.reference_number.result c.requires.formed c.in-Op.is c.reference_number.ensures c.requires.known
+apply-requires-clause-known g c = known-above c.args.self.now c.args.entry.now c.in-Op.op c.reference_number.result c.requires.formed
+    c.in-Op.is c.reference_number.ensures c.requires.known
 
 pub returns-in-Elsewhere : goal.returns-in-Elsewhere
 returns-in-Elsewhere g c = λ held named h.

@@ -8,7 +8,8 @@ returns-clause-numbers c =
     let k = c.requires in
     let p = k.client in
     same-numbers p c.empty_view-view.result c.view.new.out c.view-2.new.out c.args.numbers c.empty_view-view.ensures c.in_ok-view.ensures.others
-    (c.in_ok-view-2.ensures p.last_stage p.doc (stages_of p) k.document.numbers.fits (is-named k.start p k.made) k.document.table (view-above c.args.self.now c.args.last k p.last_stage k.fits))
+    (c.in_ok-view-2.ensures p.last_stage p.doc (stages_of p) k.document.numbers.fits (is-named k.start p k.made) k.document.table
+    (view-above c.args.self.now c.args.last k p.last_stage k.fits))
 
 pub returns-clause-content : goal.returns-clause-content
 returns-clause-content c = λ low p named e h.

@@ -17,7 +17,8 @@ loop-stage-init c = record { keeps = record { floor = refl; given = refl; usable
 pub ack_one-requires-clause-lowest : goal.ack_one-requires-clause-lowest
 ack_one-requires-clause-lowest c =
     let k = c.requires.held.1 in
-    item-lowest c.requires.held.0 c.args.seq c.args.conn k.doc k.mine k.rest c.args.own.now c.loop-stage.stage-index (item c.args.own.now c.loop-stage.stage-index) none c.loop-stage.table k.numbers c.loop-stage-test.true
+    item-lowest c.requires.held.0 c.args.seq c.args.conn k.doc k.mine k.rest c.args.own.now c.loop-stage.stage-index
+    (item c.args.own.now c.loop-stage.stage-index) none c.loop-stage.table k.numbers c.loop-stage-test.true
     refl (c.loop-stage.invariant.acked c.requires.held.0 k.doc k.mine k.rest k.numbers k.named k.counted k.holds)
 
 pub loop-stage-preserved : goal.loop-stage-preserved
@@ -26,7 +27,8 @@ loop-stage-preserved c =
     let e = c.in_ok-ack_one.ensures in
     record {
       keeps = record { floor = e.rest.floor ∙ i.keeps.floor; given = e.rest.given ∙ i.keeps.given; usable = e.rest.usable ∙ i.keeps.usable };
-      acked = λ last doc mine rest n named counted h. acked-next last c.args.seq c.args.conn doc mine rest c.args.own.now c.loop-stage.stage-index (item c.args.own.now c.loop-stage.stage-index) none c.loop-stage.table
+      acked = λ last doc mine rest n named counted h. acked-next last c.args.seq c.args.conn doc mine rest c.args.own.now
+          c.loop-stage.stage-index (item c.args.own.now c.loop-stage.stage-index) none c.loop-stage.table
           n c.loop-stage-test.true refl c.ack_one.new.table e.acked (i.acked last doc mine rest n named counted h);
     }
 
