@@ -11,9 +11,8 @@ ghost use Rattle.ft_matrix.specs.SavedUnits.{AddsLeaf, Joins, continued, saved_r
 ghost use Rattle.ft_matrix.specs.Units.{units_of};
 
 use crate::messages::more;
-use crate::moved::push_unless;
 use ft_arena::NodeId;
-use ft_base::moved::after;
+use ft_base::moved::{after, push_unless};
 use ft_base::{Element, OutOfMemory};
 use ft_marks::{insertion_of, is_collectable, marks_of, same_stamps};
 use ft_perm::{Handles, Vector};

@@ -7,9 +7,9 @@ ghost use Rattle.ft_props.specs.Overlay.{IsReady, StagesRise, kept_acked, kept_p
 ghost use Rattle.ft_props.specs.Steps.{acked_props};
 
 use crate::changed::make_changes;
-use crate::moved::{list_of, push_beside};
+use crate::moved::list_of;
 use crate::properties::{Changes, Props};
-use ft_base::moved::{both, boxed};
+use ft_base::moved::{both, boxed, push_beside};
 use ft_base::{Datum, OutOfMemory};
 use ft_json::ValText;
 use std::alloc::Global;
