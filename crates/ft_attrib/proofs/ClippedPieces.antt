@@ -35,7 +35,7 @@ use Rattle.std.specs.Prelude.{nat_lt}
 use Rattle.ft_attrib.specs.declared.attribution.Origin.{Origin}
 use Rattle.ft_attrib.specs.declared.pieces.OriginPiece.{OriginPiece}
 use Rattle.ft_attrib.specs.Runs.{origin_runs}
-use Rattle.ft_attrib.specs.Pieces.{GoesOn, IsCut, IsOther, clipped, spread}
+use Rattle.ft_attrib.specs.Pieces.{IsCut, IsOther, IsRestFrom, clipped, spread}
 use Rattle.ft_attrib.proofs.RunLaws.{begins, run_of, runs-replicate, same_origin-other}
 
 take-replicate : (n m : ℕ) (w : Origin) (zs : List Origin) → take m (replicate n w ++ zs) ≡ replicate (min n m) w ++ take (m - n) zs
@@ -153,7 +153,7 @@ spread-past from p (x ∷ xs) (suc i) h c l below above =
     ∙ ap (λ n. drop n (spread from (x ∷ xs))) far
 
 pub goes_on : (p : ℕ) (xs : List OriginPiece) (i : ℕ) → IsCut 0 xs → i ≤ length xs
-    → ((d : OriginPiece) (j : ℕ) → j < i → (get_or xs j d).end ≤ p) → ((d : OriginPiece) → i < length xs → p < (get_or xs i d).end) → GoesOn p (drop i xs) xs
+    → ((d : OriginPiece) (j : ℕ) → j < i → (get_or xs j d).end ≤ p) → ((d : OriginPiece) → i < length xs → p < (get_or xs i d).end) → IsRestFrom p (drop i xs) xs
 goes_on p xs i c l below above =
     let all : p - 0 ≡ p = omega arith in
     record {

@@ -38,7 +38,7 @@ use Rattle.std.proofs.lemmas.List.{get_or_default, length-replicate, replicate-a
 use Rattle.std.proofs.lemmas.Bool.Decides.{nat_tests}
 use Rattle.ft_attrib.specs.declared.attribution.Origin.{Origin}
 use Rattle.ft_attrib.specs.declared.pieces.OriginPiece.{OriginPiece}
-use Rattle.ft_attrib.specs.Pieces.{Appends, IsCut, origin_in, spread}
+use Rattle.ft_attrib.specs.Pieces.{AddsCharacters, IsCut, origin_in, spread}
 
 -- the place where the last piece ends
 pub length-spread : (from : ℕ) (x : OriginPiece) (xs : List OriginPiece) → from < x.end → from + length (spread from (x ∷ xs)) ≡ x.end + length (spread x.end xs)
@@ -158,7 +158,7 @@ origin_of-here p x xs h = grind (arith, nat_tests)
 
 -- a last piece that is longer, or one piece more
 pub appended-last : (xs : List OriginPiece) (i : ℕ) (y d : OriginPiece) → IsCut 0 xs → suc i ≡ length xs → (get_or xs i d).who ≡ y.who → length (spread 0 xs) < y.end
-    → Appends xs (set xs i y) y.end y.who
+    → AddsCharacters xs (set xs i y) y.end y.who
 appended-last xs i y d c l e h =
     let none : 0 + length (spread 0 xs) ≡ length (spread 0 xs) = omega arith in
     record {
@@ -166,7 +166,7 @@ appended-last xs i y d c l e h =
       origins = spread-last 0 xs i y d c l e (omega arith) ∙ ap (λ n. spread 0 xs ++ replicate (y.end - n) y.who) none;
     }
 
-pub appended-push : (xs : List OriginPiece) (y : OriginPiece) → IsCut 0 xs → IsOtherLast xs y.who → length (spread 0 xs) < y.end → Appends xs (xs ++ y ∷ []) y.end y.who
+pub appended-push : (xs : List OriginPiece) (y : OriginPiece) → IsCut 0 xs → IsOtherLast xs y.who → length (spread 0 xs) < y.end → AddsCharacters xs (xs ++ y ∷ []) y.end y.who
 appended-push xs y c o h =
     let none : 0 + length (spread 0 xs) ≡ length (spread 0 xs) = omega arith in
     record {

@@ -8,7 +8,7 @@ use Rattle.ft_attrib.specs.declared.attribution.Origin.TheVariants.{Known, Unkno
 use Rattle.ft_attrib.specs.declared.attribution.Total.{Total}
 use Rattle.ft_attrib.specs.declared.pieces.OriginPiece.{OriginPiece}
 use Rattle.ft_attrib.specs.Pieces.{spread}
-use Rattle.ft_attrib.specs.Totals.{with_count, counted_all, with_origin, place_of_total, sum_of}
+use Rattle.ft_attrib.specs.Totals.{with_count, counted_all, with_origin, place_of_total, summed}
 
 -- the connection's total is there, and is raised
 counted-set : (c n : ℕ) (ts : List Total) (d t : Total) → place_of_total c ts < length ts → (get_or ts (place_of_total c ts) d).conn ≡ c
@@ -22,14 +22,14 @@ counted-insert : (c n : ℕ) (ts : List Total) (d : Total) → (place_of_total c
 counted-insert c n [] d h = refl
 counted-insert c n (x ∷ xs) d h = grind (arith, nat_tests, counted-insert c n xs d)
 
-pub count-below : (ts : List Total) (i : ℕ) (d : Total) → i < length ts → (get_or ts i d).count ≤ sum_of ts
+pub count-below : (ts : List Total) (i : ℕ) (d : Total) → i < length ts → (get_or ts i d).count ≤ summed ts
 count-below [] i d h = absurd (omega arith)
 count-below (t ∷ ts) zero d h = omega arith
 count-below (t ∷ ts) (suc i) d h = omega (arith, count-below ts i d (omega arith))
 
-sum_of-counted : (c n : ℕ) (ts : List Total) → sum_of (with_count c n ts) ≡ sum_of ts + n
-sum_of-counted c n [] = omega arith
-sum_of-counted c n (t ∷ ts) = grind (arith, nat_tests, sum_of-counted c n ts)
+summed-counted : (c n : ℕ) (ts : List Total) → summed (with_count c n ts) ≡ summed ts + n
+summed-counted c n [] = omega arith
+summed-counted c n (t ∷ ts) = grind (arith, nat_tests, summed-counted c n ts)
 
 counted-twice : (c n m : ℕ) (ts : List Total) → with_count c m (with_count c n ts) ≡ with_count c (n + m) ts
 counted-twice c n m [] = grind (arith, nat_tests)
@@ -40,10 +40,10 @@ counted_origin-twice (Known s c) n m ts = counted-twice c n m ts
 counted_origin-twice Unknown n m ts = refl
 counted_origin-twice Pending n m ts = refl
 
-pub sum_of-counted_origin : (o : Origin) (n : ℕ) (ts : List Total) → sum_of (with_origin o n ts) ≤ sum_of ts + n
-sum_of-counted_origin (Known s c) n ts = omega (arith, sum_of-counted c n ts)
-sum_of-counted_origin Unknown n ts = omega arith
-sum_of-counted_origin Pending n ts = omega arith
+pub summed-counted_origin : (o : Origin) (n : ℕ) (ts : List Total) → summed (with_origin o n ts) ≤ summed ts + n
+summed-counted_origin (Known s c) n ts = omega (arith, summed-counted c n ts)
+summed-counted_origin Unknown n ts = omega arith
+summed-counted_origin Pending n ts = omega arith
 
 -- equal origins are counted at once
 counted-replicate : (n : ℕ) (o : Origin) (ts : List Total) (zs : List Origin) → counted_all ts (replicate (suc n) o ++ zs) ≡ counted_all (with_origin o (suc n) ts) zs

@@ -20,7 +20,7 @@ IsCut from [] = ⊤
 IsCut from (x ∷ xs) = (from < x.end) × IsOther x.who xs × IsCut x.end xs
 
 -- the new pieces are maximal too, and have origins o more at the end, up to before the given place
-pub record Appends (old new : List OriginPiece) (end : ℕ) (o : Origin) : Type 0 where
+pub record AddsCharacters (old new : List OriginPiece) (end : ℕ) (o : Origin) : Type 0 where
   pub cut : IsCut 0 new
   pub origins : spread 0 new ≡ spread 0 old ++ replicate (end - length (spread 0 old)) o
 
@@ -29,7 +29,7 @@ abbrev pub IsPieceAt : List OriginPiece → ℕ → OriginPiece → Type 0
 IsPieceAt xs i x = (d : OriginPiece) → x ≡ slice_index_or xs i d
 
 -- the pieces from place p on are these
-pub record GoesOn (p : ℕ) (rest all : List OriginPiece) : Type 0 where
+pub record IsRestFrom (p : ℕ) (rest all : List OriginPiece) : Type 0 where
   pub cut : IsCut p rest
   pub origins : spread p rest ≡ drop p (spread 0 all)
 

@@ -54,9 +54,9 @@ pub record AreTotals (os : List Origin) (ts : List Total) : Type 0 where
   pub counts : (conn : ℕ) → count_of conn ts ≡ how_many (is_by conn) os
 
 -- how many they count in all
-abbrev pub sum_of : List Total → ℕ
-sum_of [] = 0
-sum_of (t ∷ ts) = t.count + sum_of ts
+abbrev pub summed : List Total → ℕ
+summed [] = 0
+summed (t ∷ ts) = t.count + summed ts
 
 -- the place of the connection's total, or where it would stand
 abbrev pub place_of_total : ℕ → List Total → ℕ

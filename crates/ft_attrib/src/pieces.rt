@@ -2,8 +2,8 @@
 
 ghost use Rattle.std.specs.Prelude.{◌≡◌, ◌+◌, ◌*◌, ◌-◌, ◌^◌, ◌<◌, ◌≤◌, IfOk, OnOk, OnErr, length, slice_get, take, drop, replicate};
 ghost use Rattle.ft_attrib.specs.Runs.{how_many, origin_runs, same_origin};
-ghost use Rattle.ft_attrib.specs.Totals.{with_count, with_origin, place_of_total, sum_of, totals};
-ghost use Rattle.ft_attrib.specs.Pieces.{Appends, GoesOn, IsCut, IsPieceAt, clipped, spread};
+ghost use Rattle.ft_attrib.specs.Totals.{with_count, with_origin, place_of_total, summed, totals};
+ghost use Rattle.ft_attrib.specs.Pieces.{AddsCharacters, IsCut, IsPieceAt, IsRestFrom, clipped, spread};
 
 use crate::attribution::{AttrRun, Origin, Total};
 use ft_base::{OutOfMemory, Steps};
@@ -23,7 +23,7 @@ pub struct OriginPiece {
 pub fn push_piece(pieces: &mut Vec<OriginPiece>, end: u64, who: Origin) -> Result<(), OutOfMemory>
     requires cut { IsCut 0 pieces.old.items }
     requires more { length (spread 0 pieces.old.items) < end }
-    ensures ok { OnOk result (Appends pieces.old.items pieces.new.items end who) }
+    ensures ok { OnOk result (AddsCharacters pieces.old.items pieces.new.items end who) }
     ensures err { OnErr result (pieces.new.items ≡ pieces.old.items) }
 {
     let n = pieces.len();
@@ -79,7 +79,7 @@ pub fn origin_at<G: Ledger>(pieces: &[OriginPiece], p: u64, steps: &mut Steps<G>
 fn count_up_to(pieces: &[OriginPiece], p: u64) -> usize
     requires { IsCut 0 pieces.now }
     ensures inside { result ≤ length pieces.now }
-    ensures goes_on { GoesOn p (drop result pieces.now) pieces.now }
+    ensures goes_on { IsRestFrom p (drop result pieces.now) pieces.now }
 {
     let mut low = 0;
     let mut high = pieces.len();
@@ -148,7 +148,7 @@ fn total_place(totals: &[Total], conn: u32) -> usize
 
 // Counts `count` more characters of the connection.
 fn add_count(totals: &mut Vec<Total>, conn: u32, count: u64) -> Result<(), OutOfMemory>
-    requires { sum_of totals.old.items + count < 2 ^ 53 }
+    requires { summed totals.old.items + count < 2 ^ 53 }
     ensures { OnOk result (totals.new.items ≡ with_count conn count totals.old.items) }
 {
     let i = total_place(totals.as_slice(), conn);
@@ -163,7 +163,7 @@ fn add_count(totals: &mut Vec<Total>, conn: u32, count: u64) -> Result<(), OutOf
 
 // Counts `count` more characters of the origin, if its connection is known.
 fn add_origin(totals: &mut Vec<Total>, who: Origin, count: u64) -> Result<(), OutOfMemory>
-    requires { sum_of totals.old.items + count < 2 ^ 53 }
+    requires { summed totals.old.items + count < 2 ^ 53 }
     ensures { OnOk result (totals.new.items ≡ with_origin who count totals.old.items) }
 {
     match who {

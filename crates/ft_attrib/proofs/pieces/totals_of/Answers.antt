@@ -3,10 +3,10 @@ use Rattle.std.specs.Prelude.{slice_index_or}
 use Rattle.std.proofs.lemmas.List.{drop_more}
 use Rattle.ft_attrib.specs.declared.attribution.Origin.TheVariants.{Known}
 use Rattle.ft_attrib.specs.declared.pieces.OriginPiece.{OriginPiece}
-use Rattle.ft_attrib.specs.Totals.{counted_all, sum_of}
+use Rattle.ft_attrib.specs.Totals.{counted_all, summed}
 use Rattle.ft_attrib.specs.Pieces.{IsCut, spread}
 use Rattle.ft_attrib.proofs.PieceLaws.{length-spread}
-use Rattle.ft_attrib.proofs.TotalLaws.{counted-piece, sum_of-counted_origin}
+use Rattle.ft_attrib.proofs.TotalLaws.{counted-piece, summed-counted_origin}
 use Rattle.ft_attrib.proofs.pieces.totals_of.Goals as goal
 
 pub loop-piece-preserved : goal.loop-piece-preserved
@@ -23,7 +23,7 @@ loop-piece-preserved c =
     record {
       cut = cut.2;
       rest = sym (length-spread start x later cut.0) ∙ whole;
-      sum = omega (arith, ap sum_of c.in_ok-add_origin.ensures, sum_of-counted_origin x.who (x.end - start) c.loop-piece.totals.items, cut.0, c.loop-piece.invariant.sum);
+      sum = omega (arith, ap summed c.in_ok-add_origin.ensures, summed-counted_origin x.who (x.end - start) c.loop-piece.totals.items, cut.0, c.loop-piece.invariant.sum);
       counted =
           ap (λ ts. counted_all ts (spread x.end later)) c.in_ok-add_origin.ensures
           ∙ sym (counted-piece start x later c.loop-piece.totals.items cut.0)
