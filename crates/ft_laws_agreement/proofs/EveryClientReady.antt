@@ -238,7 +238,7 @@ pub every-client-ready : (steps : List ClientStep) (x : NaiveClient) → after_s
     → list_all has_fitting_body (taken_entries steps) ≡ true → IsReady x
 every-client-ready steps x h fits = client-ready-from empty steps x (run-from-empty steps x h fits)
 
--- shows what the order will show once its pending operations are sequenced next
+-- shows what the log will show once its pending operations are sequenced next
 pub pending-stays-on_top : (steps : List ClientStep) (x : NaiveClient) (later : List Entry) (conn : ℕ) → after_steps (Some (client_over empty)) steps ≡ Some x
     → list_all has_fitting_body (taken_entries steps) ≡ true
     → content x ≡ applied x (taken_entries steps ++ later) conn

@@ -729,7 +729,7 @@ module _ (x : NaiveClient) (conn : ℕ) (ready : IsReady x) where
       by_kind (OnGrid (SpliceOut Cols p q)) o typed w = col-removal-follows p q o
       by_kind (OnGrid (Set i j' value)) o typed w = set-follows i j' value o w
 
-      -- the pieces of a stage make of the order's document what the stage made of the client's
+      -- the pieces of a stage make of the log's document what the stage made of the client's
       pub stage-follows : IsTyped t.stage x.doc t.names t.sub_operation → writes_known_units x.doc.rows.items x.doc.cols.items t ≡ true
           → Follows t.stage (intervals_after_stage t.sub_operation (settle_elements x.doc.text.items t.stage t.names)
           (settle_ends x.doc.text.items t.stage is)) (done ++ (t ∷ [])) (effects d s conn n (pieces x.doc t))

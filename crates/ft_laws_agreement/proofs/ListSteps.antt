@@ -1,4 +1,4 @@
--- One list at its next stage: what each kind of stage makes of it, on the client's side and on the order's.
+-- One list at its next stage: what each kind of stage makes of it, on the client's side and on the log's.
 use Rattle.std.proofs.Common.{◌≡◌, ℕ, suc, ◌-◌, ◌<◌, ◌≤◌, Bool, true, false, cond, not, ◌&&◌, ◌||◌, List, [], ◌∷◌, ◌++◌, Option, Some, None, refl, sym, ◌∙◌, ap, subst, arith, filter, length, nat_eq, nat_le, nat_lt}
 use Rattle.std.specs.List.{list_all, list_any}
 use Rattle.std.proofs.lemmas.Bool.Decides.{nat_tests}
@@ -134,7 +134,7 @@ module _ (inserts removes annotates : SubOperation → Bool) (t : Stage) (stages
       none false = refl
 
   module _ (n conn made : ℕ) where
-    -- as many as on the order's side
+    -- as many as on the log's side
     pub len-beside : (ds : List ListElement) → Beside n conn made j (stage_list xs j) ds → len (seen_by n conn) ds ≡ len (seen (t.stage - 1)) xs
     len-beside ds b =
         ap (len (seen_by n conn)) (sym b.right)

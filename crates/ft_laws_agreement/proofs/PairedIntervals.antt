@@ -1,4 +1,4 @@
--- Intervals of a client beside those of the order: equal but for the names of their ends, which are pairs.
+-- Intervals of a client beside those of the log: equal but for the names of their ends, which are pairs.
 use Rattle.std.proofs.Common.{◌≡◌, ℕ, Bool, true, false, cond, not, List, [], ◌∷◌, Some, None, refl, ap, filter, map}
 use Rattle.std.specs.declared.cmp.Ordering.{Ordering}
 use Rattle.std.specs.declared.cmp.Ordering.TheVariants.{Less, Equal, Greater}

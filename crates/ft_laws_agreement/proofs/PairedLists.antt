@@ -15,7 +15,7 @@ use Rattle.ft_laws_agreement.proofs.Booleans.{hidden}
 use Rattle.ft_laws_agreement.proofs.SlidEnds.{same_id-refl, same_id-eq}
 use Rattle.ft_props.proofs.RebuiltList.{or_right}
 
--- an element of the client and the one that the order makes of it
+-- an element of the client and the one that the log makes of it
 abbrev pub Pair : Type 0
 Pair = ListElement × ListElement
 

@@ -1,4 +1,4 @@
--- What a client shows is what the order shows once its pending operations are sequenced next.
+-- What a client shows is what the log shows once its pending operations are sequenced next.
 use Rattle.std.proofs.Common.{◌≡◌, ℕ, suc, ◌+◌, Bool, true, false, cond, not, ◌&&◌, ◌||◌, List, [], ◌∷◌, ◌++◌, Option, Some, None, refl, sym, ◌∙◌, ap, subst, arith, filter, find, length, map, nat_eq, nat_le, nat_lt, pos, take}
 use Rattle.std.specs.Option.{option_map}
 use Rattle.std.specs.List.{list_all, list_any}
@@ -385,6 +385,6 @@ module _ (x : NaiveClient) (conn : ℕ) (ready : IsReady x) where
       ready.edits (reached-first x conn ready sound) in
       sym (shown-follows r.level _ _ r.ahead r.follows refl) ∙ ap (λ d. shown_with_pending d x conn) e
 
-  -- so is what the order shows
+  -- so is what the log shows
   pub pending-on_top : (log : List Entry) → sequenced_part x.doc ≡ agreed (take x.doc.number log) → content x ≡ applied x log conn
   pending-on_top log e = pending-on_top-over (agreed (take x.doc.number log)) (agreed-consistent (take x.doc.number log)) e

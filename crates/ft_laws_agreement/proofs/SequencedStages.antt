@@ -1,4 +1,4 @@
--- One list: what a pending stage makes of a client's list, and what its pieces make of the list of the order.
+-- One list: what a pending stage makes of a client's list, and what its pieces make of the list of the log.
 use Rattle.std.proofs.Common.{◌≡◌, ℕ, ◌+◌, ◌-◌, ◌≤◌, Bool, true, false, cond, not, ◌&&◌, ◌||◌, List, [], ◌∷◌, ◌++◌, Option, Some, None, refl, sym, ◌∙◌, ap, subst, arith, filter, map, nat_eq, nat_le}
 use Rattle.std.specs.List.{list_any}
 use Rattle.std.proofs.lemmas.Bool.Decides.{nat_tests}
@@ -54,7 +54,7 @@ marked-unseen k e h = rw (any-behind (has_occurred_at_stage k) e.dels (removal_s
         step false b p q h = (cc)
 
 module _ (n conn made : ℕ) where
-  -- an element of the order beside the client's at stage k
+  -- an element of the log's list beside the client's at stage k
   pub record Image (k : ℕ) (p : Pair) : Type 0 where
     pub perspective : seen_by n conn p.1 ≡ seen k p.0
     pub unremoved : is_unremoved p.1 ≡ seen k p.0
@@ -66,7 +66,7 @@ module _ (n conn made : ℕ) where
     pub old : is_sequenced p.0 ≡ true → id p.1 ≡ id p.0
     pub new : is_sequenced p.0 ≡ false → nat_le made p.1.nth ≡ true
 
-  -- the list of the order beside the client's at stage k
+  -- the list of the log beside the client's at stage k
   pub record Beside (k : ℕ) (ls ds : List ListElement) : Type 0 where
     pub pairs : List Pair
     pub left : lefts pairs ≡ ls

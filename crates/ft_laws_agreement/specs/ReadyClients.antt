@@ -17,7 +17,7 @@ EveryClientIsReady = (steps : List ClientStep) (x : NaiveClient) → IsRun steps
 abbrev pub EntriesAreCounted : Type 0
 EntriesAreCounted = (steps : List ClientStep) (x : NaiveClient) → IsRun steps x → x.doc.number ≡ length (taken_entries steps)
 
--- it shows what the order will show once its pending operations are sequenced next, whatever else is in the log by now
+-- it shows what the log will show once its pending operations are sequenced next, whatever else is in the log by now
 abbrev pub PendingStaysOnTop : Type 0
 PendingStaysOnTop = (steps : List ClientStep) (x : NaiveClient) (later : List Entry) (conn : ℕ) → IsRun steps x → content x ≡ applied x (taken_entries steps ++ later) conn
 

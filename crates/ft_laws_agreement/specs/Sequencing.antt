@@ -1,4 +1,4 @@
--- What a client shows beside what the order shows once the client's pending operations are sequenced next.
+-- What a client shows beside what the log shows once the client's pending operations are sequenced next.
 use Rattle.std.specs.Prelude.{◌≡◌, ℕ, Bool, true, false, not, ◌&&◌, ◌||◌, nat_eq, nat_le, nat_lt, List, [], ◌∷◌, Option, Some, None, filter, replicate, take}
 use Rattle.std.specs.List.{list_all, list_any}
 use Rattle.ft_base.specs.declared.stamps.Stamp.{Stamp}
@@ -166,7 +166,7 @@ pub record IsReady (x : NaiveClient) : Type 0 where
 abbrev pub ReadyIsOrderly : Type 0
 ReadyIsOrderly = (x : NaiveClient) → IsReady x → IsOrderly x
 
--- such a client, whose document without what is pending is that of the messages which it processed, shows what the order
+-- such a client, whose document without what is pending is that of the messages which it processed, shows what the log
 -- will show once its pending operations are sequenced next
 abbrev pub PendingIsOnTop : Type 0
 PendingIsOnTop =

@@ -19,7 +19,7 @@ pub fn ready_client()
 {}
 
 /// Every client is such a client, whatever steps it takes from the empty document on, own joins with
-/// pending edits among them. So it shows the order of the entries which it took with its regenerated
+/// pending edits among them. So it shows the entries of the log which it took with its regenerated
 /// operations sequenced next, and shows the same after its own join.
 pub fn every_client()
     ensures ready { EveryClientIsReady }
