@@ -1091,7 +1091,7 @@ module _ (F : Type 0) where
       by values true = refl
       by values false = texts-turn _ w values low r
 
-  -- what a client shows is what the order will show of it
+  -- what a client shows is what the log will show of it
   show-turns : (w : NaiveWorld) (r : IsReachedWorld 0 w) (name : Characters) → (F → w.load + 1 < 2 ^ 53) → Goes (event.Show name) (of_client w name (λ c. Ok (w, View c)))
   show-turns w r name low = of-client w name (event.Show name) (λ c. Ok (w, View c)) refl one
     where

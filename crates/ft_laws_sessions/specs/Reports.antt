@@ -2,7 +2,7 @@
 use Rattle.std.specs.Prelude.{◌≡◌, ℕ, List}
 use Rattle.ft_seqr.specs.SessionReport.{as_applied, as_shown, session_lines, session_report}
 
--- for all lines: each view is the order of the messages that its client processed, with its pending operations sequenced next
+-- for all lines: each view is what the log shows of the messages that its client processed, with its pending operations sequenced next
 abbrev pub ReportsAreOne : Type 0
 ReportsAreOne = (lines : List (List ℕ)) → session_report as_shown lines ≡ session_report as_applied lines
 

@@ -67,7 +67,7 @@ refusals_of (event.Authors name) = 2 ∷ []
 abbrev pub EventsHaveTheirRefusals : Type 0
 EventsHaveTheirRefusals = (events : List Event) (e : Event) (refusal : Refusal) → step (reached events) e ≡ Err refusal → list_any (nat_eq (refusal_number refusal)) (refusals_of e) ≡ true
 
--- each client shows the order of the messages that it processed, with its pending operations sequenced next by any connection
+-- each client shows what the log shows of the messages that it processed, with its pending operations sequenced next by any connection
 abbrev pub ViewsAreApplied : Type 0
 ViewsAreApplied = (events : List Event) (conn : ℕ) → Each (λ c. content c.client ≡ applied c.client (reached events).log conn) (reached events).clients
 

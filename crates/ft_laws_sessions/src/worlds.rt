@@ -39,7 +39,7 @@ pub fn views_are_applied()
     ensures same { ClientsShowTheSame }
 {}
 
-/// The report of a session is the same whether each view is what its client shows, or what the order
+/// The report of a session is the same whether each view is what its client shows, or what the log
 /// shows of the messages that the client processed with its pending operations sequenced next.
 pub fn reports_are_one()
     ensures whole { ReportsAreOne }
