@@ -4,7 +4,7 @@ use Rattle.ft_msg.specs.declared.messages.Draft.{Draft}
 use Rattle.ft_msg.specs.declared.messages.Body.TheVariants.{Op}
 use Rattle.ft_msg.specs.Client.{SentAs}
 
--- the client sequence number of the next message, and the messages that aren't sent yet
+-- the client sequence number of the next draft, and the drafts that aren't sent yet
 pub record Unsent : Type 0 where
   pub next : ℕ
   pub drafts : List Draft

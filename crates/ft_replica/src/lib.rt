@@ -3,13 +3,13 @@
 //! A call that can't return `OutOfMemory` takes no memory; one that can returns it where there is no room.
 #![tactic(auto)]
 
-pub mod connections;
+mod connections;
 pub mod document;
-pub mod linked;
-pub mod outbox;
-pub mod pending;
+mod linked;
+mod outbox;
+mod pending;
 pub mod replica;
-pub mod stopping;
+mod stopping;
 
 pub use document::{OwnDocument, OwnNumbers, Resent};
 pub use replica::ReplicaOver;

@@ -12,7 +12,7 @@ use std::alloc::Global;
 use std::collections::VecDeque;
 use std::marker::Model;
 
-/// The messages that aren't sent yet, and the client sequence number of the next one.
+/// The drafts that aren't sent yet, and the client sequence number of the next one.
 #[derive(Drop)]
 pub struct Outbox {
     next: u64,
@@ -28,7 +28,7 @@ impl Model for Outbox {
 }
 
 impl Outbox {
-    /// No messages, before the first one.
+    /// No drafts, before the first one.
     pub fn new(alloc: Global) -> Outbox
         ensures { result ≡ record { next = 1; drafts = [] } }
     {
@@ -38,7 +38,7 @@ impl Outbox {
         }
     }
 
-    /// The client sequence number of the next message.
+    /// The client sequence number of the next draft.
     pub fn next(&self) -> u64
         ensures { result ≡ self.now.next }
     {
@@ -52,14 +52,14 @@ impl Outbox {
         self.next = 1;
     }
 
-    /// Takes all messages away.
+    /// Takes all drafts away.
     pub fn clear(&mut self)
         ensures { self.new ≡ record self.old { drafts = [] } }
     {
         self.drafts.clear();
     }
 
-    /// Adds a message behind the others.
+    /// Adds a draft behind the others.
     ///
     /// Returns `OutOfMemory` where there is no room for it or the next number would pass 2^64 - 1, and then
     /// nothing changed.
@@ -71,7 +71,7 @@ impl Outbox {
         push_reserved(counted, &mut self.drafts, draft)
     }
 
-    /// Adds the message of an edit behind the others, if it is sent.
+    /// Adds the draft of an edit behind the others, if it is sent.
     ///
     /// Returns `OutOfMemory` where there is no room for it or the next number would pass 2^64 - 1, and then
     /// nothing changed.
@@ -112,7 +112,7 @@ impl Outbox {
     }
 }
 
-// Makes room for one more message, and counts it.
+// Makes room for one more draft, and counts it.
 //
 // Returns `OutOfMemory` where there is no room for it or the next number would pass 2^64 - 1, and then it isn't counted.
 fn count_one(next: &mut u64, drafts: &mut VecDeque<Draft>) -> Result<(), OutOfMemory>

@@ -169,7 +169,7 @@ impl PendingEdits {
         }
     }
 
-    /// Adds an edit behind the others, and its message to the outbox, if it is sent.
+    /// Adds an edit behind the others, and its draft to the outbox, if it is sent.
     ///
     /// Returns `OutOfMemory` where there is no room for that, or the next number of the outbox would pass
     /// 2^64 - 1, and then nothing changed.
@@ -204,7 +204,7 @@ impl PendingEdits {
     }
 }
 
-// Makes room for an edit, and adds its message to the outbox, if it is sent.
+// Makes room for an edit, and adds its draft to the outbox, if it is sent.
 //
 // Returns `OutOfMemory` where there is no room for that, or the next number of the outbox would pass 2^64 - 1, and
 // then nothing is sent.

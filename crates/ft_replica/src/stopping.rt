@@ -147,7 +147,7 @@ impl<D: OwnDocument> StoppingClient<D> {
         answer
     }
 
-    /// Goes offline; the messages that it didn't send are gone.
+    /// Goes offline; the drafts that it didn't send are gone.
     ///
     /// Returns `Stopped` where it stopped before, and then `NotConnected` where the client is offline.
     pub fn drop_link(&mut self) -> Result<(), LinkFault>
@@ -162,7 +162,7 @@ impl<D: OwnDocument> StoppingClient<D> {
         self.client.drop_link()
     }
 
-    /// Queues a message that tells the client's number alone.
+    /// Queues a draft that tells the client's number alone.
     ///
     /// Returns `Stopped` where it stopped before; then `NotConnected` where the client isn't online; and
     /// `OutOfMemory` where there is no room, after which it has stopped.
@@ -182,7 +182,7 @@ impl<D: OwnDocument> StoppingClient<D> {
         answer
     }
 
-    /// Takes the oldest message that isn't sent yet: None exactly where there is none.
+    /// Takes the oldest draft that isn't sent yet: None exactly where there is none.
     pub fn take_outgoing(&mut self) -> Option<Draft>
         ensures oldest { result ≡ slice_get self.old.client.box.drafts 0 }
         ensures rest { self.new ≡ record self.old { client = record self.old.client { box = record self.old.client.box { drafts = drop 1 self.old.client.box.drafts } } } }

@@ -17,7 +17,7 @@ use ft_op::ChannelOp;
 use std::sync::ledger::Ledger;
 
 impl<D: OwnDocument> LinkedClient<D> {
-    /// Takes an edit of the client's own, which shows at once; online its message is queued too.
+    /// Takes an edit of the client's own, which shows at once; online its draft is queued too.
     ///
     /// Returns the refusal of the first sub-operation that can't be taken, and `OutOfMemory` where there is
     /// no room or a count would pass its greatest number.
@@ -28,17 +28,14 @@ impl<D: OwnDocument> LinkedClient<D> {
         ensures reads { IsTrue D.COUNTS → ReadsFew op.now (D.shown self.old.document).content steps.old steps.new }
     {
         let ref_seq = self.doc.number();
-        let count = match self.doc.edit(self.last_stage, op, steps) {
-            Ok(count) => count,
-            Err(fault) => return Err(fault),
-        };
+        let count = self.doc.edit(self.last_stage, op, steps)?;
         if self.keep_edit(count, ref_seq, op).is_err() {
             return Err(EditFault::OutOfMemory);
         }
         Ok(())
     }
 
-    // As what the client sends an operation: an online client sends it, another keeps it unsent.
+    // As what the client sends an operation: an online client sends it, another doesn't.
     fn sent_as(&self, op: &ChannelOp) -> Result<Option<Sent>, OutOfMemory>
         ensures { IfOk result (λ sent. sent ≡ sent_as self.now.link self.now.box.next op.now) }
     {
@@ -48,7 +45,7 @@ impl<D: OwnDocument> LinkedClient<D> {
         }
     }
 
-    // Keeps an edit with so many stages as pending, and queues its message, if it is sent.
+    // Keeps an edit with so many stages as pending, and queues its draft, if it is sent.
     //
     // Returns `OutOfMemory` where there is no room for that, and then nothing changed.
     fn keep_edit(&mut self, count: usize, ref_seq: u64, op: &ChannelOp) -> Result<(), OutOfMemory>

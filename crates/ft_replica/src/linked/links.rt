@@ -28,7 +28,7 @@ impl<D: OwnDocument> LinkedClient<D> {
         Ok(())
     }
 
-    /// Goes offline; the messages that it didn't send are gone.
+    /// Goes offline; the drafts that it didn't send are gone.
     ///
     /// Returns `NotConnected` exactly where the client is offline, and then nothing changed.
     pub fn drop_link(&mut self) -> Result<(), LinkFault>
@@ -43,7 +43,7 @@ impl<D: OwnDocument> LinkedClient<D> {
         Ok(())
     }
 
-    /// Queues a message that tells the client's number alone.
+    /// Queues a draft that tells the client's number alone.
     ///
     /// Returns `NotConnected` exactly where the client isn't online, and `OutOfMemory` where there is no room;
     /// then nothing changed.
@@ -64,21 +64,21 @@ impl<D: OwnDocument> LinkedClient<D> {
         Ok(())
     }
 
-    /// How many messages aren't sent yet.
+    /// How many drafts aren't sent yet.
     pub fn queued(&self) -> usize
         ensures { result ≡ length self.now.box.drafts }
     {
         self.outbox.len()
     }
 
-    /// The message at place `i` of those, counted from 0: None exactly where `i` isn't below their count.
+    /// The draft at place `i` of those, counted from 0: None exactly where `i` isn't below their count.
     pub fn queue_at(&self, i: usize) -> Option<&Draft>
         ensures { option_copied result ≡ slice_get self.now.box.drafts i }
     {
         self.outbox.at(i)
     }
 
-    /// Takes the oldest message that isn't sent yet: None exactly where there is none.
+    /// Takes the oldest draft that isn't sent yet: None exactly where there is none.
     pub fn take_outgoing(&mut self) -> Option<Draft>
         ensures oldest { result ≡ slice_get self.old.box.drafts 0 }
         ensures rest { self.new ≡ record self.old { box = record self.old.box { drafts = drop 1 self.old.box.drafts } } }

@@ -35,7 +35,7 @@ impl<D: OwnDocument> LinkedClient<D> {
     }
 }
 
-// Adds the edits that have a piece, as they are sent again under the connection that joined, and their messages.
+// Adds the edits that have a piece, as they are sent again under the connection that joined, and their drafts.
 //
 // Returns `OutOfMemory` where there is no room for them, or a count would pass 2^64 - 1.
 fn send_again(
