@@ -27,13 +27,13 @@ reads_input (Play settings) = false
 reads_input _ = true
 
 -- whether an argument is a number in decimal digits: no sign, and no zero in front of other digits
-abbrev pub is_number : List ℕ → Bool
-is_number word = list_all is_ascii_digit word && (nat_lt 48 (slice_index word 0) || nat_eq (length word) 1)
+abbrev pub is_numeral : List ℕ → Bool
+is_numeral word = list_all is_ascii_digit word && (nat_lt 48 (slice_index word 0) || nat_eq (length word) 1)
 
 -- the number that an argument is, if it is one within these bounds
 unfoldable pub number_within : ℕ → ℕ → List ℕ → Option ℕ
 number_within least greatest word =
-    if is_number word && (nat_le least (digits_value 10 word) && nat_le (digits_value 10 word) greatest) then Some (digits_value 10 word) else None
+    if is_numeral word && (nat_le least (digits_value 10 word) && nat_le (digits_value 10 word) greatest) then Some (digits_value 10 word) else None
 
 -- the settings that three arguments are, if they are some
 abbrev pub settings_of : List ℕ → List ℕ → List ℕ → Option Settings

@@ -4,11 +4,11 @@ ghost use Rattle.std.specs.Prelude.{◌≡◌, ◌≤◌, IfSome};
 ghost use Rattle.std.specs.Char.{is_ascii_digit};
 ghost use Rattle.std.specs.List.{list_all};
 ghost use Rattle.ft_replay.specs.Generated.{IsWithinLimits};
-ghost use Rattle.ft_cli.specs.Words.{IsFormWithinLimits, form_of, form_of_word, form_with, is_number, number_within, settings_of, texts_of};
+ghost use Rattle.ft_cli.specs.Words.{IsFormWithinLimits, form_of, form_of_word, form_with, is_numeral, number_within, settings_of, texts_of};
 
 use ft_replay::Settings;
 
-/// What the program is asked to do.
+/// A command: what the program is asked to do.
 #[derive(Clone, Copy, Debug, PartialEq, Eq)]
 pub enum Form {
     /// `log`: it reads sequenced messages, one a line, and writes what one observer shows at the end.
@@ -89,7 +89,7 @@ fn read_number(word: &str, least: u64, greatest: u64) -> Option<u64>
     ensures number { result ≡ number_within least greatest word.now }
     ensures within { IfSome result (λ number. (least ≤ number) × (number ≤ greatest)) }
 {
-    if !is_number(word.as_bytes()) {
+    if !is_numeral(word.as_bytes()) {
         return None;
     }
     let Ok(number) = word.parse::<u64>() else {
@@ -103,8 +103,8 @@ fn read_number(word: &str, least: u64, greatest: u64) -> Option<u64>
 }
 
 // Whether an argument is a number in decimal digits, without a zero in front of other digits.
-fn is_number(word: &[u8]) -> bool
-    ensures { result ≡ is_number word.now }
+fn is_numeral(word: &[u8]) -> bool
+    ensures { result ≡ is_numeral word.now }
 {
     match word {
         [] => false,
