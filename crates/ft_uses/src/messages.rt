@@ -7,11 +7,9 @@ ghost use Rattle.std.specs.Prelude.{◌≡◌, IsTrue};
 ghost use Rattle.ft_op.specs.WellFormed.{IsWellFormed, are_ends, is_count, is_range};
 ghost use Rattle.ft_msg.specs.WellFormed.{HasItsParts, IsWellFormedBody, IsWellFormedKind, IsWellFormedMessage, is_number};
 
+use ft_json::{GREATEST_COUNT, GREATEST_NUMBER};
 use ft_msg::{Body, Message, MsgKind};
 use ft_op::{BaseOp, ChannelOp, Ends, Seg, TextOp};
-
-// The greatest number of a message, and the greatest position.
-const GREATEST: u64 = 9_007_199_254_740_991;
 
 /// Whether it is a message as these editors send them: of text without properties, of a removal, of a
 /// note, or of a connection.
@@ -29,14 +27,14 @@ pub fn is_expected(msg: &Message) -> bool
 fn is_count(n: u64) -> bool
     ensures { result ≡ is_count n }
 {
-    n <= GREATEST
+    n <= GREATEST_COUNT
 }
 
 // Whether it is a count or -1.
 fn is_number(z: i64) -> bool
     ensures { result ≡ is_number z }
 {
-    z >= -1 && z <= GREATEST as i64
+    z >= -1 && z <= GREATEST_NUMBER
 }
 
 // Whether its parts are those of such a message.
@@ -65,10 +63,10 @@ fn is_expected_op(op: &ChannelOp) -> bool
                     props,
                 },
             ),
-        ) => is_count(*pos) && props.len() == 0,
+        ) => is_count(*pos) && props.is_empty(),
         ChannelOp::Text(TextOp::One(BaseOp::Remove { pos1, pos2 })) => is_range(*pos1, *pos2),
         ChannelOp::Text(TextOp::IntervalAdd { ends, props, .. }) => {
-            are_ends(*ends) && props.len() == 0
+            are_ends(*ends) && props.is_empty()
         }
         _ => false,
     }
@@ -85,5 +83,5 @@ fn is_range(pos1: u64, pos2: u64) -> bool
 fn are_ends(ends: Ends) -> bool
     ensures { IsTrue result → IsTrue (are_ends ends.start ends.end) }
 {
-    ends.start >= 0 && ends.end >= ends.start && ends.end <= GREATEST as i64
+    ends.start >= 0 && ends.end >= ends.start && ends.end <= GREATEST_NUMBER
 }
