@@ -32,7 +32,7 @@ use Rattle.ft_op.specs.declared.operations.ChannelOp.TheVariants.{Text, Grid}
 use Rattle.ft_op.specs.Representable.{IsText, IsKeyed, KeysAreTexts, IsRepresentable, IsRepresentableBase, IsRepresentableSegment, IsRepresentableText}
 use Rattle.ft_op.specs.WellFormed.{is_count, is_range, is_safe, is_safe_bound, are_ends, is_segment, IsAdjustment, AreAdjustments, IsPropertySet, IsSetValue, IsWellFormed, IsWellFormedBase, IsWellFormedCell, IsWellFormedNewEnds, IsWellFormedGrid, IsWellFormedText}
 use Rattle.ft_op.proofs.WrittenFields.{fields, canonical_fields, IsCanonicalIfGiven}
-use Rattle.ft_op.specs.Written.{given_adjustments, given_end, given_set, given_start, written, written_adjustment, written_base, written_cell, written_characters, written_count, written_grid_op, written_group, written_interval, written_items, written_number, written_pairs, written_segment, written_set, written_target, written_text, written_text_op, written_value}
+use Rattle.ft_op.specs.Written.{given_adjust, given_end, given_set, given_start, written, written_adjustment, written_base, written_cell, written_characters, written_count, written_grid_op, written_group, written_interval, written_items, written_number, written_pairs, written_segment, written_set, written_target, written_text, written_text_op, written_value}
 
 -- ---- the fields of each form
 
@@ -63,7 +63,7 @@ removal_fields p q = (codes "pos1", Some (written_count p)) ∷ (codes "pos2", S
 
 abbrev pub annotation_fields : ℕ → ℕ → Changes → F
 annotation_fields p q changes =
-    (codes "adjust", given_adjustments changes.adjust)
+    (codes "adjust", given_adjust changes.adjust)
     ∷ (codes "pos1", Some (written_count p))
     ∷ (codes "pos2", Some (written_count q))
     ∷ (codes "props", Some (written_set changes.props))
@@ -181,7 +181,7 @@ canonical_adjustment : (a : Adjust) → IsAdjustment a → IsCanonical (written_
 canonical_adjustment a h =
     canonical_fields (adjustment_fields a) refl (canonical_number a.delta h.delta, (canonical_bound a.max h.max, (canonical_bound a.min h.min, tt)))
 
-canonical_adjustments : (set : PropertySet) (adjust : List (Characters × Adjust)) → IsKeyed adjust → AreAdjustments set adjust → IsCanonicalIfGiven (given_adjustments adjust)
+canonical_adjustments : (set : PropertySet) (adjust : List (Characters × Adjust)) → IsKeyed adjust → AreAdjustments set adjust → IsCanonicalIfGiven (given_adjust adjust)
 canonical_adjustments set [] keyed h = tt
 canonical_adjustments set (p ∷ adjust) keyed h =
     canonical_pairs written_adjustment (p ∷ adjust) keyed.0 keyed.1 (each _ _ (λ q g. canonical_adjustment q.1 g.1) (p ∷ adjust) h)

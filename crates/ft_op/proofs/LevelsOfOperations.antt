@@ -23,7 +23,7 @@ use Rattle.ft_op.specs.declared.operations.GridOp.TheVariants as grid
 use Rattle.ft_op.specs.declared.operations.ChannelOp.{ChannelOp}
 use Rattle.ft_op.specs.declared.operations.ChannelOp.TheVariants.{Text, Grid}
 use Rattle.ft_op.specs.WellFormed.{IsPropertySet, IsSetValue, IsWellFormed, IsWellFormedBase, IsWellFormedCell, IsWellFormedGrid, IsWellFormedText}
-use Rattle.ft_op.specs.Written.{given_adjustments, given_end, given_set, given_start, written, written_adjustment, written_base, written_cell, written_characters, written_grid_op, written_group, written_interval, written_items, written_number, written_pairs, written_segment, written_set, written_target, written_text_op, written_value}
+use Rattle.ft_op.specs.Written.{given_adjust, given_end, given_set, given_start, written, written_adjustment, written_base, written_cell, written_characters, written_grid_op, written_group, written_interval, written_items, written_number, written_pairs, written_segment, written_set, written_target, written_text_op, written_value}
 use Rattle.ft_op.proofs.WrittenFields.{fields_within, HasAtMost}
 use Rattle.ft_op.proofs.CanonicalOperations.{adjustment_fields, characters_fields, marker_fields, insertion_fields, removal_fields, annotation_fields, interval_fields, group_fields}
 
@@ -66,7 +66,7 @@ all_adjustments_levels : (adjust : List (Characters × Adjust)) → AllByRecursi
 all_adjustments_levels [] = tt
 all_adjustments_levels (p ∷ adjust) = (adjustment_levels p.1, all_adjustments_levels adjust)
 
-adjustments_levels : (adjust : List (Characters × Adjust)) → HasAtMost 101 (given_adjustments adjust)
+adjustments_levels : (adjust : List (Characters × Adjust)) → HasAtMost 101 (given_adjust adjust)
 adjustments_levels [] = tt
 adjustments_levels (p ∷ adjust) = omega (arith, pairs_levels written_adjustment 1 (p ∷ adjust) (all_adjustments_levels (p ∷ adjust)))
 

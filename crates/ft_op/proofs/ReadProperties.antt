@@ -18,10 +18,10 @@ use Rattle.ft_props.specs.declared.properties.Adjust.{Adjust}
 use Rattle.ft_op.specs.declared.operations.OpFault.{OpFault}
 use Rattle.ft_op.specs.Cells.{is_null}
 use Rattle.ft_op.specs.Reading.{given_properties, read_given_set, kept_value, property_set_of, read_each, read_named, set_value}
-use Rattle.ft_op.specs.TextGrammar.{adjustment, adjustment_beside, adjustment_of, adjustments_of, bound, given_adjustments as read_given_adjustments, given_adjustments_of}
+use Rattle.ft_op.specs.TextGrammar.{adjustment, adjustment_beside, adjustment_of, adjustments_of, bound, given_adjustments, given_adjustments_of}
 use Rattle.ft_op.specs.Representable.{KeysAreTexts}
 use Rattle.ft_op.specs.WellFormed.{are_bounds, is_safe_bound, AreAdjustments, IsAdjustment, IsPropertySet, IsSetValue}
-use Rattle.ft_op.specs.Written.{given_adjustments, given_set, written_adjustment, written_number, written_pairs, written_set, written_value}
+use Rattle.ft_op.specs.Written.{given_adjust, given_set, written_adjustment, written_number, written_pairs, written_set, written_value}
 use Rattle.ft_op.proofs.WrittenFields.{fields}
 use Rattle.ft_op.proofs.CanonicalOperations.{adjustment_fields}
 use Rattle.ft_op.proofs.ReadFields.{field_is, found, signed_is}
@@ -155,11 +155,11 @@ each_back set [] h = refl
 each_back set (p ∷ ps) h = rw (beside_back set p h.0.0 h.0.1, each_back set ps h.1)
 
 adjustments_if_any : (set : PropertySet) (ps : List (Characters × Adjust)) → KeysAreTexts ps → AreAdjustments set ps
-    → given_adjustments_of set (option_and_then unless_null (given_adjustments ps)) ≡ Ok ps
+    → given_adjustments_of set (option_and_then unless_null (given_adjust ps)) ≡ Ok ps
 adjustments_if_any set [] texts h = refl
 adjustments_if_any set (p ∷ ps) texts h = ap (adjustments_of set) (pairs_written written_adjustment (p ∷ ps) texts) ∙ each_back set (p ∷ ps) h
 
-pub adjustments_back : (fs : List (List ℕ × Option Data)) (set : PropertySet) (ps : List (Characters × Adjust)) → found (field_name AdjustField) fs ≡ given_adjustments ps → KeysAreTexts ps → AreAdjustments set ps
-    → read_given_adjustments set (object (fields fs)) ≡ Ok ps
-unfolding read_given_adjustments given_field
-adjustments_back fs set ps h texts values = rw (field_is fs AdjustField (given_adjustments ps) h, adjustments_if_any set ps texts values)
+pub adjustments_back : (fs : List (List ℕ × Option Data)) (set : PropertySet) (ps : List (Characters × Adjust)) → found (field_name AdjustField) fs ≡ given_adjust ps → KeysAreTexts ps → AreAdjustments set ps
+    → given_adjustments set (object (fields fs)) ≡ Ok ps
+unfolding given_adjustments given_field
+adjustments_back fs set ps h texts values = rw (field_is fs AdjustField (given_adjust ps) h, adjustments_if_any set ps texts values)

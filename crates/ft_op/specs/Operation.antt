@@ -1,4 +1,4 @@
--- The sub-operations of an operation. Each takes effect by itself, has its own place in the order, and takes a stage of
+-- The sub-operations of an operation. Each takes effect by itself, has its own place in the log, and takes a stage of
 -- its own while it is pending.
 use Rattle.std.specs.Prelude.{List, [], ◌∷◌, map}
 use Rattle.ft_op.specs.declared.operations.Seg.{Seg}

@@ -80,9 +80,9 @@ written_adjustment a =
     (with_given (codes "min") (option_map written_number a.min) no_members)))
 
 -- no adjustments are left out
-abbrev pub given_adjustments : List (Characters × Adjust) → Option Data
-given_adjustments [] = None
-given_adjustments (p ∷ adjust) = Some (object (written_pairs written_adjustment (p ∷ adjust)))
+abbrev pub given_adjust : List (Characters × Adjust) → Option Data
+given_adjust [] = None
+given_adjust (p ∷ adjust) = Some (object (written_pairs written_adjustment (p ∷ adjust)))
 
 -- ---- operations of the text
 
@@ -113,7 +113,7 @@ written_base (Remove p q) =
     (member (codes "type") (written_count removal_type) no_members)))
 written_base (Annotate p q changes) =
     object
-    (with_given (codes "adjust") (given_adjustments changes.adjust)
+    (with_given (codes "adjust") (given_adjust changes.adjust)
     (member (codes "pos1") (written_count p)
     (member (codes "pos2") (written_count q)
     (member (codes "props") (written_set changes.props)

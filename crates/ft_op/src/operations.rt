@@ -79,7 +79,9 @@ pub enum TextOp {
 /// The list that a splice is for.
 #[derive(Clone, Copy, Debug, PartialEq, Eq)]
 pub enum Target {
+    /// The rows.
     Rows,
+    /// The columns.
     Cols,
 }
 
@@ -121,7 +123,9 @@ pub enum GridOp {
 /// An operation of either channel.
 #[derive(Drop)]
 pub enum ChannelOp {
+    /// One of the text, or of its intervals.
     Text(TextOp),
+    /// One of the grid.
     Grid(GridOp),
 }
 

@@ -11,7 +11,7 @@ ghost use Rattle.ft_json.specs.Reading.{read_line};
 ghost use Rattle.ft_op.specs.Laws.{IsReadAs};
 ghost use Rattle.ft_op.specs.Representable.{IsKeyed, IsRepresentable, IsRepresentableBase, IsRepresentableSegment, IsRepresentableText, IsText};
 ghost use Rattle.ft_op.specs.WellFormed.{IsPropertySet, IsSetValue, IsWellFormed, IsWellFormedBase, IsWellFormedCell, IsWellFormedGrid, IsWellFormedText};
-ghost use Rattle.ft_op.specs.Written.{given_adjustments, given_end, given_set, given_start, put_counts, put_given, written, written_adjustment, written_base, written_cell, written_characters, written_grid_op, written_group, written_items, written_interval, written_number, written_pairs, written_segment, written_set, written_target, written_text_op, written_value};
+ghost use Rattle.ft_op.specs.Written.{given_adjust, given_end, given_set, given_start, put_counts, put_given, written, written_adjustment, written_base, written_cell, written_characters, written_grid_op, written_group, written_items, written_interval, written_number, written_pairs, written_segment, written_set, written_target, written_text_op, written_value};
 
 use crate::limits::{ANNOTATION, GROUP, INSERTION, REMOVAL, SPLICE_IN, SPLICE_OUT};
 use crate::operations::{BaseOp, CellOp, ChannelOp, Ends, GridOp, Seg, Target, TextOp};
@@ -154,8 +154,8 @@ fn written_adjustments(alloc: Global, adjust: &AdjSet) -> Result<Value, OutOfMem
 }
 
 // The object of adjustments, none where there are none.
-fn given_adjustments(alloc: Global, adjust: &AdjSet) -> Result<Option<Value>, OutOfMemory>
-    ensures value { IfOk result (λ v. option_map view v ≡ given_adjustments adjust.now) }
+fn given_adjust(alloc: Global, adjust: &AdjSet) -> Result<Option<Value>, OutOfMemory>
+    ensures value { IfOk result (λ v. option_map view v ≡ given_adjust adjust.now) }
     ensures keyed { IfOk result (λ _. IsKeyed adjust.now) }
 {
     if adjust.is_empty() {
@@ -236,7 +236,7 @@ fn written_annotation(
         "props",
         written_set(alloc, &changes.props)?,
     )?;
-    let adjust = given_adjustments(alloc, &changes.adjust)?;
+    let adjust = given_adjust(alloc, &changes.adjust)?;
     put_given(&mut members, alloc, "adjust", adjust)?;
     Ok(Value::Object(members))
 }
@@ -310,20 +310,14 @@ fn written_group(alloc: Global, ops: Vec<Value>) -> Result<Value, OutOfMemory>
 fn given_start(ends: Option<Ends>) -> Option<i64>
     ensures { option_map written_number result ≡ given_start ends }
 {
-    match ends {
-        Some(ends) => Some(ends.start),
-        None => None,
-    }
+    ends.map(|ends| ends.start)
 }
 
 // The number of the last end, if ends are given.
 fn given_end(ends: Option<Ends>) -> Option<i64>
     ensures { option_map written_number result ≡ given_end ends }
 {
-    match ends {
-        Some(ends) => Some(ends.end),
-        None => None,
-    }
+    ends.map(|ends| ends.end)
 }
 
 // The addition or the change of an interval.

@@ -2,7 +2,7 @@ use Rattle.std.proofs.Common.{◌≡◌, ◌∙◌, Option, Some, None, ap, ap�
 use Rattle.serde_json.specs.Data.{Data, object, no_members, member, put}
 use Rattle.serde_json.proofs.Views.{view-Object}
 use Rattle.ft_op.specs.Types.{annotation_type}
-use Rattle.ft_op.specs.Written.{given_adjustments, put_given, with_given, written_count, written_set}
+use Rattle.ft_op.specs.Written.{given_adjust, put_given, with_given, written_count, written_set}
 use Rattle.ft_op.proofs.writing.written_annotation.Goals as goal
 
 annotation_fields : (adjust : Option Data) (p q kind props : Data)
@@ -20,7 +20,7 @@ returns-clause-value c =
     view-Object c.put_given.new.members
     ∙ ap object (
     c.in_ok-put_given.ensures ∙ a
-    ∙ annotation_fields (given_adjustments changes.adjust) (written_count c.args.pos1) (written_count c.args.pos2) (written_count annotation_type)
+    ∙ annotation_fields (given_adjust changes.adjust) (written_count c.args.pos1) (written_count c.args.pos2) (written_count annotation_type)
     (written_set changes.props)
     )
 
