@@ -12,8 +12,8 @@ pub record Together (t : TreeState TextContent) (is_calm : Bool) : Type 0 where
   pub free : HasNoReferences t
 
 -- the same with what the progress says
-abbrev pub Goes : TreeState TextContent → Progress → Type 0
-Goes t p = Together t p.calm
+abbrev pub GoesTogether : TreeState TextContent → Progress → Type 0
+GoesTogether t p = Together t p.calm
 
 -- after a call the tree may be used, and it has no new references
 pub record Stays (old now : TreeState TextContent) : Type 0 where

@@ -1,7 +1,7 @@
 //! Edits of a tree.
 
 ghost use Rattle.std.specs.Prelude.{◌≡◌, ◌<◌, IsTrue, OnOk};
-ghost use Rattle.ft_tests_tree.specs.Playing.{Goes};
+ghost use Rattle.ft_tests_tree.specs.Playing.{GoesTogether};
 ghost use Rattle.ft_tests_tree.specs.Passing.{Passes};
 
 use crate::faults::StepFault;
@@ -72,8 +72,8 @@ pub(crate) fn make_edit(
     progress: &mut Progress,
     edit: &Edit,
 ) -> Result<bool, StepFault>
-    requires { Goes tree.old progress.old }
-    ensures { OnOk result (Goes tree.new progress.new) }
+    requires { GoesTogether tree.old progress.old }
+    ensures { OnOk result (GoesTogether tree.new progress.new) }
 {
     let made = make::<Brand>(alloc, tree, edit, progress.stage, Blank::new(1))?;
     if !made {

@@ -1,7 +1,7 @@
 //! Scripts, line by line.
 
 ghost use Rattle.std.specs.Prelude.{OnOk};
-ghost use Rattle.ft_tests_tree.specs.Playing.{Goes};
+ghost use Rattle.ft_tests_tree.specs.Playing.{GoesTogether};
 
 use crate::edits::{Edit, Kind, make_edit};
 use crate::faults::StepFault;
@@ -52,7 +52,7 @@ fn play_lines(
     case: &str,
     out: &mut String,
 ) -> Result<(), StepFault>
-    requires { Goes tree.old progress.old }
+    requires { GoesTogether tree.old progress.old }
 {
     for line in case.lines() {
         take_line(alloc, tree, progress, line, out)?;
@@ -76,8 +76,8 @@ fn take_line(
     text: &str,
     out: &mut String,
 ) -> Result<(), StepFault>
-    requires { Goes tree.old progress.old }
-    ensures { OnOk result (Goes tree.new progress.new) }
+    requires { GoesTogether tree.old progress.old }
+    ensures { OnOk result (GoesTogether tree.new progress.new) }
 {
     if text.is_empty() || text.starts_with("#") {
         return Ok(());
@@ -100,8 +100,8 @@ fn take_step(
     line: &Line,
     out: &mut String,
 ) -> Result<bool, StepFault>
-    requires { Goes tree.old progress.old }
-    ensures { OnOk result (Goes tree.new progress.new) }
+    requires { GoesTogether tree.old progress.old }
+    ensures { OnOk result (GoesTogether tree.new progress.new) }
 {
     let first = line.number(0);
     match line.verb() {

@@ -1,7 +1,7 @@
 //! Acknowledgement, a mark that is taken back, and compaction.
 
 ghost use Rattle.std.specs.Prelude.{◌≤◌, IsTrue, OnOk};
-ghost use Rattle.ft_tests_tree.specs.Playing.{Goes, Stays};
+ghost use Rattle.ft_tests_tree.specs.Playing.{GoesTogether, Stays};
 ghost use Rattle.ft_tests_tree.specs.Passing.{HasNoReferences};
 
 use crate::faults::StepFault;
@@ -20,8 +20,8 @@ pub(crate) fn acknowledge_next(
     progress: &mut Progress,
     seq: u64,
 ) -> Result<bool, StepFault>
-    requires { Goes tree.old progress.old }
-    ensures { OnOk result (Goes tree.new progress.new) }
+    requires { GoesTogether tree.old progress.old }
+    ensures { OnOk result (GoesTogether tree.new progress.new) }
 {
     let (stage, calm) = (progress.first, progress.calm);
     if !calm || stage >= progress.stage {
@@ -52,8 +52,8 @@ pub(crate) fn unmark(
     progress: &mut Progress,
     stage: u64,
 ) -> Result<bool, StepFault>
-    requires { Goes tree.old progress.old }
-    ensures { OnOk result (Goes tree.new progress.new) }
+    requires { GoesTogether tree.old progress.old }
+    ensures { OnOk result (GoesTogether tree.new progress.new) }
 {
     progress.calm = false;
     let found = unmark_first(tree, stage)?;
@@ -123,8 +123,8 @@ pub(crate) fn compact(
     budget: Option<u64>,
     out: &mut String,
 ) -> Result<bool, StepFault>
-    requires { Goes tree.old progress.old }
-    ensures { OnOk result (Goes tree.new progress.new) }
+    requires { GoesTogether tree.old progress.old }
+    ensures { OnOk result (GoesTogether tree.new progress.new) }
 {
     if floor < tree.floor() {
         return Ok(false);
