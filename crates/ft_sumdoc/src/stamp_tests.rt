@@ -43,12 +43,7 @@ fn is_old(limits: Limits, mark: Mark) -> bool
 fn are_recent(limits: Limits, marks: &[Mark]) -> bool
     ensures { result ≡ list_all (is_recent (bounds_in limits)) marks.now }
 {
-    for mark in marks {
-        if !is_recent(limits, *mark) {
-            return false;
-        }
-    }
-    true
+    marks.iter().all(|mark| is_recent(limits, *mark))
 }
 
 // Whether no connection stands twice.

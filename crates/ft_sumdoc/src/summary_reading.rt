@@ -39,7 +39,7 @@ use serde_json::Value;
 use std::alloc::Global;
 
 // The items of the field `text` in a summary of this version.
-fn text_field(alloc: Global, version: u64, value: &Value) -> Result<TextItem<'_>, SumFault>
+fn read_text_items(alloc: Global, version: u64, value: &Value) -> Result<TextItem<'_>, SumFault>
     ensures ok { IfOk result (λ text. field_of_summary (needed_field (narrow_text version) (view value.now) Field.Text) ≡ Ok (text_of text)) }
     ensures err { IfErr result (λ fault. fault ≢ SumFault.OutOfMemory
         → field_of_summary (needed_field (narrow_text version) (view value.now) Field.Text) ≡ Err fault) }
@@ -117,7 +117,7 @@ fn read_narrow_lists(alloc: Global, head: &HeadItem, value: &Value) -> Result<Li
     ensures rows { IfOk result (λ found. unit_count found.rows ≤ 2 ^ 52) }
     ensures cols { IfOk result (λ found. unit_count found.cols ≤ 2 ^ 52) }
 {
-    let items = text_field(alloc, head.version, value)?;
+    let items = read_text_items(alloc, head.version, value)?;
     let text = read_segments(alloc, &items.segs)?;
     let (rows, cols) = read_runs(alloc, limits_of(head), &items.segs, value)?;
     Ok(ListItem {

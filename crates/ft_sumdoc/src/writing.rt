@@ -122,8 +122,8 @@ fn written_value(value: &ValText) -> Result<Value, OutOfMemory>
     value.to_value()
 }
 
-/// The object of properties.
-pub fn props_value(alloc: Global, props: &Props) -> Result<Value, OutOfMemory>
+// The object of properties.
+fn props_value(alloc: Global, props: &Props) -> Result<Value, OutOfMemory>
     requires { HasValues props.now }
     ensures value { IfOk result (λ v. view v ≡ written_props props.now) }
     ensures keyed { IfOk result (λ _. IsKeyed props.now) }
@@ -281,15 +281,22 @@ impl WrittenItem for Text {
     }
 }
 
-/// The array of an interval.
-pub fn interval_value(alloc: Global, i: &IntervalRec) -> Result<Value, OutOfMemory>
-    requires { HasValues i.now.props }
-    ensures value { IfOk result (λ v. view v ≡ written_interval_record i.now) }
-    ensures representable { IfOk result (λ _. IsRepresentableInterval i.now) }
-{
-    let mut items = Vec::new(alloc);
-    push_interval(&mut items, alloc, i)?;
-    Ok(Value::Array(items))
+impl WrittenItem for IntervalRec {
+    ghost use Rattle.ft_sumdoc.specs.Representable.{IsRepresentableInterval};
+    ghost use Rattle.ft_sumdoc.specs.Valid.{HasValues};
+    ghost use Rattle.ft_sumdoc.specs.Written.{written_interval_record};
+
+    ghost written = { written_interval_record };
+
+    ghost IsWritable = { λ i. HasValues i.props };
+
+    ghost IsRepresentable = { IsRepresentableInterval };
+
+    fn to_value(&self, alloc: Global) -> Result<Value, OutOfMemory> {
+        let mut items = Vec::new(alloc);
+        push_interval(&mut items, alloc, self)?;
+        Ok(Value::Array(items))
+    }
 }
 
 // Adds the values of an interval to none.
@@ -304,22 +311,6 @@ fn push_interval(items: &mut Vec<Value>, alloc: Global, i: &IntervalRec) -> Resu
     push(items, Value::from(i.ends.start))?;
     push(items, Value::from(i.ends.end))?;
     push(items, props_value(alloc, &i.props)?)
-}
-
-impl WrittenItem for IntervalRec {
-    ghost use Rattle.ft_sumdoc.specs.Representable.{IsRepresentableInterval};
-    ghost use Rattle.ft_sumdoc.specs.Valid.{HasValues};
-    ghost use Rattle.ft_sumdoc.specs.Written.{written_interval_record};
-
-    ghost written = { written_interval_record };
-
-    ghost IsWritable = { λ i. HasValues i.props };
-
-    ghost IsRepresentable = { IsRepresentableInterval };
-
-    fn to_value(&self, alloc: Global) -> Result<Value, OutOfMemory> {
-        interval_value(alloc, self)
-    }
 }
 
 impl WrittenItem for CellRec {
