@@ -30,8 +30,8 @@ abbrev pub ann : ℕ → ℕ → PropertySet → BaseOp
 ann p q set = Annotate p q (record { props = set; adjust = [] })
 
 -- an annotation that adjusts one key
-abbrev pub adj : ℕ → ℕ → Characters → Adjust → BaseOp
-adj p q key a = Annotate p q (record { props = []; adjust = (key, a) ∷ [] })
+abbrev pub adjusting : ℕ → ℕ → Characters → Adjust → BaseOp
+adjusting p q key a = Annotate p q (record { props = []; adjust = (key, a) ∷ [] })
 
 -- an operation of the text
 abbrev pub one : BaseOp → ChannelOp
@@ -46,8 +46,8 @@ abbrev pub add : Characters → Characters → ℕ → ℕ → ChannelOp
 add label id a b = Text (IntervalAdd label id (record { start = pos a; end = pos b }) [])
 
 -- a change of an interval that gives neither ends nor properties
-abbrev pub change : Characters → Characters → ChannelOp
-change label id = Text (IntervalChange label id None [])
+abbrev pub bare_change : Characters → Characters → ChannelOp
+bare_change label id = Text (IntervalChange label id None [])
 
 -- an operation of the grid
 abbrev pub cell : CellOp → ChannelOp

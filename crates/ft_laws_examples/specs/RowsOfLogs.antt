@@ -10,7 +10,7 @@ use Rattle.ft_msg.specs.declared.messages.MsgKind.TheVariants as kind
 use Rattle.ft_msg.specs.declared.messages.Entry.{Entry}
 use Rattle.ft_msg.specs.Agreed.{agreed}
 use Rattle.ft_msg.specs.Content.{ViewContent, shown}
-use Rattle.ft_laws_examples.specs.Rows.{add, adj, ann, cell, group, ins, interval, message, one, plain, rem}
+use Rattle.ft_laws_examples.specs.Rows.{add, adjusting, ann, cell, group, ins, interval, message, one, plain, rem}
 
 -- what is shown after the messages
 abbrev pub log : List Entry → ViewContent
@@ -80,11 +80,11 @@ GroupAtOnePlace =
 abbrev pub adjusted : List Entry → List Entry
 adjusted more =
     message 1 1 0 (one (ins 0 (codes "a"))) ∷ message 2 1 1 (one (ann 0 1 ((codes "n", Some (codes "\"x\"")) ∷ [])))
-    ∷ message 3 1 2 (one (adj 0 1 (codes "n") (record { delta = negsuc 2; min = Some (negsuc 1); max = None }))) ∷ more
+    ∷ message 3 1 2 (one (adjusting 0 1 (codes "n") (record { delta = negsuc 2; min = Some (negsuc 1); max = None }))) ∷ more
 
 -- an adjustment by the greatest whole number
 abbrev pub large : ℕ → Entry
-large s = message s 1 (s - 1) (one (adj 0 1 (codes "n") (record { delta = pos 9007199254740991; min = None; max = None })))
+large s = message s 1 (s - 1) (one (adjusting 0 1 (codes "n") (record { delta = pos 9007199254740991; min = None; max = None })))
 
 -- an a whose key n has this value
 abbrev pub with_number : List ℕ → ViewContent
@@ -132,8 +132,8 @@ MarkedAndOthers =
     × ((agreed marked).other ≡ 1)
 
 -- a message that says only its sender's reference number
-abbrev pub noop : ℕ → Entry
-noop s = record {
+abbrev pub noop_message : ℕ → Entry
+noop_message s = record {
   msg = record { client_id = Some (codes "X"); seq = s; min = 0; client_seq = pos 1; ref_seq = pos 0; kind = kind.Noop; body = body.Nothing };
   origin = 1;
 }
@@ -141,5 +141,5 @@ noop s = record {
 -- noops and operations for others change nothing but the numbers
 abbrev pub OnlyNumbers : Type 0
 OnlyNumbers =
-    let doc = agreed (noop 1 ∷ elsewhere 2 ∷ []) in
+    let doc = agreed (noop_message 1 ∷ elsewhere 2 ∷ []) in
     (shown doc ≡ plain []) × (doc.number ≡ 2) × (doc.other ≡ 1) × (doc.skipped ≡ 0)

@@ -13,7 +13,7 @@ use Rattle.ft_seqr.specs.declared.nacks.Nack.{Nack}
 use Rattle.ft_seqr.specs.declared.nacks.Nack.TheVariants.{NotJoined, ClientSeq, RefBelow, RefBack, RefAhead}
 use Rattle.ft_msg.specs.Agreed.{agreed}
 use Rattle.ft_op.specs.Document.{empty}
-use Rattle.ft_msg.specs.Client.{NaiveClient, client_over, connect, drop_link, noop as noop_of}
+use Rattle.ft_msg.specs.Client.{NaiveClient, client_over, connect, drop_link, noop}
 use Rattle.ft_msg.specs.Content.{shown}
 use Rattle.ft_msg.specs.Process.{process_fault}
 use Rattle.ft_seqr.specs.Sequencer.{NaiveSequencer, new_sequencer, join, leave, submit}
@@ -40,8 +40,8 @@ abbrev pub op : ℕ → ℕ → Draft
 op n ref_seq = record { client_seq = n; ref_seq = ref_seq; body = body.Op (one (ins 5 (codes "x"))) }
 
 -- a noop, as a draft
-abbrev pub noop : ℕ → ℕ → Draft
-noop n ref_seq = record { client_seq = n; ref_seq = ref_seq; body = body.Nothing }
+abbrev pub noop_draft : ℕ → ℕ → Draft
+noop_draft n ref_seq = record { client_seq = n; ref_seq = ref_seq; body = body.Nothing }
 
 -- drafts and leavings in turn
 pub data Turn : Type 0 where
@@ -49,16 +49,16 @@ pub data Turn : Type 0 where
   Leave : ℕ → Turn
 
 -- what each turn is answered
-abbrev pub answers : NaiveSequencer → List Turn → List (Option Nack)
-answers q [] = []
-answers q (Submit conn d ∷ turns) = elim (submit q conn d) [ Ok p ↦ None ∷ answers p.0 turns | Err nack ↦ Some nack ∷ answers q turns ]
-answers q (Leave conn ∷ turns) = elim (leave q conn) [ Some p ↦ None ∷ answers p.0 turns | None ↦ Some NotJoined ∷ answers q turns ]
+abbrev pub nacks_of : NaiveSequencer → List Turn → List (Option Nack)
+nacks_of q [] = []
+nacks_of q (Submit conn d ∷ turns) = elim (submit q conn d) [ Ok p ↦ None ∷ nacks_of p.0 turns | Err nack ↦ Some nack ∷ nacks_of q turns ]
+nacks_of q (Leave conn ∷ turns) = elim (leave q conn) [ Some p ↦ None ∷ nacks_of p.0 turns | None ↦ Some NotJoined ∷ nacks_of q turns ]
 
 -- the five reasons against a draft
 abbrev pub Nacks : Type 0
 Nacks =
-    answers (join (join new_sequencer 1 (codes "A/1")).0 2 (codes "G/1")).0
-    (Submit 2 (op 1 2) ∷ Submit 2 (noop 1 2) ∷ Submit 2 (noop 2 9) ∷ Submit 2 (noop 2 1) ∷ Submit 1 (noop 1 3) ∷ Submit 2 (noop 2 1) ∷ Leave 2 ∷ Submit 2 (noop 2 3) ∷ [])
+    nacks_of (join (join new_sequencer 1 (codes "A/1")).0 2 (codes "G/1")).0
+    (Submit 2 (op 1 2) ∷ Submit 2 (noop_draft 1 2) ∷ Submit 2 (noop_draft 2 9) ∷ Submit 2 (noop_draft 2 1) ∷ Submit 1 (noop_draft 1 3) ∷ Submit 2 (noop_draft 2 1) ∷ Leave 2 ∷ Submit 2 (noop_draft 2 3) ∷ [])
     ≡ None ∷ Some (ClientSeq 2 1) ∷ Some (RefAhead 3 9) ∷ Some (RefBack 2 1) ∷ None ∷ Some (RefBelow 2 1) ∷ None ∷ Some NotJoined ∷ []
 
 -- the first draft of a connection
@@ -78,8 +78,8 @@ notice_of seq min word = record {
 }
 
 -- the message of the first draft
-abbrev pub first_message : Entry
-first_message = record {
+abbrev pub first_numbered : Entry
+first_numbered = record {
   msg = record { client_id = Some (codes "A/1"); seq = 2; min = 1; client_seq = pos 1; ref_seq = pos 1; kind = kind.Op; body = body.Op (one (ins 0 (codes "a"))) };
   origin = 1;
 }
@@ -88,16 +88,16 @@ first_message = record {
 abbrev pub History : Type 0
 History =
     let joined = join new_sequencer 1 (codes "A/1") in
-    joined.1 ∷ history joined.0 (submit joined.0 1 first_draft) ≡ notice_of 1 0 kind.Join ∷ first_message ∷ notice_of 3 3 kind.Leave ∷ []
+    joined.1 ∷ history joined.0 (submit joined.0 1 first_draft) ≡ notice_of 1 0 kind.Join ∷ first_numbered ∷ notice_of 3 3 kind.Leave ∷ []
 
 -- the text that these messages make
 abbrev pub ReadBack : Type 0
-ReadBack = shown (agreed (notice_of 1 0 kind.Join ∷ first_message ∷ notice_of 3 3 kind.Leave ∷ [])) ≡ plain (codes "a")
+ReadBack = shown (agreed (notice_of 1 0 kind.Join ∷ first_numbered ∷ notice_of 3 3 kind.Leave ∷ [])) ≡ plain (codes "a")
 
 -- the numbers after these messages
 abbrev pub ReadBackNumbers : Type 0
 ReadBackNumbers =
-    let doc = agreed (notice_of 1 0 kind.Join ∷ first_message ∷ notice_of 3 3 kind.Leave ∷ []) in
+    let doc = agreed (notice_of 1 0 kind.Join ∷ first_numbered ∷ notice_of 3 3 kind.Leave ∷ []) in
     (doc.number ≡ 3) × (doc.minimum ≡ 3)
 
 -- two joins and four insertions at the head
@@ -119,11 +119,11 @@ abbrev pub MinimumBack : Type 0
 MinimumBack = process_fault (client_over (agreed (notice_of 1 1 kind.Join ∷ []))) (notice_of 2 0 kind.Leave) ≡ Some (BadNumbers MinimumSequenceNumber 1 (pos 0))
 
 -- connecting once more
-abbrev pub joining : Result NaiveClient LinkFault → Result NaiveClient LinkFault
-joining (Ok x) = connect x 2
-joining (Err fault) = Err fault
+abbrev pub connected_again : Result NaiveClient LinkFault → Result NaiveClient LinkFault
+connected_again (Ok x) = connect x 2
+connected_again (Err fault) = Err fault
 
 -- a client that isn't offline can't connect; one that is offline can't drop, and sends no noop
 abbrev pub Links : Type 0
 Links =
-    (joining (connect (client_over empty) 1) ≡ Err AlreadyConnected) × (drop_link (client_over empty) ≡ Err NotConnected) × (noop_of (client_over empty) ≡ Err NotConnected)
+    (connected_again (connect (client_over empty) 1) ≡ Err AlreadyConnected) × (drop_link (client_over empty) ≡ Err NotConnected) × (noop (client_over empty) ≡ Err NotConnected)

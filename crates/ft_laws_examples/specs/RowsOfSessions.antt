@@ -20,7 +20,7 @@ use Rattle.ft_msg.specs.Content.{ViewContent, shown}
 use Rattle.ft_msg.specs.Summary.{doc_of}
 use Rattle.ft_msg.specs.SummaryOf.{Summarizes}
 use Rattle.ft_laws_examples.specs.Session.{Blame, Blamed, Connect, Deliver, Drop, Edit, EditRefused, Event, From, Kept, Met, Noop, Output, Overlap, Queue, Queued, Save, Show, Showed, Start, Ticket, all, session, some}
-use Rattle.ft_laws_examples.specs.Rows.{add, adj, ann, cell, change, group, ins, interval, message, one, plain, rem}
+use Rattle.ft_laws_examples.specs.Rows.{add, adjusting, ann, bare_change, cell, group, ins, interval, message, one, plain, rem}
 
 -- two clients join and process both joins
 abbrev pub two : List Event
@@ -39,8 +39,8 @@ abbrev pub joining : ℕ → ℕ → ℕ → ViewContent → Output
 joining seq min pending shown = Showed seq min pending 1 shown shown
 
 -- a draft of an operation
-abbrev pub draft : ℕ → ℕ → ChannelOp → Draft
-draft n ref_seq op = record { client_seq = n; ref_seq = ref_seq; body = body.Op op }
+abbrev pub op_draft : ℕ → ℕ → ChannelOp → Draft
+op_draft n ref_seq op = record { client_seq = n; ref_seq = ref_seq; body = body.Op op }
 
 -- another client's insertion goes past the client's own pending text
 abbrev pub PastThePendingRun : Type 0
@@ -59,7 +59,7 @@ RegeneratedBesideARemoval =
     session (three ++ (Edit 1 (one (ins 0 (codes "wt"))) ∷ Ticket 1 (some 1) ∷ Deliver 1 all ∷ Deliver 2 all ∷ Deliver 3 all ∷ Drop 1 ∷ Edit 1 (one (ins 2 (codes "e")))
     ∷ Edit 2 (one (rem 1 2)) ∷ Ticket 2 (some 1) ∷ Edit 3 (one (ins 2 (codes "g"))) ∷ Connect 1 ∷ Deliver 1 all ∷ Queue 1 ∷ Show 1 ∷ Ticket 1 (some 1) ∷ Ticket 3 (some 1)
     ∷ Deliver 1 all ∷ Deliver 2 all ∷ Deliver 3 all ∷ Show 1 ∷ Show 2 ∷ Show 3 ∷ []))
-    ≡ Queued (draft 1 7 (one (ins 1 (codes "e"))) ∷ []) ∷ online 7 0 1 (plain (codes "we")) ∷ online_at 9 4 (plain (codes "weg"))
+    ≡ Queued (op_draft 1 7 (one (ins 1 (codes "e"))) ∷ []) ∷ online 7 0 1 (plain (codes "we")) ∷ online_at 9 4 (plain (codes "weg"))
 
 -- a text with one interval on one element
 abbrev pub with_end : List ℕ → ℕ → ViewContent
@@ -109,14 +109,14 @@ before_the_group =
 abbrev pub RegeneratedGroup : Type 0
 RegeneratedGroup =
     session (before_the_group ++ (Connect 1 ∷ Deliver 1 all ∷ Queue 1 ∷ Show 1 ∷ []))
-    ≡ Queued (draft 1 5 (group (ins 1 (codes "X") ∷ rem 0 2 ∷ ins 0 (codes "Y") ∷ [])) ∷ []) ∷ online 5 0 1 (plain (codes "Yb")) ∷ []
+    ≡ Queued (op_draft 1 5 (group (ins 1 (codes "X") ∷ rem 0 2 ∷ ins 0 (codes "Y") ∷ [])) ∷ []) ∷ online 5 0 1 (plain (codes "Yb")) ∷ []
 
 -- a removal in which another inserted is sent again as two pieces
 abbrev pub RegeneratedRemoval : Type 0
 RegeneratedRemoval =
     session (two ++ (Edit 1 (one (ins 0 (codes "ab"))) ∷ Ticket 1 (some 1) ∷ Deliver 1 all ∷ Deliver 2 all ∷ Drop 1 ∷ Edit 1 (one (rem 0 2)) ∷ Edit 2 (one (ins 1 (codes "m"))) ∷ Ticket 2 (some 1)
     ∷ Connect 1 ∷ Deliver 1 all ∷ Queue 1 ∷ Show 1 ∷ []))
-    ≡ Queued (draft 1 6 (group (rem 0 1 ∷ rem 1 2 ∷ [])) ∷ []) ∷ online 6 3 1 (plain (codes "m")) ∷ []
+    ≡ Queued (op_draft 1 6 (group (rem 0 1 ∷ rem 1 2 ∷ [])) ∷ []) ∷ online 6 3 1 (plain (codes "m")) ∷ []
 
 -- one client joins and processes its join
 abbrev pub one_client : List Event
@@ -137,8 +137,8 @@ ten = record (plain (codes "hi")) { runs = record { start = 0; end = 2; props = 
 -- a pending adjustment takes effect once, on top of a sequenced one
 abbrev pub AdjustedOnce : Type 0
 AdjustedOnce =
-    session (two ++ (Edit 1 (one (ins 0 (codes "hi"))) ∷ Ticket 1 (some 1) ∷ Deliver 1 all ∷ Deliver 2 all ∷ Edit 1 (one (adj 0 2 (codes "n") (record { delta = pos 5; min = None; max = Some (pos 10) })))
-    ∷ Edit 2 (one (adj 0 2 (codes "n") (record { delta = pos 7; min = None; max = None }))) ∷ Ticket 2 (some 1) ∷ Deliver 1 (some 1) ∷ Show 1 ∷ Ticket 1 (some 1) ∷ Deliver 1 all ∷ Deliver 2 all ∷ Show 2 ∷ []))
+    session (two ++ (Edit 1 (one (ins 0 (codes "hi"))) ∷ Ticket 1 (some 1) ∷ Deliver 1 all ∷ Deliver 2 all ∷ Edit 1 (one (adjusting 0 2 (codes "n") (record { delta = pos 5; min = None; max = Some (pos 10) })))
+    ∷ Edit 2 (one (adjusting 0 2 (codes "n") (record { delta = pos 7; min = None; max = None }))) ∷ Ticket 2 (some 1) ∷ Deliver 1 (some 1) ∷ Show 1 ∷ Ticket 1 (some 1) ∷ Deliver 1 all ∷ Deliver 2 all ∷ Show 2 ∷ []))
     ≡ online 4 2 1 ten ∷ online 5 3 0 ten ∷ []
 
 -- one cell
@@ -161,7 +161,7 @@ RefusedPlaces =
 -- an id is added once, and changed only where it is; an end is a place of an element
 abbrev pub RefusedIntervals : Type 0
 RefusedIntervals =
-    session (one_client ++ (Edit 1 (one (ins 0 (codes "ab"))) ∷ Edit 1 (add (codes "n") (codes "i") 0 1) ∷ Edit 1 (add (codes "n") (codes "i") 0 1) ∷ Edit 1 (change (codes "n") (codes "j"))
+    session (one_client ++ (Edit 1 (one (ins 0 (codes "ab"))) ∷ Edit 1 (add (codes "n") (codes "i") 0 1) ∷ Edit 1 (add (codes "n") (codes "i") 0 1) ∷ Edit 1 (bare_change (codes "n") (codes "j"))
     ∷ Edit 1 (add (codes "n") (codes "k") 0 2) ∷ Show 1 ∷ []))
     ≡ EditRefused IdInUse ∷ EditRefused NoSuchInterval ∷ EditRefused (OutOfRange 2)
     ∷ online 1 0 2 (record (plain (codes "ab")) { intervals = interval (codes "n") (codes "i") (pos 0) (pos 1) ∷ [] }) ∷ []
@@ -290,8 +290,8 @@ ordinary = record {
 }
 
 -- three clients edit a text and a table; one types offline and comes back
-abbrev pub OrdinarySession : Type 0
-OrdinarySession =
+abbrev pub OrdinaryViews : Type 0
+OrdinaryViews =
     session (three ++ (Edit 1 (one (ins 0 (codes "Hello world."))) ∷ Ticket 1 (some 1) ∷ []) ++ delivered
     ++ (Edit 1 (cell (SpliceIn Rows 0 4)) ∷ Edit 1 (cell (SpliceIn Cols 0 3)) ∷ Ticket 1 all ∷ []) ++ delivered ++ (Drop 3 ∷ []) ++ type 12 (codes " It is a fine day ok")
     ++ (Edit 2 (one (ann 0 5 ((codes "bold", Some (codes "true")) ∷ []))) ∷ Edit 2 (one (ann 6 11 ((codes "bold", Some (codes "true")) ∷ [])))

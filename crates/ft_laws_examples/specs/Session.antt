@@ -83,10 +83,10 @@ or_refused i w (Ok x) = with_client i x w
 or_refused i w (Err e) = told Refused w
 
 -- the connection of a link, 0 without one
-abbrev pub conn_of : Link → ℕ
-conn_of Offline = 0
-conn_of (Joining conn) = conn
-conn_of (Online conn) = conn
+abbrev pub conn_or_zero : Link → ℕ
+conn_or_zero Offline = 0
+conn_or_zero (Joining conn) = conn
+conn_or_zero (Online conn) = conn
 
 -- 0 for offline, 1 for joining, 2 for online
 abbrev pub link_number : Link → ℕ
@@ -124,7 +124,7 @@ step w (Connect i) =
     or_refused i (record w { sequencer = q.0; log = w.log ++ (q.1 ∷ []); conns = w.conns + 1 }) (connect (client_of i w.clients) (w.conns + 1))
 step w (Drop i) =
     let x = client_of i w.clients in
-    elim (leave w.sequencer (conn_of x.link)) [
+    elim (leave w.sequencer (conn_or_zero x.link)) [
       | Some q ↦ or_refused i (record w { sequencer = q.0; log = w.log ++ (q.1 ∷ []) }) (drop_link x)
       | None ↦ told Refused w
     ]
@@ -135,7 +135,7 @@ step w (Save i) = told (Kept (client_of i w.clients).doc) w
 step w (Ticket i many) =
     let x = client_of i w.clients in
     let n = many_of many (length x.queue) in
-    ticket_drafts (conn_of x.link) (take n x.queue) (with_client i (record x { queue = drop n x.queue }) w)
+    ticket_drafts (conn_or_zero x.link) (take n x.queue) (with_client i (record x { queue = drop n x.queue }) w)
 step w (Deliver i many) =
     let x = client_of i w.clients in
     let next = drop x.doc.number w.log in

@@ -2,7 +2,7 @@
 
 ghost use Rattle.ft_laws_examples.specs.RowsOfLogs.{TwoAtTheHead, TwoAtOnePlace, BesideATombstone, RemovedByTwo, EndsSlideBack, EndsDetach, EndsSlideOn, EndsSlideInAGroup, CellsByUnit, GroupAtOnePlace, RaisedToMin, Adjusted, KeptInRange, SkipsOne, Nothing, MarkedAndOthers, OnlyNumbers};
 ghost use Rattle.ft_laws_examples.specs.RowsOfRefusals.{NeverSent, Nacks, ReferenceAhead, MinimumBack, WrongOrder, Repeated, History, ReadBack, ReadBackNumbers, Links};
-ghost use Rattle.ft_laws_examples.specs.RowsOfSessions.{PastThePendingRun, RegeneratedBesideARemoval, RegeneratedInterval, KeptByTheFloor, SentOnce, PendingProperties, RegeneratedGroup, RegeneratedRemoval, SettledStageByStage, AdjustedOnce, PendingCells, RefusedPlaces, RefusedIntervals, Overlaps, Blames, Saved, SavedAuthor, Loaded, StartedFrom, DeepCell, RemovedRow, OrdinarySession};
+ghost use Rattle.ft_laws_examples.specs.RowsOfSessions.{PastThePendingRun, RegeneratedBesideARemoval, RegeneratedInterval, KeptByTheFloor, SentOnce, PendingProperties, RegeneratedGroup, RegeneratedRemoval, SettledStageByStage, AdjustedOnce, PendingCells, RefusedPlaces, RefusedIntervals, Overlaps, Blames, Saved, SavedAuthor, Loaded, StartedFrom, DeepCell, RemovedRow, OrdinaryViews};
 
 /// What is shown of sequenced messages alone.
 pub fn logs()
@@ -49,7 +49,7 @@ pub fn sessions()
     ensures started_from { StartedFrom }
     ensures deep_cell { DeepCell }
     ensures removed_row { RemovedRow }
-    ensures ordinary { OrdinarySession }
+    ensures ordinary { OrdinaryViews }
 {}
 
 /// What a client and the sequencer refuse.
