@@ -1,4 +1,4 @@
--- What the order will show of a client once its pending operations are sequenced next, with nobody between. The theorem
+-- What the log will show of a client once its pending operations are sequenced next, with nobody between. The theorem
 -- of views compares it with what the client shows now.
 use Rattle.std.specs.Prelude.{ℕ, ◌+◌, List, [], ◌∷◌, None, take, pos}
 use Rattle.ft_op.specs.declared.operations.ChannelOp.{ChannelOp}

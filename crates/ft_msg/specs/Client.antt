@@ -39,7 +39,7 @@ pub record PendingEdit : Type 0 where
   pub sent : Option SentAs
 
 -- a client: its document, its link, all connections that it used, the last stage taken (0 at first), the next client
--- sequence number of its connection, its unsent messages, and its pending edits in order
+-- sequence number of its connection, the drafts that it hasn't sent yet, and its pending edits in order
 pub record NaiveClient : Type 0 where
   pub doc : Document
   pub link : Link
@@ -131,7 +131,7 @@ local_sub_operations doc stages k (sub_operation ∷ sub_operations) = elim (loc
       elim (local_sub_operations taken.0 (stages ++ (here ∷ [])) (k + 1) sub_operations) [ Err fault ↦ Err fault | Ok rest ↦ Ok (rest.0, here ∷ rest.1) ]
 ]
 
--- as what an edit is sent: an online client sends it, another keeps it unsent
+-- as what an edit is sent: an online client sends it, another doesn't
 abbrev pub sent_as : Link → ℕ → ChannelOp → Option SentAs
 sent_as (Online conn) n op = Some (record { conn = conn; client_seq = n; op = op })
 sent_as _ n op = None
@@ -166,7 +166,7 @@ connect x conn = elim x.link [
   | _ ↦ Err AlreadyConnected
 ]
 
--- the client offline with its unsent messages gone, or NotConnected where it is offline
+-- the client offline with the drafts gone that it hasn't sent, or NotConnected where it is offline
 abbrev pub drop_link : NaiveClient → Result NaiveClient LinkFault
 drop_link x = elim x.link [ Offline ↦ Err NotConnected | _ ↦ Ok (record x { link = Offline; queue = [] }) ]
 

@@ -1,5 +1,5 @@
 -- How a client comes back under a new connection: its pending edits are sent again as operations on what it sees now,
--- and its lists are rebuilt so that they agree with what the order will make of these.
+-- and its lists are rebuilt so that they agree with what the log will make of these.
 use Rattle.std.specs.Prelude.{ℕ, ◌+◌, List, [], ◌∷◌, Option, Some, None, map, flat_map, filter_map, length}
 use Rattle.ft_op.specs.declared.operations.ChannelOp.{ChannelOp}
 use Rattle.ft_msg.specs.declared.messages.Draft.{Draft}

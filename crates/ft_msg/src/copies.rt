@@ -1,11 +1,11 @@
 //! Copies of messages and drafts, and whether two are the same.
 
-ghost use Rattle.std.specs.Prelude.{◌≡◌, ◌↔◌, Ok, IsTrue, IfOk};
+ghost use Rattle.std.specs.Prelude.{◌≡◌, ◌↔◌, IsTrue};
 
 use crate::messages::{Body, Draft, Entry, Message, MsgKind};
-use crate::views::{Link, Numbers, Run, Runs, Spot, Spots, View};
+use crate::views::{Link, Numbers, Run, Spot, View};
+use ft_base::moved::{all_three, both};
 use ft_base::{Datum, OutOfMemory, Text};
-use ft_sumdoc::{CellRecs, IntervalRecs};
 
 // Whether it is the kind of this other word.
 fn is_other(kind: &MsgKind, word: &Text) -> bool
@@ -15,20 +15,6 @@ fn is_other(kind: &MsgKind, word: &Text) -> bool
         MsgKind::Other(other) => other.same(word),
         MsgKind::Op | MsgKind::Join | MsgKind::Leave | MsgKind::Noop => false,
     }
-}
-
-// Copies of the text, its markers and its runs.
-fn copy_text(view: &View) -> Result<(Text, Spots, Runs), OutOfMemory>
-    ensures { IfOk result (λ copies. copies ≡ (view.now.text, view.now.markers, view.now.runs)) }
-{
-    Ok((view.text.copy()?, view.markers.copy()?, view.runs.copy()?))
-}
-
-// Copies of the intervals and the cells.
-fn copy_shown(view: &View) -> Result<(IntervalRecs, CellRecs), OutOfMemory>
-    ensures { IfOk result (λ copies. copies ≡ (view.now.intervals, view.now.cells)) }
-{
-    Ok((view.intervals.copy()?, view.cells.copy()?))
 }
 
 impl Datum for MsgKind {
@@ -173,8 +159,12 @@ impl Datum for Spot {
 
 impl Datum for View {
     fn copy(&self) -> Result<View, OutOfMemory> {
-        let (text, markers, runs) = copy_text(self)?;
-        let (intervals, cells) = copy_shown(self)?;
+        let (text, markers, runs) = all_three(
+            self.text.copy(),
+            self.markers.copy(),
+            self.runs.copy(),
+        )?;
+        let (intervals, cells) = both(self.intervals.copy(), self.cells.copy())?;
         Ok(View {
             numbers: self.numbers,
             text,

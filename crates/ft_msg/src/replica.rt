@@ -54,7 +54,7 @@ pub trait Replica: Sized {
         ensures stands { (whole : Document) → IsReached (client_over whole) → GivesDocument doc.now whole
             → IfOk result (λ r. RunsFor (state r) (client_over whole)) };
 
-    /// Takes an edit of the client's own, which shows at once; online it also queues its message.
+    /// Takes an edit of the client's own, which shows at once; online it also queues its draft.
     ///
     /// Returns `IdInUse` exactly where a new interval's id is in its label; `NoSuchInterval` exactly
     /// where the id of a changed or deleted one isn't; `OutOfRange` exactly where a position isn't
@@ -81,25 +81,25 @@ pub trait Replica: Sized {
     fn connect(&mut self, conn: u32) -> Result<(), LinkFault>
         ensures { Answers link_fault_kind 0 (λ x. connect x conn) (state self.old) (state self.new) result };
 
-    /// Goes offline; the messages that it didn't send are gone.
+    /// Goes offline; the drafts that it didn't send are gone.
     ///
     /// Returns `NotConnected` exactly where the client is offline.
     fn drop_link(&mut self) -> Result<(), LinkFault>
         ensures answers { Answers link_fault_kind 0 drop_link (state self.old) (state self.new) result }
         ensures memory { ¬ (result ≡ Err LinkFault.OutOfMemory) };
 
-    /// Queues a message that tells the client's number alone.
+    /// Queues a draft that tells the client's number alone.
     ///
     /// Returns `NotConnected` exactly where the client isn't online, and `OutOfMemory` where there is no
     /// room, after which the client has stopped.
     fn noop(&mut self) -> Result<(), LinkFault>
         ensures { Answers link_fault_kind 0 noop (state self.old) (state self.new) result };
 
-    /// How many messages aren't sent yet.
+    /// How many drafts aren't sent yet.
     fn queued(&self) -> usize
         ensures { result ≡ length (state self.now).client.queue };
 
-    /// The message at place `i` of those, counted from 0: None exactly where `i` isn't below their count.
+    /// The draft at place `i` of those, counted from 0: None exactly where `i` isn't below their count.
     fn queue_at(&self, i: usize) -> Option<&Draft>
         ensures { option_copied result ≡ slice_get (state self.now).client.queue i };
 
@@ -110,7 +110,7 @@ pub trait Replica: Sized {
         ensures numbers { result ≡ numbers_of (state self.now) }
         ensures stands { StandsForSome (state self.now) };
 
-    /// Takes the oldest message that isn't sent yet: None exactly where there is none.
+    /// Takes the oldest draft that isn't sent yet: None exactly where there is none.
     fn take_outgoing(&mut self) -> Option<Draft>
         ensures oldest { result ≡ slice_get (state self.old).client.queue 0 }
         ensures rest { state self.new ≡ with_queue (drop 1 (state self.old).client.queue) (state self.old) };
