@@ -11,6 +11,9 @@ use ft_props::Props;
 use ft_sumdoc::{Mark, Marks};
 use std::alloc::Global;
 
+// The mark of what everybody sees, or of nobody.
+const UNIVERSAL: Mark = Mark { seq: 0, conn: 0 };
+
 /// A sequenced stamp as a mark.
 pub fn mark_of(stamp: &Stamp) -> Mark
     ensures { result ≡ mark_of stamp.now }
@@ -20,7 +23,7 @@ pub fn mark_of(stamp: &Stamp) -> Mark
             seq: *seq,
             conn: *conn,
         },
-        Stamp::Local { .. } => Mark { seq: 0, conn: 0 },
+        Stamp::Local { .. } => UNIVERSAL,
     }
 }
 
@@ -30,7 +33,7 @@ pub fn author_of(by: Option<Stamp>) -> Mark
 {
     match by {
         Some(stamp) => mark_of(&stamp),
-        None => Mark { seq: 0, conn: 0 },
+        None => UNIVERSAL,
     }
 }
 
@@ -51,16 +54,8 @@ pub fn insertion_of(ins: &Stamp, min: u64) -> Mark
     ensures { result ≡ insertion_mark min ins.now }
 {
     match ins {
-        Stamp::Acked { seq, conn } => {
-            if *seq <= min {
-                return Mark { seq: 0, conn: 0 };
-            }
-            Mark {
-                seq: *seq,
-                conn: *conn,
-            }
-        }
-        Stamp::Local { .. } => Mark { seq: 0, conn: 0 },
+        Stamp::Acked { seq, .. } if *seq <= min => UNIVERSAL,
+        Stamp::Acked { .. } | Stamp::Local { .. } => mark_of(ins),
     }
 }
 
