@@ -23,7 +23,7 @@ pub fn value(alloc: Global, bytes: &[u8]) -> Result<String, Cause> {
     let value = read_line(alloc, bytes)?;
     let kept = canonical(alloc, &value);
     drop(value);
-    owned(alloc, kept?.as_str())
+    Ok(owned(alloc, kept?.as_str())?)
 }
 
 /// The field `pos1` as a number from -1 on and as a number of either sign.
@@ -32,7 +32,7 @@ pub fn numbers(alloc: Global, bytes: &[u8]) -> Result<String, Cause> {
     let number = num_field(&value, Field::Pos1);
     let signed = signed_field(&value, Field::Pos1);
     drop(value);
-    both_numbers(alloc, number, signed)
+    Ok(both_numbers(alloc, number, signed)?)
 }
 
 /// The string of the field `id`.
@@ -40,7 +40,7 @@ pub fn string(alloc: Global, bytes: &[u8]) -> Result<String, Cause> {
     let value = read_line(alloc, bytes)?;
     let text = text_field(alloc, &value, Field::Id);
     drop(value);
-    quoted(alloc, &text?)
+    Ok(quoted(alloc, &text?)?)
 }
 
 /// An operation of the text.
@@ -96,33 +96,33 @@ fn operation(alloc: Global, op: ChannelOp) -> Result<String, Cause>
 fn operation_text(alloc: Global, op: &ChannelOp) -> Result<String, Cause>
     requires { IsWellFormed op.now }
 {
-    if !op_is_copied(op)? {
-        return owned(alloc, OTHER_COPY);
+    if !is_copied(op)? {
+        return Ok(owned(alloc, OTHER_COPY)?);
     }
     let written = write_op(alloc, op)?;
-    owned(alloc, written.as_str())
+    Ok(owned(alloc, written.as_str())?)
 }
 
 // The text of a message.
 fn message_text(alloc: Global, msg: &Message) -> Result<String, Cause>
     requires { IsWellFormedMessage msg.now }
 {
-    if !message_is_copied(msg)? {
-        return owned(alloc, OTHER_COPY);
+    if !is_copied(msg)? {
+        return Ok(owned(alloc, OTHER_COPY)?);
     }
     let written = write_message(alloc, msg)?;
-    owned(alloc, written.as_str())
+    Ok(owned(alloc, written.as_str())?)
 }
 
 // The text of a draft.
 fn draft_text(alloc: Global, draft: &Draft) -> Result<String, Cause>
     requires { IsWellFormedDraft draft.now }
 {
-    if !draft_is_copied(draft)? {
-        return owned(alloc, OTHER_COPY);
+    if !is_copied(draft)? {
+        return Ok(owned(alloc, OTHER_COPY)?);
     }
     let written = write_draft(alloc, draft)?;
-    owned(alloc, written.as_str())
+    Ok(owned(alloc, written.as_str())?)
 }
 
 // The text of a summary.
@@ -130,51 +130,17 @@ fn summary_text(alloc: Global, sum: &SumDoc) -> Result<String, SumFault>
     requires valid { IsValidSummary sum.now }
     requires conns { IsTrue (is_count (length sum.now.conns)) }
 {
-    if !summary_is_copied(sum)? {
-        return summary_owned(alloc, OTHER_COPY);
+    if !is_copied(sum)? {
+        return Ok(owned(alloc, OTHER_COPY)?);
     }
     let written = write_summary(alloc, sum)?;
-    summary_owned(alloc, written.as_str())
+    Ok(owned(alloc, written.as_str())?)
 }
 
-// Whether a copy is the same.
-fn summary_is_copied(sum: &SumDoc) -> Result<bool, OutOfMemory> {
-    let copy = sum.copy()?;
-    let is_same = copy.same(sum);
-    drop(copy);
-    Ok(is_same)
-}
-
-// The text as a string of its own.
-fn summary_owned(alloc: Global, text: &str) -> Result<String, SumFault> {
-    match String::from_str(alloc, text) {
-        Ok(owned) => Ok(owned),
-        Err(_) => Err(SumFault::OutOfMemory),
-    }
-}
-
-// Whether a copy is the same.
-fn op_is_copied(op: &ChannelOp) -> Result<bool, OutOfMemory> {
-    let copy = op.copy()?;
-    let is_same = copy.same(op);
-    drop(copy);
-    Ok(is_same)
-}
-
-// Whether a copy is the same.
-fn message_is_copied(msg: &Message) -> Result<bool, OutOfMemory> {
-    let copy = msg.copy()?;
-    let is_same = copy.same(msg);
-    drop(copy);
-    Ok(is_same)
-}
-
-// Whether a copy is the same.
-fn draft_is_copied(draft: &Draft) -> Result<bool, OutOfMemory> {
-    let copy = draft.copy()?;
-    let is_same = copy.same(draft);
-    drop(copy);
-    Ok(is_same)
+// Whether a copy of the value is the same.
+fn is_copied<T: Datum>(value: &T) -> Result<bool, OutOfMemory> {
+    let copy = value.copy()?;
+    Ok(copy.same(value))
 }
 
 // Both numbers, or why there are none.
@@ -182,13 +148,10 @@ fn both_numbers(
     alloc: Global,
     number: Result<i64, FieldFault>,
     signed: Result<i64, FieldFault>,
-) -> Result<String, Cause> {
+) -> Result<String, OutOfMemory> {
     let number = number_text(alloc, number)?;
     let signed = number_text(alloc, signed)?;
-    match format!(in alloc; "{number}, {signed}") {
-        Ok(text) => Ok(text),
-        Err(_) => Err(Cause::OutOfMemory),
-    }
+    Ok(format!(in alloc; "{number}, {signed}")?)
 }
 
 // The number, or why there is none.
@@ -203,15 +166,12 @@ fn number_text(alloc: Global, number: Result<i64, FieldFault>) -> Result<String,
 }
 
 // The string of a text.
-fn quoted(alloc: Global, text: &Text) -> Result<String, Cause> {
+fn quoted(alloc: Global, text: &Text) -> Result<String, OutOfMemory> {
     let string = quote(alloc, text)?;
     owned(alloc, string.as_str())
 }
 
 // The text as a string of its own.
-fn owned(alloc: Global, text: &str) -> Result<String, Cause> {
-    match String::from_str(alloc, text) {
-        Ok(owned) => Ok(owned),
-        Err(_) => Err(Cause::OutOfMemory),
-    }
+fn owned(alloc: Global, text: &str) -> Result<String, OutOfMemory> {
+    Ok(String::from_str(alloc, text)?)
 }
