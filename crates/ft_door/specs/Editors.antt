@@ -142,7 +142,7 @@ is_join _ = false
 abbrev pub is_awaited : NaiveEditor → Message → Bool
 is_awaited x m = x.waits && (is_join m.kind && is_sender x.name m.client_id)
 
--- the client under the number of its connection: numbers go by first appearance in the order, so it isn't known before the join
+-- the client under the number of its connection: numbers go by first appearance in the log, so it isn't known before the join
 abbrev pub or_same : NaiveClient → Result NaiveClient LinkFault → NaiveClient
 or_same x (Ok y) = y
 or_same x (Err fault) = x
@@ -150,7 +150,7 @@ or_same x (Err fault) = x
 abbrev pub joining_as : Bool → ℕ → NaiveClient → NaiveClient
 joining_as joins conn x = cond joins (or_same x (connect x conn)) x
 
--- the next message of the order, with the number of the connection that sent it
+-- the next message of the log, with the number of the connection that sent it
 abbrev pub entry_answer : NaiveEditor → Bool → Entry → Result NaiveClient ProcessFault → Step NaiveEditor
 entry_answer x joins entry (Err fault) = refuses x (refusal_of_process entry.msg.seq fault)
 entry_answer x joins entry (Ok y) = passes (record x { client = y; waits = cond joins false x.waits; load = x.load + (1 + body_load entry.msg.body) })

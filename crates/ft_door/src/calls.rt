@@ -15,7 +15,7 @@ pub enum Call {
     Drop,
     /// To take an edit of its own, which is given as the text of an event `edit`; the `client` in there is passed over.
     Edit,
-    /// To take the next message of the order, whose text is given.
+    /// To take the next message of the log, whose text is given.
     Process,
 }
 

@@ -40,7 +40,7 @@ pub fn give_edit<R: Replica>(
     }
 }
 
-/// Gives the replica the next message of the order. Returns why it is refused, if it is, and then nothing changed.
+/// Gives the replica the next message of the log. Returns why it is refused, if it is, and then nothing changed.
 ///
 /// Returns `OutOfMemory` where there was no memory, and nothing is said of the replica then.
 pub fn give_entry<R: Replica>(

@@ -48,7 +48,7 @@ const LOAD_LIMIT: u64 = 1 << 52;
 
 /// What an editor has: a replica, and what is known of connections. Nothing is said of it once a call found no memory.
 ///
-/// The number of a connection goes by its first appearance in the order, so it isn't known before its join comes. Until then the
+/// The number of a connection goes by its first appearance in the log, so it isn't known before its join comes. Until then the
 /// replica is offline, where it takes messages and edits as one that is joining does.
 #[derive(Drop)]
 pub struct Parts<R: Replica> {
@@ -197,7 +197,7 @@ impl<R: Replica + Drop> Parts<R> {
         Ok(told_of(refusal))
     }
 
-    // Takes the next message of the order.
+    // Takes the next message of the log.
     fn process(&mut self, line: &[u8]) -> Result<Told, OutOfMemory>
         ensures { IfOk result (λ told. TellsStep told self.old self.new (process_line line.now) (process_line_exceeds line.now)) }
     {

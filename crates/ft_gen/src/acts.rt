@@ -45,6 +45,7 @@ fn client_name(alloc: Global, number: u64) -> Result<Text, OutOfMemory>
 }
 
 impl Act {
+    /// What the client of this number does.
     pub fn new(client: u64, deed: Deed) -> Act
         ensures { result ≡ record { client = client; deed = deed } }
     {

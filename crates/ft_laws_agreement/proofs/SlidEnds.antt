@@ -1,4 +1,4 @@
--- An endpoint that slides twice, the second time after more removals, comes where it slides the second time alone; and one
+-- An end that slides twice, the second time after more removals, comes where it slides the second time alone; and one
 -- that stands on an unremoved element stays.
 use Rattle.std.proofs.Common.{◌≡◌, ℕ, suc, ◌≤◌, Bool, true, false, cond, ◌&&◌, ◌||◌, nat_eq, List, [], ◌∷◌, Option, Some, None, find, refl, sym, ◌∙◌, ap, subst, arith}
 use Rattle.std.specs.List.{list_any}
@@ -25,7 +25,7 @@ abbrev pub first_unremoved : List ListElement → Option ElementId
 first_unremoved [] = None
 first_unremoved (e ∷ xs) = cond (is_unremoved e) (Some (id e)) (first_unremoved xs)
 
--- the slide from the front: an endpoint that finds no place behind an element goes to that one
+-- the slide from the front: an end that finds no place behind an element goes to that one
 abbrev pub slid : ElementId → List ListElement → Option ElementId
 slid a [] = None
 slid a (e ∷ xs) = cond (is_meant a e) (first_unremoved (e ∷ xs)) (cond (list_any (is_meant a) xs) (option_or (slid a xs) (some_if (is_unremoved e) e)) None)
@@ -124,7 +124,7 @@ pub first-meant : (b : ElementId) (xs : List ListElement) → first_unremoved xs
 first-meant b [] h = (cc)
 first-meant b (x ∷ xs) h = first-step b x xs (first-meant b xs) (is_unremoved x) refl h
 
--- the element that an endpoint slides to is in the list
+-- the element that an end slides to is in the list
 slid-step : (a b : ElementId) (x : ListElement) (xs : List ListElement) → (slid a xs ≡ Some b → list_any (is_meant b) xs ≡ true)
     → (t u : Bool) → is_unremoved x ≡ t → slid a xs ≡ slid a xs → cond u (option_or (slid a xs) (some_if t x)) None ≡ Some b → (is_meant b x || list_any (is_meant b) xs) ≡ true
 slid-step a b x xs ih t false e r g = (cc)
@@ -197,14 +197,14 @@ first-slid-step b x y xs ys once h ih false e f =
     let behind : list_any (is_meant b) ys ≡ true = same-meant b xs ys h.3 ∙ there in
     rw (here, behind, gone) (or-none (slid b ys) ∙ ih f)
 
--- an endpoint on the first unremoved element slides to the first that is left
+-- an end on the first unremoved element slides to the first that is left
 first-slid : (b : ElementId) (xs ys : List ListElement) → Once xs → MoreRemoved xs ys → first_unremoved xs ≡ Some b → slid b ys ≡ first_unremoved ys
 first-slid b [] [] once h g = (cc)
 first-slid b [] (y ∷ ys) once h g = absurd h
 first-slid b (x ∷ xs) [] once h g = absurd h
 first-slid b (x ∷ xs) (y ∷ ys) once h g = first-slid-step b x y xs ys once h (first-slid b xs ys (once-tail x xs once) h.3) (is_unremoved x) refl g
 
--- the slide of an endpoint that isn't detached
+-- the slide of an end that isn't detached
 abbrev pub slid_again : Option ElementId → List ListElement → Option ElementId
 slid_again None ys = None
 slid_again (Some b) ys = slid b ys
@@ -217,7 +217,7 @@ none-found x false true u (Some b) f h ih g = (cc)
 none-found x false true true None f h ih g = (cc)
 none-found x false true false None f h ih g = ih refl refl
 
--- an endpoint that finds no place finds nothing unremoved at all
+-- an end that finds no place finds nothing unremoved at all
 none-unremoved : (a : ElementId) (xs : List ListElement) → list_any (is_meant a) xs ≡ true → slid a xs ≡ None → first_unremoved xs ≡ None
 none-unremoved a [] h g = refl
 none-unremoved a (x ∷ xs) h g = none-found x (is_meant a x) (list_any (is_meant a) xs) (is_unremoved x) (slid a xs) (first_unremoved xs) h (none-unremoved a xs) g
@@ -274,12 +274,12 @@ pub slide-twice : (o : Option ElementId) (xs ys : List ListElement) → Once xs 
 slide-twice None xs ys once h = refl
 slide-twice (Some a) xs ys once h = ap (slide ys) (slide-slid xs a) ∙ again-slide (slid a xs) ys ∙ slid-twice a xs ys once h ∙ sym (slide-slid ys a)
 
--- ---- an endpoint on an unremoved element
+-- ---- an end on an unremoved element
 
 abbrev pub is_standing_at : ElementId → ListElement → Bool
 is_standing_at a e = is_unremoved e && has_id a e
 
--- the endpoint is detached, or its element is unremoved
+-- the end is detached, or its element is unremoved
 abbrev pub Stands : List ListElement → Option ElementId → Type 0
 Stands xs None = Unit {0}
 Stands xs (Some a) = list_any (is_standing_at a) xs ≡ true
@@ -310,7 +310,7 @@ pub slide-stays : (o : Option ElementId) (xs : List ListElement) → Once xs →
 slide-stays None xs once h = refl
 slide-stays (Some a) xs once h = slide-slid xs a ∙ slid-stays a xs once h
 
--- where an endpoint slides to, it stands
+-- where an end slides to, it stands
 stands-more : (x : ListElement) (xs : List ListElement) (o : Option ElementId) → Stands xs o → Stands (x ∷ xs) o
 stands-more x xs None h = tt
 stands-more x xs (Some a) h = rw h (or-true (is_standing_at a x))

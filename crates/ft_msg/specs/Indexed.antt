@@ -1,4 +1,4 @@
--- Documents and clients with places for names: an endpoint and a cell go by their elements' places in the whole lists.
+-- Documents and clients with places for names: an end and a cell go by their elements' places in the whole lists.
 -- Replicas that number their elements otherwise, or not at all, are compared so.
 use Rattle.std.specs.Prelude.{ℕ, true, List, [], Option, map, option_map}
 use Rattle.ft_sumdoc.specs.declared.summary.CellRec.{CellRec}

@@ -189,7 +189,7 @@ connect_client w c = elim (connect c.client (next_conn w)) [
   | Ok x ↦ quietly (with_client (record c { client = x; connects = c.connects + 1 }) (joined (connection_name c.name (c.connects + 1)) w))
 ]
 
--- the client's connection leaves, and its unsent messages are gone
+-- the client's connection leaves, and its unsent drafts are gone
 abbrev pub drop_client : NaiveWorld → NamedClient → Stepped
 drop_client w c = elim (conn_of c.client.link) [
   | None ↦ Err NotConnected
@@ -213,14 +213,14 @@ noop_client w c = elim (noop c.client) [
   | Ok x ↦ quietly (with_client (record c { client = x }) w)
 ]
 
--- so many of the client's unsent messages are submitted
+-- so many of the client's unsent drafts are submitted
 abbrev pub ticket_sent : NaiveWorld → NamedClient → ℕ → ℕ → Stepped
 ticket_sent w c conn n = elim (submit_all w conn (take n c.client.queue)) [
   | Err refusal ↦ Err refusal
   | Ok v ↦ quietly (with_client (record c { client = record c.client { queue = drop n c.client.queue } }) v)
 ]
 
--- the oldest of the client's unsent messages are submitted
+-- the oldest of the client's unsent drafts are submitted
 abbrev pub ticket_client : NaiveWorld → NamedClient → HowMany → Stepped
 ticket_client w c many = elim (conn_of c.client.link) [
   | None ↦ Err NotConnected

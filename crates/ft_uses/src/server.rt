@@ -7,7 +7,7 @@ use ft_msg::{Draft, Entry, Replica};
 use ft_seqr::{Sequencer, conn_of};
 use std::alloc::Global;
 
-/// What the editors send their messages to: it orders them, and keeps them for all.
+/// What the editors send their messages to: it numbers them, and keeps the log.
 #[derive(Drop)]
 pub struct Server {
     alloc: Global,

@@ -185,7 +185,7 @@ pub extern "C" fn vemiktag_client_edit(alloc: Global, client: &mut Handle, edit:
     asked(alloc, client, Ask::Call(Call::Edit), edit, &mut [], &mut 0)
 }
 
-/// The client takes the next message of the order, which is the text of one.
+/// The client takes the next message of the log, which is the text of one.
 ///
 /// Returns as `vemiktag_client_edit` does, and 6 also where it has seen 2^32 - 1 connections and this is the next message.
 #[unsafe(no_mangle)]
