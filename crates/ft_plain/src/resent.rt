@@ -1,6 +1,6 @@
 //! Pending stages as they are sent again after a reconnection.
 
-ghost use Rattle.std.specs.Prelude.{◌≡◌, ◌+◌, ◌∷◌, ◌++◌, IfOk, OnOk, Some, flat_map, map, option_to_list};
+ghost use Rattle.std.specs.Prelude.{◌≡◌, ◌↔◌, ◌+◌, ◌∷◌, ◌++◌, [], IfOk, IsTrue, OnOk, Some, flat_map, map, option_to_list};
 ghost use Rattle.ft_op.specs.declared.operations.ChannelOp.TheVariants.{Grid, Text};
 ghost use Rattle.ft_op.specs.Operation.{OnGrid, OnText};
 ghost use Rattle.ft_op.specs.Pieces.{base_op_of, cell_op_of, op_of, pieces};
@@ -51,9 +51,12 @@ fn resend_edit(
     ensures resent { IfOk result (λ again. again ≡ resent doc.now stages.now) }
     ensures carried { OnOk result (carried.new ≡ carried.old ++ flat_map (carried_stage doc.now) stages.now) }
 {
-    let pieces = edit_pieces(doc, stages)?;
+    let mut pieces = VecDeque::new(doc.alloc());
+    let mut going = PlainStages::new(doc.alloc());
+    for stage in stages {
+        resend_stage(doc, stage, &mut pieces, &mut going)?;
+    }
     let op = op_of(doc.alloc(), pieces)?;
-    let going = carried_stages(doc, stages)?;
     let count = going.len();
     carried.append(going)?;
     Ok(Resent { op, stages: count })
@@ -70,40 +73,38 @@ pub fn stage_numbers(alloc: Global, stages: &[PlainStage]) -> Result<Vec<u64>, O
     Ok(numbers)
 }
 
-// The pieces of the stages.
-fn edit_pieces(doc: &PlainDocument, stages: &[PlainStage]) -> Result<VecDeque<SubOp>, OutOfMemory>
-    ensures { IfOk result (λ v. map sub_operation_of v.items ≡ flat_map (pieces doc.now) stages.now) }
+// Adds the pieces of the stage, and the stage as it goes on.
+fn resend_stage(
+    doc: &PlainDocument,
+    stage: &PlainStage,
+    all: &mut VecDeque<SubOp>,
+    carried: &mut PlainStages,
+) -> Result<(), OutOfMemory>
+    ensures pieces { OnOk result (map sub_operation_of all.new.items ≡ map sub_operation_of all.old.items ++ pieces doc.now stage.now) }
+    ensures carried { OnOk result (carried.new ≡ carried.old ++ carried_stage doc.now stage.now) }
 {
-    let mut all = VecDeque::new(doc.alloc());
-    for stage in stages {
-        let mut pieces = doc.pieces(stage)?;
-        all.append(&mut pieces)?;
+    let mut pieces = doc.pieces(stage)?;
+    if let Some(stage) = carried_stage(doc, stage, pieces.is_empty())? {
+        carried.push(stage)?;
     }
-    Ok(all)
-}
-
-// The stages as they go on.
-fn carried_stages(doc: &PlainDocument, stages: &[PlainStage]) -> Result<PlainStages, OutOfMemory>
-    ensures { IfOk result (λ v. v ≡ flat_map (carried_stage doc.now) stages.now) }
-{
-    let mut carried = PlainStages::new(doc.alloc());
-    for stage in stages {
-        if let Some(stage) = carried_stage(doc, stage)? {
-            carried.push(stage)?;
-        }
-    }
-    Ok(carried)
+    all.append(&mut pieces)?;
+    Ok(())
 }
 
 // The stage as it goes on: gone without a piece; an interval operation with its ends settled.
-fn carried_stage(doc: &PlainDocument, stage: &PlainStage) -> Result<Option<PlainStage>, OutOfMemory>
+fn carried_stage(
+    doc: &PlainDocument,
+    stage: &PlainStage,
+    is_without_piece: bool,
+) -> Result<Option<PlainStage>, OutOfMemory>
+    requires { IsTrue is_without_piece ↔ (pieces doc.now stage.now ≡ []) }
     ensures { IfOk result (λ carried. option_to_list carried ≡ carried_stage doc.now stage.now) }
 {
     if let SubOp::Intervals(_) = stage.sub_operation() {
         let names = stage.names().settled(doc.text(), stage.stage());
         return Ok(Some(stage.copy_with(names)?));
     }
-    if doc.pieces(stage)?.is_empty() {
+    if is_without_piece {
         return Ok(None);
     }
     Ok(Some(stage.copy_with(stage.names().copy())?))
