@@ -1,101 +1,25 @@
 -- The stages of an edit of the table acknowledged one after another: names go on to fit, and each renaming comes after those before.
-use Rattle.std.proofs.Common.{◌≡◌, ℕ, zero, suc, ◌+◌, ◌-◌, ◌≤◌, ◌<◌, All, Bool, true, false, cond, nat_eq, List, [], ◌∷◌, ◌++◌, Some, None, refl, sym, ◌∙◌, ap, subst, map, length, drop, get_or, slice_get, arith, append-nil}
+use Rattle.std.proofs.Common.{◌≡◌, ℕ, zero, suc, ◌+◌, ◌-◌, ◌≤◌, ◌<◌, All, Bool, true, false, cond, List, [], ◌∷◌, ◌++◌, Some, None, refl, sym, ◌∙◌, ap, subst, map, length, drop, get_or, slice_get, arith}
 use Rattle.std.proofs.Math.Seq.{drop-cons}
 use Rattle.std.specs.List.{AllByRecursion}
-use Rattle.std.proofs.lemmas.Bool.Decides.{nat_tests}
 use Rattle.std.proofs.lemmas.List.Elements.{All-from_recursion, recursion_from_All}
-use Rattle.ft_base.specs.Scan.{len}
-use Rattle.ft_op.specs.declared.operations.CellOp.TheVariants.{SpliceIn, SpliceOut, Set}
-use Rattle.ft_op.specs.declared.operations.Target.TheVariants.{Rows, Cols}
-use Rattle.ft_op.specs.Operation.{OnGrid, OnIntervals, OnText, SubOperation}
 use Rattle.ft_op.specs.Document.{Document}
 use Rattle.ft_op.specs.Stages.{Stage}
-use Rattle.ft_props.specs.Element.{ElementId}
-use Rattle.ft_props.specs.Steps.{Sequence, acked_id, acked_list, is_inserted_by}
-use Rattle.ft_msg.specs.Acknowledgement.{ack_stage, ack_stages, made_before, renamed, renamed_names, renamed_stage}
+use Rattle.ft_props.specs.Steps.{acked_id}
+use Rattle.ft_msg.specs.Acknowledgement.{ack_stage, ack_stages, made_before, renamed_names, renamed_stage}
 use Rattle.ft_msg.specs.Indexed.{IndexedStage, indexed_stage}
 use Rattle.ft_laws_agreement.specs.Sequencing.{is_grid_stage}
 use Rattle.ft_laws_agreement.proofs.NamedByPlace.{names-not_renamed}
 use Rattle.ft_laws_names.specs.GridFacts.{AreCounted, IsCounted, grid_stages}
-use Rattle.ft_laws_names.specs.WellNamed.{AreWellNamed, HasItsStages, IsWellNumbered, RiseTo}
-use Rattle.ft_laws_names.proofs.AckedLists.{stage-count}
-use Rattle.ft_laws_names.proofs.Beside.{ends, next}
-use Rattle.ft_laws_names.proofs.ClientsAlike.{ClientsAlike}
-use Rattle.ft_laws_names.proofs.Indexing.{alike-itself, well-named}
-use Rattle.ft_laws_names.proofs.OwnAlike.{AckedEdits, edit-alike, put-in-back, put-in-renamed, rise-renamed, stages-twice}
+use Rattle.ft_laws_names.specs.WellNamed.{AreWellNamed, RiseTo}
+use Rattle.ft_laws_names.proofs.OwnAlike.{stages-twice}
 use Rattle.ft_matrix.specs.GridStates.{GridState}
 use Rattle.ft_matrix.specs.HoldsGrid.{HoldsGrid}
+use Rattle.ft_matrix.proofs.AckedEdits.{acked-named, later-counted, rise-back, stages-itself}
 use Rattle.ft_client.specs.declared.stages.OwnStage.{OwnStage}
 use Rattle.ft_perm.specs.Handles.{numbers_from}
 use Rattle.ft_client.specs.Acks.{AcksSome, HoldsAckedGrid, last_from}
 use Rattle.ft_client.specs.Parts.{own_stage}
-use Rattle.ft_client.proofs.Known.{client_of, named-of, one-edit}
-
--- ---- renamed stages
-
-stages-itself : (ts : List Stage) → map (renamed_stage (λ i. i)) ts ≡ ts
-stages-itself [] = refl
-stages-itself (t ∷ ts) =
-    ap (λ n. record t { names = n } ∷ map (renamed_stage (λ i. i)) ts) (names-not_renamed t.names) ∙ ap (λ us. t ∷ us) (stages-itself ts)
-
-rise-back : (f : ElementId → ElementId) (low last : ℕ) (ts : List Stage) → RiseTo low last (map (renamed_stage f) ts) → RiseTo low last ts
-rise-back f low last [] h = h
-rise-back f low last (t ∷ ts) h = (h.0, rise-back f t.stage last ts h.1)
-
--- ---- one stage
-
-module _ (last s c : ℕ) (f : ElementId → ElementId) (t : Stage) (ts : List Stage) (doc : Document) where
-  abbrev later-name : ElementId → ElementId
-  later-name x = acked_id t.stage (made_before doc t.sub_operation) (f x)
-
-  acked-named : AreWellNamed last doc (map (renamed_stage f) (t ∷ ts)) → AreWellNamed last (ack_stage s c f t doc) (map (renamed_stage (λ x. later-name x)) ts)
-  acked-named h =
-      let later = ack_stage s c f t doc in
-      let us = map (renamed_stage (λ x. later-name x)) ts in
-      let own = subst (λ vs. HasItsStages vs later) (sym (append-nil us)) (put-in-renamed (λ x. later-name x) ts later e.own) in
-      let rise = subst (λ vs. RiseTo 0 last vs) (sym (append-nil us)) (rise-renamed (λ x. later-name x) 0 last ts e.rise) in
-      let both : ClientsAlike (client_of last later us) (client_of last later us) = record {
-        rest = refl;
-        doc = e.alike;
-        pending = next (record { stages = e.stages; ref_seq = refl; sent = refl }) ends;
-        own = own;
-        rise = rise;
-      } in
-      subst (λ vs. AreWellNamed last later vs) (append-nil us) (well-named (client_of last later us) (client_of last later us) both)
-    where
-      a : ClientsAlike (client_of last doc (map (renamed_stage f) (t ∷ ts))) (client_of last doc (map (renamed_stage f) (t ∷ ts)))
-      a = alike-itself (client_of last doc (map (renamed_stage f) (t ∷ ts))) (named-of last doc (map (renamed_stage f) (t ∷ ts)) h)
-
-      e : AckedEdits last 0 ts ts (ack_stages s c f (t ∷ []) doc) (ack_stages s c f (t ∷ []) doc)
-      e = edit-alike last s c 0 ts ts f f (t ∷ []) (t ∷ []) doc doc refl a.doc (one-edit doc doc _ _ a.pending)
-          (put-in-back f (t ∷ ts) doc h.own) (rise-back f 0 last (t ∷ ts) h.rise)
-
--- ---- the stages of an edit
-
-same-count : (k last s c : ℕ) (list : Sequence) (j : ℕ) → IsWellNumbered last list → k < j
-    → len (is_inserted_by j) (acked_list k s c list).items ≡ len (is_inserted_by j) list.items
-same-count k last s c list j w l = stage-count last k s c list w j false (apart j l)
-  where
-    apart : (j : ℕ) → k < j → nat_eq j k ≡ false
-    apart j l = grind (arith, nat_tests)
-
-one-counted : (last s c : ℕ) (f : ElementId → ElementId) (t : Stage) (doc : Document) (j : ℕ) (o : SubOperation)
-    → IsWellNumbered last doc.rows → IsWellNumbered last doc.cols → t.stage < j
-    → IsCounted doc j o → IsCounted (ack_stage s c f t doc) j o
-one-counted last s c f t doc j (OnText op) w v l g = tt
-one-counted last s c f t doc j (OnIntervals op) w v l g = tt
-one-counted last s c f t doc j (OnGrid (SpliceIn Rows i count)) w v l g = same-count t.stage last s c doc.rows j w l ∙ g
-one-counted last s c f t doc j (OnGrid (SpliceIn Cols i count)) w v l g = same-count t.stage last s c doc.cols j v l ∙ g
-one-counted last s c f t doc j (OnGrid (SpliceOut target i n)) w v l g = tt
-one-counted last s c f t doc j (OnGrid (Set i n value)) w v l g = tt
-
-later-counted : (last s c : ℕ) (f : ElementId → ElementId) (t : Stage) (doc : Document) (low : ℕ) (ts rest : List Stage)
-    → IsWellNumbered last doc.rows → IsWellNumbered last doc.cols
-    → t.stage ≤ low → RiseTo low last (ts ++ rest) → AllByRecursion (λ (u : Stage). IsCounted doc u.stage u.sub_operation) ts
-    → AllByRecursion (λ (u : Stage). IsCounted (ack_stage s c f t doc) u.stage u.sub_operation) ts
-later-counted last s c f t doc low [] rest w v l r a = tt
-later-counted last s c f t doc low (u ∷ ts) rest w v l r a =
-    (one-counted last s c f t doc u.stage u.sub_operation w v (omega arith) a.0, later-counted last s c f t doc u.stage ts rest w v (omega arith) r.1 a.1)
 
 -- the stages of the grid rise with all
 lowest-stages : (doc : Document) (k low last : ℕ) (ts : List Stage) → k ≤ low → RiseTo low last ts → AllByRecursion (λ u. k ≤ u.stage) (grid_stages doc ts)

@@ -12,14 +12,14 @@ use Rattle.ft_op.specs.Operation.{OnGrid, OnIntervals, OnText, SubOperation}
 use Rattle.ft_perm.specs.Handles.{numbers_from}
 use Rattle.ft_op.specs.Document.{Document}
 use Rattle.ft_op.specs.Stages.{Stage}
-use Rattle.ft_msg.specs.Acknowledgement.{ack_stage, ack_stages, made_before, renamed, renamed_names, renamed_stage}
+use Rattle.ft_msg.specs.Acknowledgement.{ack_stage, ack_stages, made_before, renamed_names, renamed_stage}
 use Rattle.ft_laws_names.specs.WellNamed.{HasItsStages, IsWellNumbered, RiseTo, AreWellNamed}
 use Rattle.ft_laws_names.proofs.AckedLists.{stage-count}
 use Rattle.ft_laws_names.proofs.Beside.{ends, next}
 use Rattle.ft_laws_names.proofs.ClientsAlike.{ClientsAlike}
 use Rattle.ft_laws_names.proofs.OwnAlike.{AckedEdits, edit-alike, put-in-back, put-in-renamed, rise-renamed, stages-twice}
 use Rattle.ft_laws_names.specs.GridFacts.{AreCounted, IsCounted}
-use Rattle.ft_laws_agreement.proofs.NamedByPlace.{not-renamed}
+use Rattle.ft_laws_agreement.proofs.NamedByPlace.{names-not_renamed}
 use Rattle.ft_matrix.specs.declared.grid.Grid.{Grid}
 use Rattle.ft_matrix.specs.declared.stages.GridStage.{GridStage}
 use Rattle.ft_matrix.specs.Acked.{AcksSome, AcksStage}
@@ -36,11 +36,9 @@ use Rattle.ft_matrix.proofs.HeldGrids.{alike-self, client_of, self-alike}
 pub stages-itself : (ts : List Stage) → map (renamed_stage (λ i. i)) ts ≡ ts
 stages-itself [] = refl
 stages-itself (t ∷ ts) =
-    ap (λ o. record t { names = record { first = o; second = renamed (λ i. i) t.names.second } } ∷ map (renamed_stage (λ i. i)) ts) (not-renamed t.names.first)
-    ∙ ap (λ o. record t { names = record { first = t.names.first; second = o } } ∷ map (renamed_stage (λ i. i)) ts)
-    (not-renamed t.names.second) ∙ ap (λ us. t ∷ us) (stages-itself ts)
+    ap (λ n. record t { names = n } ∷ map (renamed_stage (λ i. i)) ts) (names-not_renamed t.names) ∙ ap (λ us. t ∷ us) (stages-itself ts)
 
-rise-back : (f : ElementId → ElementId) (low last : ℕ) (ts : List Stage) → RiseTo low last (map (renamed_stage f) ts) → RiseTo low last ts
+pub rise-back : (f : ElementId → ElementId) (low last : ℕ) (ts : List Stage) → RiseTo low last (map (renamed_stage f) ts) → RiseTo low last ts
 rise-back f low last [] h = h
 rise-back f low last (t ∷ ts) h = (h.0, rise-back f t.stage last ts h.1)
 
@@ -50,7 +48,7 @@ module _ (last s c : ℕ) (f : ElementId → ElementId) (t : Stage) (ts : List S
   abbrev later-name : ElementId → ElementId
   later-name x = acked_id t.stage (made_before doc t.sub_operation) (f x)
 
-  acked-named : AreWellNamed last doc (map (renamed_stage f) (t ∷ ts)) → AreWellNamed last (ack_stage s c f t doc) (map (renamed_stage (λ x. later-name x)) ts)
+  pub acked-named : AreWellNamed last doc (map (renamed_stage f) (t ∷ ts)) → AreWellNamed last (ack_stage s c f t doc) (map (renamed_stage (λ x. later-name x)) ts)
   acked-named h = self-alike last (ack_stage s c f t doc) (map (renamed_stage (λ x. later-name x)) ts) (record {
     rest = refl;
     doc = e.alike;
@@ -95,7 +93,7 @@ one-counted last s c f t doc j (OnGrid (SpliceIn Cols i count)) w v l g = same-c
 one-counted last s c f t doc j (OnGrid (SpliceOut target i n)) w v l g = tt
 one-counted last s c f t doc j (OnGrid (Set i n value)) w v l g = tt
 
-later-counted : (last s c : ℕ) (f : ElementId → ElementId) (t : Stage) (doc : Document) (low : ℕ) (ts rest : List Stage)
+pub later-counted : (last s c : ℕ) (f : ElementId → ElementId) (t : Stage) (doc : Document) (low : ℕ) (ts rest : List Stage)
     → IsWellNumbered last doc.rows → IsWellNumbered last doc.cols
     → t.stage ≤ low → RiseTo low last (ts ++ rest) → AllByRecursion (λ (u : Stage). IsCounted doc u.stage u.sub_operation) ts
     → AllByRecursion (λ (u : Stage). IsCounted (ack_stage s c f t doc) u.stage u.sub_operation) ts

@@ -2,7 +2,7 @@ mod Freed
 mod AckedGrids
 mod AckedUnits
 mod AckedStages
-mod AckedEdits
+pub mod AckedEdits
 mod UnitLists
 mod Placed
 mod HeldGrids
