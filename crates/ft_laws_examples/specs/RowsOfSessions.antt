@@ -45,7 +45,8 @@ op_draft n ref_seq op = record { client_seq = n; ref_seq = ref_seq; body = body.
 -- another client's insertion goes past the client's own pending text
 abbrev pub PastThePendingRun : Type 0
 PastThePendingRun =
-    session (two ++ (Edit 1 (one (ins 0 (codes "x"))) ∷ Ticket 1 (some 1) ∷ Deliver 1 all ∷ Deliver 2 all ∷ Edit 1 (one (ins 1 (codes "e"))) ∷ Edit 2 (one (ins 1 (codes "f")))
+    session (two ++ (Edit 1 (one (ins 0 (codes "x"))) ∷ Ticket 1 (some 1) ∷ Deliver 1 all ∷ Deliver 2 all ∷ Edit 1 (one (ins 1 (codes "e")))
+    ∷ Edit 2 (one (ins 1 (codes "f")))
     ∷ Ticket 2 (some 1) ∷ Deliver 1 (some 1) ∷ Show 1 ∷ Ticket 1 (some 1) ∷ Deliver 1 all ∷ Deliver 2 all ∷ Show 2 ∷ []))
     ≡ online 4 2 1 (plain (codes "xef")) ∷ online 5 3 0 (plain (codes "xef")) ∷ []
 
@@ -56,8 +57,10 @@ online_at seq min shown = online seq min 0 shown ∷ online seq min 0 shown ∷ 
 -- a client drops, types beside what another removes, and sends it again under a new connection
 abbrev pub RegeneratedBesideARemoval : Type 0
 RegeneratedBesideARemoval =
-    session (three ++ (Edit 1 (one (ins 0 (codes "wt"))) ∷ Ticket 1 (some 1) ∷ Deliver 1 all ∷ Deliver 2 all ∷ Deliver 3 all ∷ Drop 1 ∷ Edit 1 (one (ins 2 (codes "e")))
-    ∷ Edit 2 (one (rem 1 2)) ∷ Ticket 2 (some 1) ∷ Edit 3 (one (ins 2 (codes "g"))) ∷ Connect 1 ∷ Deliver 1 all ∷ Queue 1 ∷ Show 1 ∷ Ticket 1 (some 1) ∷ Ticket 3 (some 1)
+    session (three ++ (Edit 1 (one (ins 0 (codes "wt"))) ∷ Ticket 1 (some 1) ∷ Deliver 1 all ∷ Deliver 2 all ∷ Deliver 3 all ∷ Drop 1
+    ∷ Edit 1 (one (ins 2 (codes "e")))
+    ∷ Edit 2 (one (rem 1 2)) ∷ Ticket 2 (some 1) ∷ Edit 3 (one (ins 2 (codes "g"))) ∷ Connect 1 ∷ Deliver 1 all ∷ Queue 1 ∷ Show 1
+    ∷ Ticket 1 (some 1) ∷ Ticket 3 (some 1)
     ∷ Deliver 1 all ∷ Deliver 2 all ∷ Deliver 3 all ∷ Show 1 ∷ Show 2 ∷ Show 3 ∷ []))
     ≡ Queued (op_draft 1 7 (one (ins 1 (codes "e"))) ∷ []) ∷ online 7 0 1 (plain (codes "we")) ∷ online_at 9 4 (plain (codes "weg"))
 
@@ -68,22 +71,27 @@ with_end text p = record (plain text) { intervals = interval (codes "notes") (co
 -- an interval that was added offline on an element that another removes
 abbrev pub RegeneratedInterval : Type 0
 RegeneratedInterval =
-    session (two ++ (Edit 1 (one (ins 0 (codes "abcd"))) ∷ Ticket 1 (some 1) ∷ Deliver 1 all ∷ Deliver 2 all ∷ Drop 1 ∷ Edit 1 (one (ins 3 (codes "Q"))) ∷ Edit 1 (add (codes "notes") (codes "i") 2 2)
-    ∷ Edit 2 (one (rem 2 3)) ∷ Ticket 2 (some 1) ∷ Connect 1 ∷ Deliver 1 (some 2) ∷ Show 1 ∷ Deliver 1 (some 1) ∷ Show 1 ∷ Ticket 1 all ∷ Deliver 2 all ∷ Show 2 ∷ []))
+    session (two ++ (Edit 1 (one (ins 0 (codes "abcd"))) ∷ Ticket 1 (some 1) ∷ Deliver 1 all ∷ Deliver 2 all ∷ Drop 1
+    ∷ Edit 1 (one (ins 3 (codes "Q"))) ∷ Edit 1 (add (codes "notes") (codes "i") 2 2)
+    ∷ Edit 2 (one (rem 2 3)) ∷ Ticket 2 (some 1) ∷ Connect 1 ∷ Deliver 1 (some 2) ∷ Show 1 ∷ Deliver 1 (some 1) ∷ Show 1 ∷ Ticket 1 all
+    ∷ Deliver 2 all ∷ Show 2 ∷ []))
     ≡ joining 5 3 2 (with_end (codes "abQd") 2) ∷ online 6 3 2 (with_end (codes "abQd") 2) ∷ online 8 3 0 (with_end (codes "abQd") 2) ∷ []
 
 -- an offline client keeps what was removed above its floor
 abbrev pub KeptByTheFloor : Type 0
 KeptByTheFloor =
-    session (two ++ (Edit 1 (one (ins 0 (codes "wt"))) ∷ Ticket 1 (some 1) ∷ Deliver 1 all ∷ Deliver 2 all ∷ Drop 1 ∷ Edit 1 (one (ins 2 (codes "e"))) ∷ Deliver 2 all ∷ Edit 2 (one (rem 1 2))
-    ∷ Ticket 2 (some 1) ∷ Deliver 2 (some 1) ∷ Noop 2 ∷ Ticket 2 (some 1) ∷ Deliver 2 (some 1) ∷ Edit 2 (one (ins 1 (codes "g"))) ∷ Ticket 2 (some 1) ∷ Connect 1 ∷ Deliver 1 (some 3) ∷ Show 1
+    session (two ++ (Edit 1 (one (ins 0 (codes "wt"))) ∷ Ticket 1 (some 1) ∷ Deliver 1 all ∷ Deliver 2 all ∷ Drop 1
+    ∷ Edit 1 (one (ins 2 (codes "e"))) ∷ Deliver 2 all ∷ Edit 2 (one (rem 1 2))
+    ∷ Ticket 2 (some 1) ∷ Deliver 2 (some 1) ∷ Noop 2 ∷ Ticket 2 (some 1) ∷ Deliver 2 (some 1) ∷ Edit 2 (one (ins 1 (codes "g")))
+    ∷ Ticket 2 (some 1) ∷ Connect 1 ∷ Deliver 1 (some 3) ∷ Show 1
     ∷ Deliver 1 (some 1) ∷ Show 1 ∷ Deliver 1 (some 1) ∷ Show 1 ∷ []))
     ≡ joining 6 5 1 (plain (codes "we")) ∷ joining 7 6 1 (plain (codes "wge")) ∷ online 8 6 1 (plain (codes "wge")) ∷ []
 
 -- what was sequenced under the old connection isn't sent again
 abbrev pub SentOnce : Type 0
 SentOnce =
-    session (two ++ (Edit 1 (one (ins 0 (codes "a"))) ∷ Edit 1 (one (ins 1 (codes "b"))) ∷ Edit 1 (one (ins 2 (codes "c"))) ∷ Ticket 1 (some 1) ∷ Drop 1 ∷ Connect 1 ∷ Deliver 1 all ∷ Show 1
+    session (two ++ (Edit 1 (one (ins 0 (codes "a"))) ∷ Edit 1 (one (ins 1 (codes "b"))) ∷ Edit 1 (one (ins 2 (codes "c")))
+    ∷ Ticket 1 (some 1) ∷ Drop 1 ∷ Connect 1 ∷ Deliver 1 all ∷ Show 1
     ∷ Ticket 1 all ∷ Deliver 1 all ∷ Deliver 2 all ∷ Show 2 ∷ []))
     ≡ online 5 0 2 (plain (codes "abc")) ∷ online 7 0 0 (plain (codes "abc")) ∷ []
 
@@ -94,8 +102,10 @@ bold_italic = record (plain (codes "hi")) { runs = record { start = 0; end = 2; 
 -- pending properties stand over sequenced ones
 abbrev pub PendingProperties : Type 0
 PendingProperties =
-    session (two ++ (Edit 1 (one (ins 0 (codes "hi"))) ∷ Ticket 1 (some 1) ∷ Deliver 1 all ∷ Deliver 2 all ∷ Edit 1 (one (ann 0 2 ((codes "bold", Some (codes "true")) ∷ [])))
-    ∷ Edit 2 (one (ann 0 2 ((codes "bold", Some (codes "false")) ∷ (codes "italic", Some (codes "true")) ∷ []))) ∷ Ticket 2 (some 1) ∷ Deliver 1 (some 1) ∷ Show 1 ∷ Ticket 1 (some 1)
+    session (two ++ (Edit 1 (one (ins 0 (codes "hi"))) ∷ Ticket 1 (some 1) ∷ Deliver 1 all ∷ Deliver 2 all
+    ∷ Edit 1 (one (ann 0 2 ((codes "bold", Some (codes "true")) ∷ [])))
+    ∷ Edit 2 (one (ann 0 2 ((codes "bold", Some (codes "false")) ∷ (codes "italic", Some (codes "true")) ∷ []))) ∷ Ticket 2 (some 1)
+    ∷ Deliver 1 (some 1) ∷ Show 1 ∷ Ticket 1 (some 1)
     ∷ Deliver 1 all ∷ Deliver 2 all ∷ Show 2 ∷ []))
     ≡ online 4 2 1 bold_italic ∷ online 5 3 0 bold_italic ∷ []
 
@@ -114,7 +124,8 @@ RegeneratedGroup =
 -- a removal in which another inserted is sent again as two pieces
 abbrev pub RegeneratedRemoval : Type 0
 RegeneratedRemoval =
-    session (two ++ (Edit 1 (one (ins 0 (codes "ab"))) ∷ Ticket 1 (some 1) ∷ Deliver 1 all ∷ Deliver 2 all ∷ Drop 1 ∷ Edit 1 (one (rem 0 2)) ∷ Edit 2 (one (ins 1 (codes "m"))) ∷ Ticket 2 (some 1)
+    session (two ++ (Edit 1 (one (ins 0 (codes "ab"))) ∷ Ticket 1 (some 1) ∷ Deliver 1 all ∷ Deliver 2 all ∷ Drop 1 ∷ Edit 1 (one (rem 0 2))
+    ∷ Edit 2 (one (ins 1 (codes "m"))) ∷ Ticket 2 (some 1)
     ∷ Connect 1 ∷ Deliver 1 all ∷ Queue 1 ∷ Show 1 ∷ []))
     ≡ Queued (op_draft 1 6 (group (rem 0 1 ∷ rem 1 2 ∷ [])) ∷ []) ∷ online 6 3 1 (plain (codes "m")) ∷ []
 
@@ -125,7 +136,8 @@ one_client = Start 1 ∷ Connect 1 ∷ Deliver 1 all ∷ []
 -- an end goes stage by stage, so it stays on w and doesn't go on to X
 abbrev pub SettledStageByStage : Type 0
 SettledStageByStage =
-    session (one_client ++ (Edit 1 (one (ins 0 (codes "wa"))) ∷ Edit 1 (add (codes "n") (codes "i") 1 1) ∷ Ticket 1 all ∷ Deliver 1 all ∷ Edit 1 (one (rem 1 2)) ∷ Edit 1 (one (ins 1 (codes "X")))
+    session (one_client ++ (Edit 1 (one (ins 0 (codes "wa"))) ∷ Edit 1 (add (codes "n") (codes "i") 1 1) ∷ Ticket 1 all ∷ Deliver 1 all
+    ∷ Edit 1 (one (rem 1 2)) ∷ Edit 1 (one (ins 1 (codes "X")))
     ∷ Show 1 ∷ Ticket 1 all ∷ Deliver 1 all ∷ Show 1 ∷ []))
     ≡ online 3 1 2 (record (plain (codes "wX")) { intervals = interval (codes "n") (codes "i") (pos 0) (pos 0) ∷ [] })
     ∷ online 5 3 0 (record (plain (codes "wX")) { intervals = interval (codes "n") (codes "i") (pos 0) (pos 0) ∷ [] }) ∷ []
@@ -137,8 +149,10 @@ ten = record (plain (codes "hi")) { runs = record { start = 0; end = 2; props = 
 -- a pending adjustment takes effect once, on top of a sequenced one
 abbrev pub AdjustedOnce : Type 0
 AdjustedOnce =
-    session (two ++ (Edit 1 (one (ins 0 (codes "hi"))) ∷ Ticket 1 (some 1) ∷ Deliver 1 all ∷ Deliver 2 all ∷ Edit 1 (one (adjusting 0 2 (codes "n") (record { delta = pos 5; min = None; max = Some (pos 10) })))
-    ∷ Edit 2 (one (adjusting 0 2 (codes "n") (record { delta = pos 7; min = None; max = None }))) ∷ Ticket 2 (some 1) ∷ Deliver 1 (some 1) ∷ Show 1 ∷ Ticket 1 (some 1) ∷ Deliver 1 all ∷ Deliver 2 all ∷ Show 2 ∷ []))
+    session (two ++ (Edit 1 (one (ins 0 (codes "hi"))) ∷ Ticket 1 (some 1) ∷ Deliver 1 all ∷ Deliver 2 all
+    ∷ Edit 1 (one (adjusting 0 2 (codes "n") (record { delta = pos 5; min = None; max = Some (pos 10) })))
+    ∷ Edit 2 (one (adjusting 0 2 (codes "n") (record { delta = pos 7; min = None; max = None }))) ∷ Ticket 2 (some 1) ∷ Deliver 1 (some 1)
+    ∷ Show 1 ∷ Ticket 1 (some 1) ∷ Deliver 1 all ∷ Deliver 2 all ∷ Show 2 ∷ []))
     ≡ online 4 2 1 ten ∷ online 5 3 0 ten ∷ []
 
 -- one cell
@@ -148,20 +162,24 @@ one_cell v = record (plain []) { rows = 1; cols = 1; cells = record { row = 0; c
 -- a pending cell write stands over a sequenced one
 abbrev pub PendingCells : Type 0
 PendingCells =
-    session (two ++ (Edit 1 (cell (SpliceIn Rows 0 1)) ∷ Edit 1 (cell (SpliceIn Cols 0 1)) ∷ Ticket 1 all ∷ Deliver 1 all ∷ Deliver 2 all ∷ Edit 1 (cell (Set 0 0 (codes "\"a\"")))
-    ∷ Edit 2 (cell (Set 0 0 (codes "\"b\""))) ∷ Ticket 2 (some 1) ∷ Deliver 1 (some 1) ∷ Show 1 ∷ Ticket 1 (some 1) ∷ Deliver 1 all ∷ Deliver 2 all ∷ Show 2 ∷ []))
+    session (two ++ (Edit 1 (cell (SpliceIn Rows 0 1)) ∷ Edit 1 (cell (SpliceIn Cols 0 1)) ∷ Ticket 1 all ∷ Deliver 1 all ∷ Deliver 2 all
+    ∷ Edit 1 (cell (Set 0 0 (codes "\"a\"")))
+    ∷ Edit 2 (cell (Set 0 0 (codes "\"b\""))) ∷ Ticket 2 (some 1) ∷ Deliver 1 (some 1) ∷ Show 1 ∷ Ticket 1 (some 1) ∷ Deliver 1 all
+    ∷ Deliver 2 all ∷ Show 2 ∷ []))
     ≡ online 5 2 1 (one_cell (codes "\"a\"")) ∷ online 6 4 0 (one_cell (codes "\"a\"")) ∷ []
 
 -- the end of the view is a place, beyond it there is none
 abbrev pub RefusedPlaces : Type 0
 RefusedPlaces =
-    session (one_client ++ (Edit 1 (one (ins 0 (codes "abc"))) ∷ Edit 1 (one (ins 3 (codes "d"))) ∷ Edit 1 (one (ins 5 (codes "x"))) ∷ Edit 1 (one (rem 3 3)) ∷ Show 1 ∷ []))
+    session (one_client ++ (Edit 1 (one (ins 0 (codes "abc"))) ∷ Edit 1 (one (ins 3 (codes "d"))) ∷ Edit 1 (one (ins 5 (codes "x")))
+    ∷ Edit 1 (one (rem 3 3)) ∷ Show 1 ∷ []))
     ≡ EditRefused (OutOfRange 4) ∷ online 1 0 3 (plain (codes "abcd")) ∷ []
 
 -- an id is added once, and changed only where it is; an end is a place of an element
 abbrev pub RefusedIntervals : Type 0
 RefusedIntervals =
-    session (one_client ++ (Edit 1 (one (ins 0 (codes "ab"))) ∷ Edit 1 (add (codes "n") (codes "i") 0 1) ∷ Edit 1 (add (codes "n") (codes "i") 0 1) ∷ Edit 1 (bare_change (codes "n") (codes "j"))
+    session (one_client ++ (Edit 1 (one (ins 0 (codes "ab"))) ∷ Edit 1 (add (codes "n") (codes "i") 0 1)
+    ∷ Edit 1 (add (codes "n") (codes "i") 0 1) ∷ Edit 1 (bare_change (codes "n") (codes "j"))
     ∷ Edit 1 (add (codes "n") (codes "k") 0 2) ∷ Show 1 ∷ []))
     ≡ EditRefused IdInUse ∷ EditRefused NoSuchInterval ∷ EditRefused (OutOfRange 2)
     ∷ online 1 0 2 (record (plain (codes "ab")) { intervals = interval (codes "n") (codes "i") (pos 0) (pos 1) ∷ [] }) ∷ []
@@ -173,14 +191,18 @@ met id a b = interval (codes "notes") id (pos a) (pos b)
 -- the intervals that meet a range, before and after a removal that is pending and then sequenced
 abbrev pub Overlaps : Type 0
 Overlaps =
-    session (one_client ++ (Edit 1 (one (ins 0 (codes "abcdefgh"))) ∷ Edit 1 (add (codes "notes") (codes "i") 1 2) ∷ Edit 1 (add (codes "notes") (codes "j") 4 6) ∷ Edit 1 (add (codes "notes") (codes "k") 0 7)
-    ∷ Overlap 1 (codes "notes") 3 3 ∷ Edit 1 (one (rem 4 8)) ∷ Overlap 1 (codes "notes") 3 3 ∷ Ticket 1 all ∷ Deliver 1 all ∷ Overlap 1 (codes "notes") 3 3 ∷ []))
-    ≡ Met (met (codes "k") 0 7 ∷ []) ∷ Met (met (codes "j") 3 3 ∷ met (codes "k") 0 3 ∷ []) ∷ Met (met (codes "j") 3 3 ∷ met (codes "k") 0 3 ∷ []) ∷ []
+    session (one_client ++ (Edit 1 (one (ins 0 (codes "abcdefgh"))) ∷ Edit 1 (add (codes "notes") (codes "i") 1 2)
+    ∷ Edit 1 (add (codes "notes") (codes "j") 4 6) ∷ Edit 1 (add (codes "notes") (codes "k") 0 7)
+    ∷ Overlap 1 (codes "notes") 3 3 ∷ Edit 1 (one (rem 4 8)) ∷ Overlap 1 (codes "notes") 3 3 ∷ Ticket 1 all ∷ Deliver 1 all
+    ∷ Overlap 1 (codes "notes") 3 3 ∷ []))
+    ≡ Met (met (codes "k") 0 7 ∷ []) ∷ Met (met (codes "j") 3 3 ∷ met (codes "k") 0 3 ∷ [])
+    ∷ Met (met (codes "j") 3 3 ∷ met (codes "k") 0 3 ∷ []) ∷ []
 
 -- who inserted what
 abbrev pub Blames : Type 0
 Blames =
-    session (two ++ (Edit 1 (one (ins 0 (codes "hi"))) ∷ Ticket 1 (some 1) ∷ Deliver 1 all ∷ Deliver 2 all ∷ Noop 1 ∷ Noop 2 ∷ Ticket 1 (some 1) ∷ Ticket 2 (some 1) ∷ Deliver 1 all ∷ Deliver 2 all
+    session (two ++ (Edit 1 (one (ins 0 (codes "hi"))) ∷ Ticket 1 (some 1) ∷ Deliver 1 all ∷ Deliver 2 all ∷ Noop 1 ∷ Noop 2
+    ∷ Ticket 1 (some 1) ∷ Ticket 2 (some 1) ∷ Deliver 1 all ∷ Deliver 2 all
     ∷ Edit 2 (one (ins 1 (codes "X"))) ∷ Ticket 2 (some 1) ∷ Deliver 1 all ∷ Edit 1 (one (ins 3 (codes "!"))) ∷ Blame 1 ∷ []))
     ≡ Blamed (Known 3 1 ∷ Known 6 2 ∷ Known 3 1 ∷ Pending ∷ []) ∷ []
 
@@ -208,7 +230,8 @@ IsSaved _ = ⊥
 -- the summary stands for a client's document
 abbrev pub Saved : Type 0
 Saved =
-    IsSaved (session (two ++ (Edit 1 (one (ins 0 (codes "wt"))) ∷ Ticket 1 (some 1) ∷ Deliver 1 all ∷ Deliver 2 all ∷ Edit 2 (one (ins 2 (codes "g"))) ∷ Edit 1 (one (rem 1 2)) ∷ Ticket 1 (some 1)
+    IsSaved (session (two ++ (Edit 1 (one (ins 0 (codes "wt"))) ∷ Ticket 1 (some 1) ∷ Deliver 1 all ∷ Deliver 2 all
+    ∷ Edit 2 (one (ins 2 (codes "g"))) ∷ Edit 1 (one (rem 1 2)) ∷ Ticket 1 (some 1)
     ∷ Deliver 1 all ∷ Save 1 ∷ [])))
 
 -- what is shown after a message on top of the loaded summary
@@ -238,7 +261,8 @@ IsSavedAuthor _ = ⊥
 -- a summary keeps the author of an old insertion
 abbrev pub SavedAuthor : Type 0
 SavedAuthor =
-    IsSavedAuthor (session (one_client ++ (Edit 1 (one (ins 0 (codes "hi"))) ∷ Ticket 1 (some 1) ∷ Deliver 1 (some 1) ∷ Noop 1 ∷ Ticket 1 (some 1) ∷ Deliver 1 (some 1) ∷ Save 1 ∷ [])))
+    IsSavedAuthor (session (one_client ++ (Edit 1 (one (ins 0 (codes "hi"))) ∷ Ticket 1 (some 1) ∷ Deliver 1 (some 1) ∷ Noop 1
+    ∷ Ticket 1 (some 1) ∷ Deliver 1 (some 1) ∷ Save 1 ∷ [])))
 
 -- one hundred arrays, one inside the other
 abbrev pub deep : List ℕ
@@ -247,20 +271,23 @@ deep = replicate 100 91 ++ replicate 100 93
 -- a cell with the deepest value goes through a summary
 abbrev pub DeepCell : Type 0
 DeepCell =
-    session (one_client ++ (Edit 1 (cell (SpliceIn Rows 0 1)) ∷ Edit 1 (cell (SpliceIn Cols 0 1)) ∷ Edit 1 (cell (Set 0 0 deep)) ∷ Ticket 1 all ∷ Deliver 1 all ∷ From 2 1 ∷ Show 2 ∷ []))
+    session (one_client ++ (Edit 1 (cell (SpliceIn Rows 0 1)) ∷ Edit 1 (cell (SpliceIn Cols 0 1)) ∷ Edit 1 (cell (Set 0 0 deep))
+    ∷ Ticket 1 all ∷ Deliver 1 all ∷ From 2 1 ∷ Show 2 ∷ []))
     ≡ Showed 4 1 0 0 (one_cell deep) (one_cell deep) ∷ []
 
 -- a client that starts from another one's document
 abbrev pub StartedFrom : Type 0
 StartedFrom =
-    session (two ++ (Edit 1 (one (ins 0 (codes "wt"))) ∷ Ticket 1 (some 1) ∷ Deliver 1 all ∷ Deliver 2 all ∷ Edit 2 (one (ins 2 (codes "g"))) ∷ Edit 1 (one (rem 1 2)) ∷ Ticket 1 (some 1)
+    session (two ++ (Edit 1 (one (ins 0 (codes "wt"))) ∷ Ticket 1 (some 1) ∷ Deliver 1 all ∷ Deliver 2 all ∷ Edit 2 (one (ins 2 (codes "g")))
+    ∷ Edit 1 (one (rem 1 2)) ∷ Ticket 1 (some 1)
     ∷ Deliver 1 all ∷ From 3 1 ∷ Ticket 2 (some 1) ∷ Connect 3 ∷ Deliver 3 all ∷ Show 3 ∷ []))
     ≡ online 6 3 0 (plain (codes "wg")) ∷ []
 
 -- a row inserted at the place of a removed one has no cells
 abbrev pub RemovedRow : Type 0
 RemovedRow =
-    session (one_client ++ (Edit 1 (cell (SpliceIn Rows 0 1)) ∷ Edit 1 (cell (SpliceIn Cols 0 1)) ∷ Edit 1 (cell (Set 0 0 (codes "\"v\""))) ∷ Ticket 1 all ∷ Deliver 1 all ∷ Edit 1 (cell (SpliceOut Rows 0 1))
+    session (one_client ++ (Edit 1 (cell (SpliceIn Rows 0 1)) ∷ Edit 1 (cell (SpliceIn Cols 0 1)) ∷ Edit 1 (cell (Set 0 0 (codes "\"v\"")))
+    ∷ Ticket 1 all ∷ Deliver 1 all ∷ Edit 1 (cell (SpliceOut Rows 0 1))
     ∷ Ticket 1 (some 1) ∷ Deliver 1 (some 1) ∷ Noop 1 ∷ Ticket 1 (some 1) ∷ Deliver 1 (some 1) ∷ Edit 1 (cell (SpliceIn Rows 0 1)) ∷ Show 1 ∷ []))
     ≡ online 6 5 1 (record (plain []) { rows = 1; cols = 1 }) ∷ []
 
@@ -293,9 +320,11 @@ ordinary = record {
 abbrev pub OrdinaryViews : Type 0
 OrdinaryViews =
     session (three ++ (Edit 1 (one (ins 0 (codes "Hello world."))) ∷ Ticket 1 (some 1) ∷ []) ++ delivered
-    ++ (Edit 1 (cell (SpliceIn Rows 0 4)) ∷ Edit 1 (cell (SpliceIn Cols 0 3)) ∷ Ticket 1 all ∷ []) ++ delivered ++ (Drop 3 ∷ []) ++ type 12 (codes " It is a fine day ok")
+    ++ (Edit 1 (cell (SpliceIn Rows 0 4)) ∷ Edit 1 (cell (SpliceIn Cols 0 3)) ∷ Ticket 1 all ∷ []) ++ delivered ++ (Drop 3
+    ∷ []) ++ type 12 (codes " It is a fine day ok")
     ++ (Edit 2 (one (ann 0 5 ((codes "bold", Some (codes "true")) ∷ []))) ∷ Edit 2 (one (ann 6 11 ((codes "bold", Some (codes "true")) ∷ [])))
     ∷ Edit 2 (Text (IntervalAdd (codes "comments") (codes "c1") (record { start = pos 6; end = pos 10 }) ((codes "by", Some (codes "\"B\"")) ∷ [])))
-    ∷ Edit 1 (one (ins 5 (codes " dear"))) ∷ Edit 1 (cell (Set 0 0 (codes "\"Name\""))) ∷ Edit 1 (cell (Set 3 2 (codes "42"))) ∷ Ticket 2 all ∷ Ticket 1 all ∷ Connect 3 ∷ []) ++ delivered
+    ∷ Edit 1 (one (ins 5 (codes " dear"))) ∷ Edit 1 (cell (Set 0 0 (codes "\"Name\""))) ∷ Edit 1 (cell (Set 3 2 (codes "42")))
+    ∷ Ticket 2 all ∷ Ticket 1 all ∷ Connect 3 ∷ []) ++ delivered
     ++ (Ticket 3 all ∷ []) ++ delivered ++ (Show 1 ∷ Show 2 ∷ Show 3 ∷ []))
     ≡ online_at 34 6 ordinary

@@ -21,120 +21,164 @@ use Rattle.std.specs.Str.{chars, is_utf8}
 use Rattle.std.specs.Fmt.{digits}
 use Rattle.std.specs.Float.Numeral.{scan_numeral}
 use lib.Utf8.{encode}
+use Rattle.ft_laws_examples.specs.RowsOfReports.{OrdinarySession, GuestNacks, OffersRefused, TrueOfferTaken, GuestGroupHalfSkipped, SummaryKeepsRecentRemoval, SummaryKeepsAuthor, HistoryWritten, ReconnectMovesPendingText, ReconnectSendsOnlyUnsequenced, RemovalRegeneratedInRuns, CompactionKeepsFloor, IntervalRefusals, EditRange, OverlapShown, OverlapReversed, BlameAndAuthors, BlameRange, AdjustOnTop, DeepCellThroughSummary, EndpointSettlesStageByStage, GroupRegenerated, PendingCellOnTop, PendingPropertyOnTop, ReconnectSettlesInterval, RecycledRowIsEmpty, RemoteInsertPassesPendingRun, SummaryKeepsAuthorCompacted, SessionRefusals}
 use Rattle.ft_laws_examples.proofs.reports.reports.Goals as goal
 
+-- each session, the report of which is as it stands there
+record Computed : Type 0 where
+  ordinary_session : OrdinarySession
+  guest_nacks : GuestNacks
+  offers_refused : OffersRefused
+  true_offer_taken : TrueOfferTaken
+  guest_group_half_skipped : GuestGroupHalfSkipped
+  summary_keeps_recent_removal : SummaryKeepsRecentRemoval
+  summary_keeps_author : SummaryKeepsAuthor
+  history_written : HistoryWritten
+  reconnect_moves_pending_text : ReconnectMovesPendingText
+  reconnect_sends_only_unsequenced : ReconnectSendsOnlyUnsequenced
+  removal_regenerated_in_runs : RemovalRegeneratedInRuns
+  compaction_keeps_floor : CompactionKeepsFloor
+  interval_refusals : IntervalRefusals
+  edit_range : EditRange
+  overlap_shown : OverlapShown
+  overlap_reversed : OverlapReversed
+  blame_and_authors : BlameAndAuthors
+  blame_range : BlameRange
+  adjust_on_top : AdjustOnTop
+  deep_cell_through_summary : DeepCellThroughSummary
+  endpoint_settles_stage_by_stage : EndpointSettlesStageByStage
+  group_regenerated : GroupRegenerated
+  pending_cell_on_top : PendingCellOnTop
+  pending_property_on_top : PendingPropertyOnTop
+  reconnect_settles_interval : ReconnectSettlesInterval
+  recycled_row_is_empty : RecycledRowIsEmpty
+  remote_insert_passes_pending_run : RemoteInsertPassesPendingRun
+  summary_keeps_author_compacted : SummaryKeepsAuthorCompacted
+  session_refusals : SessionRefusals
+
+computed : Computed
+unfolding canonical field_name array_field count count_field field given_field items num_field pairs read_line signed_field str_field text_field
+    whole_within cell_op cell_write grid_op grid_group grid_group_item is_group splice splice_in splice_out given_properties kept_value range
+    set_value adjustment adjustment_beside annotation base_op bound given_adjustments group group_item insertion interval_add interval_change
+    interval_delete interval_ends interval_op new_ends removal segment text_op contents_body draft draft_of grid_body message message_of op_body
+    text_body blame_event event_of_client client_name_field counted_event edit_event event event_of guest_event offer_event overlap_event places
+    start_event submit_event refused_line closing_lines head_line content_lines object_text number_of json_items members value after_number word
+    code_unit short_escape content lex punctuate escape_byte chars is_utf8 digits encode scan_numeral
+computed = record {
+  ordinary_session = record { shown = refl; applied = refl };
+  guest_nacks = record { shown = refl; applied = refl };
+  offers_refused = record { shown = refl; applied = refl };
+  true_offer_taken = record { shown = refl; applied = refl };
+  guest_group_half_skipped = record { shown = refl; applied = refl };
+  summary_keeps_recent_removal = record { shown = refl; applied = refl };
+  summary_keeps_author = record { shown = refl; applied = refl };
+  history_written = record { shown = refl; applied = refl };
+  reconnect_moves_pending_text = record { shown = refl; applied = refl };
+  reconnect_sends_only_unsequenced = record { shown = refl; applied = refl };
+  removal_regenerated_in_runs = record { shown = refl; applied = refl };
+  compaction_keeps_floor = record { shown = refl; applied = refl };
+  interval_refusals = record { shown = refl; applied = refl };
+  edit_range = record { shown = refl; applied = refl };
+  overlap_shown = record { shown = refl; applied = refl };
+  overlap_reversed = record { shown = refl; applied = refl };
+  blame_and_authors = record { shown = refl; applied = refl };
+  blame_range = record { shown = refl; applied = refl };
+  adjust_on_top = record { shown = refl; applied = refl };
+  deep_cell_through_summary = record { shown = refl; applied = refl };
+  endpoint_settles_stage_by_stage = record { shown = refl; applied = refl };
+  group_regenerated = record { shown = refl; applied = refl };
+  pending_cell_on_top = record { shown = refl; applied = refl };
+  pending_property_on_top = record { shown = refl; applied = refl };
+  reconnect_settles_interval = record { shown = refl; applied = refl };
+  recycled_row_is_empty = record { shown = refl; applied = refl };
+  remote_insert_passes_pending_run = record { shown = refl; applied = refl };
+  summary_keeps_author_compacted = record { shown = refl; applied = refl };
+  session_refusals = record { shown = refl; applied = refl };
+}
+
 pub returns-clause-ordinary_session : goal.returns-clause-ordinary_session
-unfolding canonical field_name array_field count count_field field given_field items num_field pairs read_line signed_field str_field text_field whole_within cell_op cell_write grid_op grid_group grid_group_item is_group splice splice_in splice_out given_properties kept_value range set_value adjustment adjustment_beside annotation base_op bound given_adjustments group group_item insertion interval_add interval_change interval_delete interval_ends interval_op new_ends removal segment text_op contents_body draft draft_of grid_body message message_of op_body text_body blame_event event_of_client client_name_field counted_event edit_event event event_of guest_event offer_event overlap_event places start_event submit_event refused_line closing_lines head_line content_lines object_text number_of json_items members value after_number word code_unit short_escape content lex punctuate escape_byte chars is_utf8 digits encode scan_numeral
-returns-clause-ordinary_session c = record { shown = refl; applied = refl }
+returns-clause-ordinary_session c = computed.ordinary_session
 
 pub returns-clause-guest_nacks : goal.returns-clause-guest_nacks
-unfolding canonical field_name array_field count count_field field given_field items num_field pairs read_line signed_field str_field text_field whole_within cell_op cell_write grid_op grid_group grid_group_item is_group splice splice_in splice_out given_properties kept_value range set_value adjustment adjustment_beside annotation base_op bound given_adjustments group group_item insertion interval_add interval_change interval_delete interval_ends interval_op new_ends removal segment text_op contents_body draft draft_of grid_body message message_of op_body text_body blame_event event_of_client client_name_field counted_event edit_event event event_of guest_event offer_event overlap_event places start_event submit_event refused_line closing_lines head_line content_lines object_text number_of json_items members value after_number word code_unit short_escape content lex punctuate escape_byte chars is_utf8 digits encode scan_numeral
-returns-clause-guest_nacks c = record { shown = refl; applied = refl }
+returns-clause-guest_nacks c = computed.guest_nacks
 
 pub returns-clause-offers_refused : goal.returns-clause-offers_refused
-unfolding canonical field_name array_field count count_field field given_field items num_field pairs read_line signed_field str_field text_field whole_within cell_op cell_write grid_op grid_group grid_group_item is_group splice splice_in splice_out given_properties kept_value range set_value adjustment adjustment_beside annotation base_op bound given_adjustments group group_item insertion interval_add interval_change interval_delete interval_ends interval_op new_ends removal segment text_op contents_body draft draft_of grid_body message message_of op_body text_body blame_event event_of_client client_name_field counted_event edit_event event event_of guest_event offer_event overlap_event places start_event submit_event refused_line closing_lines head_line content_lines object_text number_of json_items members value after_number word code_unit short_escape content lex punctuate escape_byte chars is_utf8 digits encode scan_numeral
-returns-clause-offers_refused c = record { shown = refl; applied = refl }
+returns-clause-offers_refused c = computed.offers_refused
 
 pub returns-clause-true_offer_taken : goal.returns-clause-true_offer_taken
-unfolding canonical field_name array_field count count_field field given_field items num_field pairs read_line signed_field str_field text_field whole_within cell_op cell_write grid_op grid_group grid_group_item is_group splice splice_in splice_out given_properties kept_value range set_value adjustment adjustment_beside annotation base_op bound given_adjustments group group_item insertion interval_add interval_change interval_delete interval_ends interval_op new_ends removal segment text_op contents_body draft draft_of grid_body message message_of op_body text_body blame_event event_of_client client_name_field counted_event edit_event event event_of guest_event offer_event overlap_event places start_event submit_event refused_line closing_lines head_line content_lines object_text number_of json_items members value after_number word code_unit short_escape content lex punctuate escape_byte chars is_utf8 digits encode scan_numeral
-returns-clause-true_offer_taken c = record { shown = refl; applied = refl }
+returns-clause-true_offer_taken c = computed.true_offer_taken
 
 pub returns-clause-guest_group_half_skipped : goal.returns-clause-guest_group_half_skipped
-unfolding canonical field_name array_field count count_field field given_field items num_field pairs read_line signed_field str_field text_field whole_within cell_op cell_write grid_op grid_group grid_group_item is_group splice splice_in splice_out given_properties kept_value range set_value adjustment adjustment_beside annotation base_op bound given_adjustments group group_item insertion interval_add interval_change interval_delete interval_ends interval_op new_ends removal segment text_op contents_body draft draft_of grid_body message message_of op_body text_body blame_event event_of_client client_name_field counted_event edit_event event event_of guest_event offer_event overlap_event places start_event submit_event refused_line closing_lines head_line content_lines object_text number_of json_items members value after_number word code_unit short_escape content lex punctuate escape_byte chars is_utf8 digits encode scan_numeral
-returns-clause-guest_group_half_skipped c = record { shown = refl; applied = refl }
+returns-clause-guest_group_half_skipped c = computed.guest_group_half_skipped
 
 pub returns-clause-summary_keeps_recent_removal : goal.returns-clause-summary_keeps_recent_removal
-unfolding canonical field_name array_field count count_field field given_field items num_field pairs read_line signed_field str_field text_field whole_within cell_op cell_write grid_op grid_group grid_group_item is_group splice splice_in splice_out given_properties kept_value range set_value adjustment adjustment_beside annotation base_op bound given_adjustments group group_item insertion interval_add interval_change interval_delete interval_ends interval_op new_ends removal segment text_op contents_body draft draft_of grid_body message message_of op_body text_body blame_event event_of_client client_name_field counted_event edit_event event event_of guest_event offer_event overlap_event places start_event submit_event refused_line closing_lines head_line content_lines object_text number_of json_items members value after_number word code_unit short_escape content lex punctuate escape_byte chars is_utf8 digits encode scan_numeral
-returns-clause-summary_keeps_recent_removal c = record { shown = refl; applied = refl }
+returns-clause-summary_keeps_recent_removal c = computed.summary_keeps_recent_removal
 
 pub returns-clause-summary_keeps_author : goal.returns-clause-summary_keeps_author
-unfolding canonical field_name array_field count count_field field given_field items num_field pairs read_line signed_field str_field text_field whole_within cell_op cell_write grid_op grid_group grid_group_item is_group splice splice_in splice_out given_properties kept_value range set_value adjustment adjustment_beside annotation base_op bound given_adjustments group group_item insertion interval_add interval_change interval_delete interval_ends interval_op new_ends removal segment text_op contents_body draft draft_of grid_body message message_of op_body text_body blame_event event_of_client client_name_field counted_event edit_event event event_of guest_event offer_event overlap_event places start_event submit_event refused_line closing_lines head_line content_lines object_text number_of json_items members value after_number word code_unit short_escape content lex punctuate escape_byte chars is_utf8 digits encode scan_numeral
-returns-clause-summary_keeps_author c = record { shown = refl; applied = refl }
+returns-clause-summary_keeps_author c = computed.summary_keeps_author
 
 pub returns-clause-history_written : goal.returns-clause-history_written
-unfolding canonical field_name array_field count count_field field given_field items num_field pairs read_line signed_field str_field text_field whole_within cell_op cell_write grid_op grid_group grid_group_item is_group splice splice_in splice_out given_properties kept_value range set_value adjustment adjustment_beside annotation base_op bound given_adjustments group group_item insertion interval_add interval_change interval_delete interval_ends interval_op new_ends removal segment text_op contents_body draft draft_of grid_body message message_of op_body text_body blame_event event_of_client client_name_field counted_event edit_event event event_of guest_event offer_event overlap_event places start_event submit_event refused_line closing_lines head_line content_lines object_text number_of json_items members value after_number word code_unit short_escape content lex punctuate escape_byte chars is_utf8 digits encode scan_numeral
-returns-clause-history_written c = record { shown = refl; applied = refl }
+returns-clause-history_written c = computed.history_written
 
 pub returns-clause-reconnect_moves_pending_text : goal.returns-clause-reconnect_moves_pending_text
-unfolding canonical field_name array_field count count_field field given_field items num_field pairs read_line signed_field str_field text_field whole_within cell_op cell_write grid_op grid_group grid_group_item is_group splice splice_in splice_out given_properties kept_value range set_value adjustment adjustment_beside annotation base_op bound given_adjustments group group_item insertion interval_add interval_change interval_delete interval_ends interval_op new_ends removal segment text_op contents_body draft draft_of grid_body message message_of op_body text_body blame_event event_of_client client_name_field counted_event edit_event event event_of guest_event offer_event overlap_event places start_event submit_event refused_line closing_lines head_line content_lines object_text number_of json_items members value after_number word code_unit short_escape content lex punctuate escape_byte chars is_utf8 digits encode scan_numeral
-returns-clause-reconnect_moves_pending_text c = record { shown = refl; applied = refl }
+returns-clause-reconnect_moves_pending_text c = computed.reconnect_moves_pending_text
 
 pub returns-clause-reconnect_sends_only_unsequenced : goal.returns-clause-reconnect_sends_only_unsequenced
-unfolding canonical field_name array_field count count_field field given_field items num_field pairs read_line signed_field str_field text_field whole_within cell_op cell_write grid_op grid_group grid_group_item is_group splice splice_in splice_out given_properties kept_value range set_value adjustment adjustment_beside annotation base_op bound given_adjustments group group_item insertion interval_add interval_change interval_delete interval_ends interval_op new_ends removal segment text_op contents_body draft draft_of grid_body message message_of op_body text_body blame_event event_of_client client_name_field counted_event edit_event event event_of guest_event offer_event overlap_event places start_event submit_event refused_line closing_lines head_line content_lines object_text number_of json_items members value after_number word code_unit short_escape content lex punctuate escape_byte chars is_utf8 digits encode scan_numeral
-returns-clause-reconnect_sends_only_unsequenced c = record { shown = refl; applied = refl }
+returns-clause-reconnect_sends_only_unsequenced c = computed.reconnect_sends_only_unsequenced
 
 pub returns-clause-removal_regenerated_in_runs : goal.returns-clause-removal_regenerated_in_runs
-unfolding canonical field_name array_field count count_field field given_field items num_field pairs read_line signed_field str_field text_field whole_within cell_op cell_write grid_op grid_group grid_group_item is_group splice splice_in splice_out given_properties kept_value range set_value adjustment adjustment_beside annotation base_op bound given_adjustments group group_item insertion interval_add interval_change interval_delete interval_ends interval_op new_ends removal segment text_op contents_body draft draft_of grid_body message message_of op_body text_body blame_event event_of_client client_name_field counted_event edit_event event event_of guest_event offer_event overlap_event places start_event submit_event refused_line closing_lines head_line content_lines object_text number_of json_items members value after_number word code_unit short_escape content lex punctuate escape_byte chars is_utf8 digits encode scan_numeral
-returns-clause-removal_regenerated_in_runs c = record { shown = refl; applied = refl }
+returns-clause-removal_regenerated_in_runs c = computed.removal_regenerated_in_runs
 
 pub returns-clause-compaction_keeps_floor : goal.returns-clause-compaction_keeps_floor
-unfolding canonical field_name array_field count count_field field given_field items num_field pairs read_line signed_field str_field text_field whole_within cell_op cell_write grid_op grid_group grid_group_item is_group splice splice_in splice_out given_properties kept_value range set_value adjustment adjustment_beside annotation base_op bound given_adjustments group group_item insertion interval_add interval_change interval_delete interval_ends interval_op new_ends removal segment text_op contents_body draft draft_of grid_body message message_of op_body text_body blame_event event_of_client client_name_field counted_event edit_event event event_of guest_event offer_event overlap_event places start_event submit_event refused_line closing_lines head_line content_lines object_text number_of json_items members value after_number word code_unit short_escape content lex punctuate escape_byte chars is_utf8 digits encode scan_numeral
-returns-clause-compaction_keeps_floor c = record { shown = refl; applied = refl }
+returns-clause-compaction_keeps_floor c = computed.compaction_keeps_floor
 
 pub returns-clause-interval_refusals : goal.returns-clause-interval_refusals
-unfolding canonical field_name array_field count count_field field given_field items num_field pairs read_line signed_field str_field text_field whole_within cell_op cell_write grid_op grid_group grid_group_item is_group splice splice_in splice_out given_properties kept_value range set_value adjustment adjustment_beside annotation base_op bound given_adjustments group group_item insertion interval_add interval_change interval_delete interval_ends interval_op new_ends removal segment text_op contents_body draft draft_of grid_body message message_of op_body text_body blame_event event_of_client client_name_field counted_event edit_event event event_of guest_event offer_event overlap_event places start_event submit_event refused_line closing_lines head_line content_lines object_text number_of json_items members value after_number word code_unit short_escape content lex punctuate escape_byte chars is_utf8 digits encode scan_numeral
-returns-clause-interval_refusals c = record { shown = refl; applied = refl }
+returns-clause-interval_refusals c = computed.interval_refusals
 
 pub returns-clause-edit_range : goal.returns-clause-edit_range
-unfolding canonical field_name array_field count count_field field given_field items num_field pairs read_line signed_field str_field text_field whole_within cell_op cell_write grid_op grid_group grid_group_item is_group splice splice_in splice_out given_properties kept_value range set_value adjustment adjustment_beside annotation base_op bound given_adjustments group group_item insertion interval_add interval_change interval_delete interval_ends interval_op new_ends removal segment text_op contents_body draft draft_of grid_body message message_of op_body text_body blame_event event_of_client client_name_field counted_event edit_event event event_of guest_event offer_event overlap_event places start_event submit_event refused_line closing_lines head_line content_lines object_text number_of json_items members value after_number word code_unit short_escape content lex punctuate escape_byte chars is_utf8 digits encode scan_numeral
-returns-clause-edit_range c = record { shown = refl; applied = refl }
+returns-clause-edit_range c = computed.edit_range
 
 pub returns-clause-overlap_shown : goal.returns-clause-overlap_shown
-unfolding canonical field_name array_field count count_field field given_field items num_field pairs read_line signed_field str_field text_field whole_within cell_op cell_write grid_op grid_group grid_group_item is_group splice splice_in splice_out given_properties kept_value range set_value adjustment adjustment_beside annotation base_op bound given_adjustments group group_item insertion interval_add interval_change interval_delete interval_ends interval_op new_ends removal segment text_op contents_body draft draft_of grid_body message message_of op_body text_body blame_event event_of_client client_name_field counted_event edit_event event event_of guest_event offer_event overlap_event places start_event submit_event refused_line closing_lines head_line content_lines object_text number_of json_items members value after_number word code_unit short_escape content lex punctuate escape_byte chars is_utf8 digits encode scan_numeral
-returns-clause-overlap_shown c = record { shown = refl; applied = refl }
+returns-clause-overlap_shown c = computed.overlap_shown
 
 pub returns-clause-overlap_reversed : goal.returns-clause-overlap_reversed
-unfolding canonical field_name array_field count count_field field given_field items num_field pairs read_line signed_field str_field text_field whole_within cell_op cell_write grid_op grid_group grid_group_item is_group splice splice_in splice_out given_properties kept_value range set_value adjustment adjustment_beside annotation base_op bound given_adjustments group group_item insertion interval_add interval_change interval_delete interval_ends interval_op new_ends removal segment text_op contents_body draft draft_of grid_body message message_of op_body text_body blame_event event_of_client client_name_field counted_event edit_event event event_of guest_event offer_event overlap_event places start_event submit_event refused_line closing_lines head_line content_lines object_text number_of json_items members value after_number word code_unit short_escape content lex punctuate escape_byte chars is_utf8 digits encode scan_numeral
-returns-clause-overlap_reversed c = record { shown = refl; applied = refl }
+returns-clause-overlap_reversed c = computed.overlap_reversed
 
 pub returns-clause-blame_and_authors : goal.returns-clause-blame_and_authors
-unfolding canonical field_name array_field count count_field field given_field items num_field pairs read_line signed_field str_field text_field whole_within cell_op cell_write grid_op grid_group grid_group_item is_group splice splice_in splice_out given_properties kept_value range set_value adjustment adjustment_beside annotation base_op bound given_adjustments group group_item insertion interval_add interval_change interval_delete interval_ends interval_op new_ends removal segment text_op contents_body draft draft_of grid_body message message_of op_body text_body blame_event event_of_client client_name_field counted_event edit_event event event_of guest_event offer_event overlap_event places start_event submit_event refused_line closing_lines head_line content_lines object_text number_of json_items members value after_number word code_unit short_escape content lex punctuate escape_byte chars is_utf8 digits encode scan_numeral
-returns-clause-blame_and_authors c = record { shown = refl; applied = refl }
+returns-clause-blame_and_authors c = computed.blame_and_authors
 
 pub returns-clause-blame_range : goal.returns-clause-blame_range
-unfolding canonical field_name array_field count count_field field given_field items num_field pairs read_line signed_field str_field text_field whole_within cell_op cell_write grid_op grid_group grid_group_item is_group splice splice_in splice_out given_properties kept_value range set_value adjustment adjustment_beside annotation base_op bound given_adjustments group group_item insertion interval_add interval_change interval_delete interval_ends interval_op new_ends removal segment text_op contents_body draft draft_of grid_body message message_of op_body text_body blame_event event_of_client client_name_field counted_event edit_event event event_of guest_event offer_event overlap_event places start_event submit_event refused_line closing_lines head_line content_lines object_text number_of json_items members value after_number word code_unit short_escape content lex punctuate escape_byte chars is_utf8 digits encode scan_numeral
-returns-clause-blame_range c = record { shown = refl; applied = refl }
+returns-clause-blame_range c = computed.blame_range
 
 pub returns-clause-adjust_on_top : goal.returns-clause-adjust_on_top
-unfolding canonical field_name array_field count count_field field given_field items num_field pairs read_line signed_field str_field text_field whole_within cell_op cell_write grid_op grid_group grid_group_item is_group splice splice_in splice_out given_properties kept_value range set_value adjustment adjustment_beside annotation base_op bound given_adjustments group group_item insertion interval_add interval_change interval_delete interval_ends interval_op new_ends removal segment text_op contents_body draft draft_of grid_body message message_of op_body text_body blame_event event_of_client client_name_field counted_event edit_event event event_of guest_event offer_event overlap_event places start_event submit_event refused_line closing_lines head_line content_lines object_text number_of json_items members value after_number word code_unit short_escape content lex punctuate escape_byte chars is_utf8 digits encode scan_numeral
-returns-clause-adjust_on_top c = record { shown = refl; applied = refl }
+returns-clause-adjust_on_top c = computed.adjust_on_top
 
 pub returns-clause-deep_cell_through_summary : goal.returns-clause-deep_cell_through_summary
-unfolding canonical field_name array_field count count_field field given_field items num_field pairs read_line signed_field str_field text_field whole_within cell_op cell_write grid_op grid_group grid_group_item is_group splice splice_in splice_out given_properties kept_value range set_value adjustment adjustment_beside annotation base_op bound given_adjustments group group_item insertion interval_add interval_change interval_delete interval_ends interval_op new_ends removal segment text_op contents_body draft draft_of grid_body message message_of op_body text_body blame_event event_of_client client_name_field counted_event edit_event event event_of guest_event offer_event overlap_event places start_event submit_event refused_line closing_lines head_line content_lines object_text number_of json_items members value after_number word code_unit short_escape content lex punctuate escape_byte chars is_utf8 digits encode scan_numeral
-returns-clause-deep_cell_through_summary c = record { shown = refl; applied = refl }
+returns-clause-deep_cell_through_summary c = computed.deep_cell_through_summary
 
 pub returns-clause-endpoint_settles_stage_by_stage : goal.returns-clause-endpoint_settles_stage_by_stage
-unfolding canonical field_name array_field count count_field field given_field items num_field pairs read_line signed_field str_field text_field whole_within cell_op cell_write grid_op grid_group grid_group_item is_group splice splice_in splice_out given_properties kept_value range set_value adjustment adjustment_beside annotation base_op bound given_adjustments group group_item insertion interval_add interval_change interval_delete interval_ends interval_op new_ends removal segment text_op contents_body draft draft_of grid_body message message_of op_body text_body blame_event event_of_client client_name_field counted_event edit_event event event_of guest_event offer_event overlap_event places start_event submit_event refused_line closing_lines head_line content_lines object_text number_of json_items members value after_number word code_unit short_escape content lex punctuate escape_byte chars is_utf8 digits encode scan_numeral
-returns-clause-endpoint_settles_stage_by_stage c = record { shown = refl; applied = refl }
+returns-clause-endpoint_settles_stage_by_stage c = computed.endpoint_settles_stage_by_stage
 
 pub returns-clause-group_regenerated : goal.returns-clause-group_regenerated
-unfolding canonical field_name array_field count count_field field given_field items num_field pairs read_line signed_field str_field text_field whole_within cell_op cell_write grid_op grid_group grid_group_item is_group splice splice_in splice_out given_properties kept_value range set_value adjustment adjustment_beside annotation base_op bound given_adjustments group group_item insertion interval_add interval_change interval_delete interval_ends interval_op new_ends removal segment text_op contents_body draft draft_of grid_body message message_of op_body text_body blame_event event_of_client client_name_field counted_event edit_event event event_of guest_event offer_event overlap_event places start_event submit_event refused_line closing_lines head_line content_lines object_text number_of json_items members value after_number word code_unit short_escape content lex punctuate escape_byte chars is_utf8 digits encode scan_numeral
-returns-clause-group_regenerated c = record { shown = refl; applied = refl }
+returns-clause-group_regenerated c = computed.group_regenerated
 
 pub returns-clause-pending_cell_on_top : goal.returns-clause-pending_cell_on_top
-unfolding canonical field_name array_field count count_field field given_field items num_field pairs read_line signed_field str_field text_field whole_within cell_op cell_write grid_op grid_group grid_group_item is_group splice splice_in splice_out given_properties kept_value range set_value adjustment adjustment_beside annotation base_op bound given_adjustments group group_item insertion interval_add interval_change interval_delete interval_ends interval_op new_ends removal segment text_op contents_body draft draft_of grid_body message message_of op_body text_body blame_event event_of_client client_name_field counted_event edit_event event event_of guest_event offer_event overlap_event places start_event submit_event refused_line closing_lines head_line content_lines object_text number_of json_items members value after_number word code_unit short_escape content lex punctuate escape_byte chars is_utf8 digits encode scan_numeral
-returns-clause-pending_cell_on_top c = record { shown = refl; applied = refl }
+returns-clause-pending_cell_on_top c = computed.pending_cell_on_top
 
 pub returns-clause-pending_property_on_top : goal.returns-clause-pending_property_on_top
-unfolding canonical field_name array_field count count_field field given_field items num_field pairs read_line signed_field str_field text_field whole_within cell_op cell_write grid_op grid_group grid_group_item is_group splice splice_in splice_out given_properties kept_value range set_value adjustment adjustment_beside annotation base_op bound given_adjustments group group_item insertion interval_add interval_change interval_delete interval_ends interval_op new_ends removal segment text_op contents_body draft draft_of grid_body message message_of op_body text_body blame_event event_of_client client_name_field counted_event edit_event event event_of guest_event offer_event overlap_event places start_event submit_event refused_line closing_lines head_line content_lines object_text number_of json_items members value after_number word code_unit short_escape content lex punctuate escape_byte chars is_utf8 digits encode scan_numeral
-returns-clause-pending_property_on_top c = record { shown = refl; applied = refl }
+returns-clause-pending_property_on_top c = computed.pending_property_on_top
 
 pub returns-clause-reconnect_settles_interval : goal.returns-clause-reconnect_settles_interval
-unfolding canonical field_name array_field count count_field field given_field items num_field pairs read_line signed_field str_field text_field whole_within cell_op cell_write grid_op grid_group grid_group_item is_group splice splice_in splice_out given_properties kept_value range set_value adjustment adjustment_beside annotation base_op bound given_adjustments group group_item insertion interval_add interval_change interval_delete interval_ends interval_op new_ends removal segment text_op contents_body draft draft_of grid_body message message_of op_body text_body blame_event event_of_client client_name_field counted_event edit_event event event_of guest_event offer_event overlap_event places start_event submit_event refused_line closing_lines head_line content_lines object_text number_of json_items members value after_number word code_unit short_escape content lex punctuate escape_byte chars is_utf8 digits encode scan_numeral
-returns-clause-reconnect_settles_interval c = record { shown = refl; applied = refl }
+returns-clause-reconnect_settles_interval c = computed.reconnect_settles_interval
 
 pub returns-clause-recycled_row_is_empty : goal.returns-clause-recycled_row_is_empty
-unfolding canonical field_name array_field count count_field field given_field items num_field pairs read_line signed_field str_field text_field whole_within cell_op cell_write grid_op grid_group grid_group_item is_group splice splice_in splice_out given_properties kept_value range set_value adjustment adjustment_beside annotation base_op bound given_adjustments group group_item insertion interval_add interval_change interval_delete interval_ends interval_op new_ends removal segment text_op contents_body draft draft_of grid_body message message_of op_body text_body blame_event event_of_client client_name_field counted_event edit_event event event_of guest_event offer_event overlap_event places start_event submit_event refused_line closing_lines head_line content_lines object_text number_of json_items members value after_number word code_unit short_escape content lex punctuate escape_byte chars is_utf8 digits encode scan_numeral
-returns-clause-recycled_row_is_empty c = record { shown = refl; applied = refl }
+returns-clause-recycled_row_is_empty c = computed.recycled_row_is_empty
 
 pub returns-clause-remote_insert_passes_pending_run : goal.returns-clause-remote_insert_passes_pending_run
-unfolding canonical field_name array_field count count_field field given_field items num_field pairs read_line signed_field str_field text_field whole_within cell_op cell_write grid_op grid_group grid_group_item is_group splice splice_in splice_out given_properties kept_value range set_value adjustment adjustment_beside annotation base_op bound given_adjustments group group_item insertion interval_add interval_change interval_delete interval_ends interval_op new_ends removal segment text_op contents_body draft draft_of grid_body message message_of op_body text_body blame_event event_of_client client_name_field counted_event edit_event event event_of guest_event offer_event overlap_event places start_event submit_event refused_line closing_lines head_line content_lines object_text number_of json_items members value after_number word code_unit short_escape content lex punctuate escape_byte chars is_utf8 digits encode scan_numeral
-returns-clause-remote_insert_passes_pending_run c = record { shown = refl; applied = refl }
+returns-clause-remote_insert_passes_pending_run c = computed.remote_insert_passes_pending_run
 
 pub returns-clause-summary_keeps_author_compacted : goal.returns-clause-summary_keeps_author_compacted
-unfolding canonical field_name array_field count count_field field given_field items num_field pairs read_line signed_field str_field text_field whole_within cell_op cell_write grid_op grid_group grid_group_item is_group splice splice_in splice_out given_properties kept_value range set_value adjustment adjustment_beside annotation base_op bound given_adjustments group group_item insertion interval_add interval_change interval_delete interval_ends interval_op new_ends removal segment text_op contents_body draft draft_of grid_body message message_of op_body text_body blame_event event_of_client client_name_field counted_event edit_event event event_of guest_event offer_event overlap_event places start_event submit_event refused_line closing_lines head_line content_lines object_text number_of json_items members value after_number word code_unit short_escape content lex punctuate escape_byte chars is_utf8 digits encode scan_numeral
-returns-clause-summary_keeps_author_compacted c = record { shown = refl; applied = refl }
+returns-clause-summary_keeps_author_compacted c = computed.summary_keeps_author_compacted
 
 pub returns-clause-session_refusals : goal.returns-clause-session_refusals
-unfolding canonical field_name array_field count count_field field given_field items num_field pairs read_line signed_field str_field text_field whole_within cell_op cell_write grid_op grid_group grid_group_item is_group splice splice_in splice_out given_properties kept_value range set_value adjustment adjustment_beside annotation base_op bound given_adjustments group group_item insertion interval_add interval_change interval_delete interval_ends interval_op new_ends removal segment text_op contents_body draft draft_of grid_body message message_of op_body text_body blame_event event_of_client client_name_field counted_event edit_event event event_of guest_event offer_event overlap_event places start_event submit_event refused_line closing_lines head_line content_lines object_text number_of json_items members value after_number word code_unit short_escape content lex punctuate escape_byte chars is_utf8 digits encode scan_numeral
-returns-clause-session_refusals c = record { shown = refl; applied = refl }
+returns-clause-session_refusals c = computed.session_refusals
