@@ -88,10 +88,13 @@ impl<T: Drop> List<T> {
     }
 
     /// Takes all but the first `count` off.
+    ///
+    /// Returns `OutOfMemory` where there is no room for them, and then the list is as it was.
     pub fn split_off(&mut self, count: usize) -> Result<List<T>, OutOfMemory>
         requires { count ≤ length self.old }
         ensures first { OnOk result (self.new ≡ take count self.old) }
         ensures rest { IfOk result (λ rest. rest ≡ drop count self.old) }
+        ensures err { OnErr result (self.new ≡ self.old) }
     {
         Ok(List {
             items: self.items.split_off(count)?,

@@ -31,20 +31,21 @@ pub fn beside<A: Drop, B: Drop, E: Drop>(made: Result<A, E>, value: B) -> Result
     }
 }
 
-/// Both values, if both were made.
+/// Both values, if both were made. It takes no memory itself.
 pub fn both<A: Drop, B: Drop>(
     first: Result<A, OutOfMemory>,
     second: Result<B, OutOfMemory>,
 ) -> Result<(A, B), OutOfMemory>
     ensures first { IfOk result (λ pair. first ≡ Ok pair.0) }
     ensures second { IfOk result (λ pair. second ≡ Ok pair.1) }
+    ensures made { IsOk first → IsOk second → IsOk result }
 {
     let first = first?;
     let second = second?;
     Ok((first, second))
 }
 
-/// All three values, if each was made.
+/// All three values, if each was made. It takes no memory itself.
 pub fn all_three<A: Drop, B: Drop, C: Drop>(
     first: Result<A, OutOfMemory>,
     second: Result<B, OutOfMemory>,
@@ -53,6 +54,7 @@ pub fn all_three<A: Drop, B: Drop, C: Drop>(
     ensures first { IfOk result (λ made. first ≡ Ok made.0) }
     ensures second { IfOk result (λ made. second ≡ Ok made.1) }
     ensures third { IfOk result (λ made. third ≡ Ok made.2) }
+    ensures made { IsOk first → IsOk second → IsOk third → IsOk result }
 {
     Ok((first?, second?, third?))
 }
@@ -66,10 +68,11 @@ pub fn boxed<T: Drop>(alloc: Global, made: Result<T, OutOfMemory>) -> Result<Box
     Ok(Box::new(alloc, made?)?)
 }
 
-/// Puts a value in the place of another, if it was made.
+/// Puts a value in the place of another, if it was made. It takes no memory itself.
 pub fn fill<T: Drop>(place: &mut T, made: Result<T, OutOfMemory>) -> Result<(), OutOfMemory>
     ensures ok { OnOk result (made ≡ Ok place.new) }
     ensures err { OnErr result (place.new ≡ place.old) }
+    ensures made { IsOk made → IsOk result }
 {
     *place = made?;
     Ok(())
@@ -103,7 +106,7 @@ pub fn push_beside<T: Drop, V: Drop>(
 
 /// Adds an item behind the others, unless it is among them.
 ///
-/// Returns `OutOfMemory` where there is no room for it, or it couldn't be found out whether it is among them.
+/// Returns `OutOfMemory` where there is no room for it, or it couldn't be found out whether it is among them, and then nothing changed.
 pub fn push_unless<T: Drop>(
     there: Result<bool, OutOfMemory>,
     items: &mut Vec<T>,
@@ -111,6 +114,7 @@ pub fn push_unless<T: Drop>(
 ) -> Result<(), OutOfMemory>
     ensures found { OnOk result (IsOk there) }
     ensures items { OnOk result (IfOk there (λ t. items.new.items ≡ (if t then items.old.items else items.old.items ++ item ∷ []))) }
+    ensures err { OnErr result (items.new.items ≡ items.old.items) }
 {
     if there? {
         return Ok(());
@@ -121,9 +125,10 @@ pub fn push_unless<T: Drop>(
 
 /// Adds an item behind the others of a queue.
 ///
-/// Returns `OutOfMemory` where there is no room for it.
+/// Returns `OutOfMemory` where there is no room for it, and then nothing changed.
 pub fn push_behind<T: Drop>(items: &mut VecDeque<T>, item: T) -> Result<(), OutOfMemory>
-    ensures { OnOk result (items.new.items ≡ items.old.items ++ item ∷ []) }
+    ensures items { OnOk result (items.new.items ≡ items.old.items ++ item ∷ []) }
+    ensures err { OnErr result (items.new.items ≡ items.old.items) }
 {
     items.push_back(item)?;
     Ok(())
