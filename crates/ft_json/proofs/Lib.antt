@@ -6,3 +6,4 @@ pub mod Quoted
 pub mod KeyOrder
 pub mod Counts
 pub mod WholeTexts
+pub mod OpenedLevels

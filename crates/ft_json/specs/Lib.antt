@@ -6,3 +6,4 @@ pub mod Reading
 pub mod Objects
 pub mod Canonical
 pub mod Laws
+pub mod Levels

@@ -8,6 +8,7 @@ mod checks;
 pub mod faults;
 pub mod fields;
 pub mod laws;
+mod levels;
 pub mod limits;
 pub mod members;
 pub mod reading;

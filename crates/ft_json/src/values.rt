@@ -1,13 +1,14 @@
 //! The texts of JSON values that are kept.
 
-ghost use Rattle.std.specs.Prelude.{◌≡◌, IfOk, option_and_then, string_bytes};
+ghost use Rattle.std.specs.Prelude.{◌≡◌, ◌↔◌, IsTrue, IfOk, option_and_then, string_bytes};
 ghost use Rattle.serde_json.specs.Find.{as_i64, as_number};
 ghost use Rattle.serde_json.specs.View.{view};
 ghost use Rattle.serde_json.specs.Written.{compact_text};
-ghost use Rattle.ft_json.specs.Bounds.{read_levels};
+ghost use Rattle.ft_json.specs.Bounds.{kept_levels, read_levels};
 ghost use Rattle.ft_json.specs.Canonical.{IsCanonical, IsCanonicalText, IsTextWithin, value_of};
 ghost use Rattle.ft_json.specs.Reading.{whole_within};
 
+use crate::levels::opens_few;
 use ft_base::{Datum, OutOfMemory, SmallString};
 use serde_json::Value;
 use std::alloc::Global;
@@ -60,6 +61,13 @@ impl ValText {
         ensures canonical { IsCanonicalText self.now }
     {
         self.text.as_str()
+    }
+
+    /// Whether the value has at most 100 levels, as each that is kept.
+    pub fn is_kept(&self) -> bool
+        ensures { IsTrue result ↔ IsTextWithin kept_levels self.now }
+    {
+        opens_few(self.text.as_str().as_bytes())
     }
 
     /// The value that the text stands for, which has at most 127 levels.
