@@ -14,6 +14,7 @@ pub mod operations;
 pub mod reading;
 mod segments;
 pub mod text_reading;
+pub mod well_formed;
 pub mod writing;
 
 pub use grid_reading::read_grid_op;
@@ -23,4 +24,5 @@ pub use operations::{
 };
 pub use reading::is_object;
 pub use text_reading::read_text_op;
+pub use well_formed::{is_count, is_null, is_well_formed};
 pub use writing::write_op;
