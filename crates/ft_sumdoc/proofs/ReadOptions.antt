@@ -1,5 +1,5 @@
 -- Reading a list item by item, where one that has not the form leaves none.
-use Rattle.std.proofs.Common.{◌≡◌, ℕ, suc, ◌+◌, ◌<◌, ◌≤◌, Bool, true, List, [], ◌∷◌, ◌++◌, length, get_or, drop, map, Option, Some, None, bytes_eq, refl, sym, ap, subst, ◌∙◌, append_assoc, append-nil, add-one, arith}
+use Rattle.std.proofs.Common.{◌≡◌, ℕ, zero, suc, ◌+◌, ◌-◌, ◌<◌, ◌≤◌, ◌&&◌, Bool, true, List, [], ◌∷◌, ◌++◌, length, get_or, drop, map, Option, Some, None, bytes_eq, refl, sym, ap, subst, ◌∙◌, append_assoc, append-nil, add-one, arith}
 use Rattle.std.proofs.Math.Seq.{drop-cons}
 use Rattle.std.proofs.lemmas.List.{drop_all, map-append}
 use Rattle.std.specs.Ordering.{is_eq}
@@ -91,6 +91,28 @@ pub one_rises : {A B : Type 0} (before : B → B → Bool) (f : A → B) (xs : L
 one_rises before f [] h = refl
 one_rises before f (x ∷ []) h = refl
 one_rises before f (x ∷ y ∷ xs) h = absurd (omega arith)
+
+-- no more than one rises as it is
+pub one_alone : {A : Type 0} (before : A → A → Bool) (xs : List A) → length xs ≤ 1 → rises before xs ≡ true
+one_alone before [] h = refl
+one_alone before (x ∷ []) h = refl
+one_alone before (x ∷ y ∷ xs) h = absurd (omega arith)
+
+-- those from one on rise as those from the one before do, where that comes before it
+pub next_rises : {A : Type 0} (before : A → A → Bool) (xs : List A) (i : ℕ) (a b : A) → i < length xs → a ≡ get_or xs (i - 1) a → b ≡ get_or xs i b → before a b ≡ true
+    → rises before (drop (i + 1 - 1) xs) ≡ rises before (drop (i - 1) xs)
+next_rises before xs zero a b within first second h = let none : 0 + 1 - 1 ≡ 0 - 1 = omega arith in ap (λ (k : ℕ). rises before (drop k xs)) none
+next_rises before xs (suc i) a b within first second h =
+    let one : suc i - 1 ≡ i = omega arith in
+    let here = at_item xs i a (omega arith) (first ∙ ap (λ (k : ℕ). get_or xs k a) one) ∙ ap (λ (k : ℕ). a ∷ drop k xs) (add-one i) in
+    let behind = at_item xs (suc i) b within second in
+    let next : suc i + 1 - 1 ≡ suc i = omega arith in
+    ap (λ (k : ℕ). rises before (drop k xs)) next
+    ∙ ap (rises before) behind
+    ∙ sym (ap (λ (t : Bool). t && rises before (b ∷ drop (suc i + 1) xs)) h)
+    ∙ sym (ap (λ (ys : List _). rises before (a ∷ ys)) behind)
+    ∙ sym (ap (rises before) here)
+    ∙ ap (λ (k : ℕ). rises before (drop k xs)) (sym one)
 
 -- two texts are equal where their order says so
 pub equal_texts : (a b : Characters) → bytes_eq a b ≡ is_eq (text_cmp a b)

@@ -52,8 +52,8 @@ fn name_items(alloc: Global, values: &[Value]) -> Result<Option<Texts>, OutOfMem
     Ok(Some(names))
 }
 
-// Whether no name stands twice.
-fn are_distinct(alloc: Global, names: &[Text]) -> Result<bool, OutOfMemory>
+/// Whether no name stands twice.
+pub(crate) fn are_distinct(alloc: Global, names: &[Text]) -> Result<bool, OutOfMemory>
     ensures { IfOk result (λ distinct. distinct ≡ are_distinct_names names.now) }
 {
     let mut later = HashMap::new(alloc);

@@ -20,6 +20,7 @@ mod stamp_reading;
 mod stamp_tests;
 pub mod summary;
 pub mod summary_reading;
+pub mod valid;
 pub mod writing;
 
 pub use limits::{CHUNK_LENGTH, MOST_UNITS};
@@ -28,4 +29,5 @@ pub use summary::{
     SegRecs, SumCause, SumDoc, SumFault, Texts,
 };
 pub use summary_reading::read_summary;
+pub use valid::is_valid;
 pub use writing::write_summary;

@@ -30,17 +30,17 @@ fn place_number(value: &Value) -> Option<i64>
     whole_within(value, -1, GREATEST_NUMBER)
 }
 
-// Whether the ends are both -1, or in order on so many elements.
-fn are_shown_ends(elements: u64, ends: Ends2) -> bool
+/// Whether the ends are both -1, or in order on so many elements.
+pub(crate) fn are_shown_ends(elements: u64, ends: Ends2) -> bool
     ensures { result ≡ are_shown_ends elements ends }
 {
     (ends.start == -1 && ends.end == -1)
         || (0 <= ends.start && ends.start <= ends.end && (ends.end as u64) < elements)
 }
 
-// Whether the first label and id stand before the second.
+/// Whether the first label and id stand before the second.
 #[tactic(auto, using(crate::proofs::ReadOptions::equal_texts))]
-fn is_name_before(label: &str, id: &str, other_label: &str, other_id: &str) -> bool
+pub(crate) fn is_name_before(label: &str, id: &str, other_label: &str, other_id: &str) -> bool
     ensures { result ≡ is_name_before (chars label.now) (chars id.now) (chars other_label.now) (chars other_id.now) }
 {
     let labels = compare(label, other_label);
@@ -180,8 +180,8 @@ pub(crate) fn read_intervals(
 
 // ---- cells
 
-// Whether the first row and column stand before the second.
-fn is_place_before(row: u64, col: u64, other_row: u64, other_col: u64) -> bool
+/// Whether the first row and column stand before the second.
+pub(crate) fn is_place_before(row: u64, col: u64, other_row: u64, other_col: u64) -> bool
     ensures { result ≡ is_place_before row col other_row other_col }
 {
     row < other_row || (row == other_row && col < other_col)

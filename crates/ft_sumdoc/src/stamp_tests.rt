@@ -25,15 +25,15 @@ fn is_within(low: u64, high: u64, limits: Limits, mark: Mark) -> bool
     low < mark.seq && mark.seq <= high && 0 < mark.conn && u64::from(mark.conn) <= limits.conns
 }
 
-// Whether it may be the stamp of an insertion or a removal.
-fn is_recent(limits: Limits, mark: Mark) -> bool
+/// Whether it may be the stamp of an insertion or a removal.
+pub(crate) fn is_recent(limits: Limits, mark: Mark) -> bool
     ensures { result ≡ is_recent (bounds_in limits) mark }
 {
     is_within(limits.min, limits.seq, limits, mark)
 }
 
-// Whether it may be the author of an insertion at or below the minimum.
-fn is_old(limits: Limits, mark: Mark) -> bool
+/// Whether it may be the author of an insertion at or below the minimum.
+pub(crate) fn is_old(limits: Limits, mark: Mark) -> bool
     ensures { result ≡ is_old (bounds_in limits) mark }
 {
     is_within(0, limits.min, limits, mark)
@@ -76,9 +76,9 @@ fn numbers_rise(low: u64, marks: &[Mark]) -> bool
     true
 }
 
-// Whether these may be the removals of what was inserted with the number `low`.
+/// Whether these may be the removals of what was inserted with the number `low`.
 #[tactic(auto, using(crate::proofs::RisingRemovals::apart))]
-fn are_removals(
+pub(crate) fn are_removals(
     alloc: Global,
     limits: Limits,
     low: u64,

@@ -199,8 +199,8 @@ fn test_count(lists: &ListItem, value: &Value) -> Result<u64, SumFault>
     Ok(said)
 }
 
-// How many elements of the segments aren't removed.
-fn shown_len(segs: &[SegRec]) -> u64
+/// How many elements of the segments aren't removed.
+pub(crate) fn shown_len(segs: &[SegRec]) -> u64
     requires { text_length segs.now < 2 ^ 53 }
     ensures { result ≡ unremoved_text segs.now }
 {
@@ -213,8 +213,8 @@ fn shown_len(segs: &[SegRec]) -> u64
     elements
 }
 
-// How many units of the runs aren't removed.
-fn shown_units(runs: &[RunRec]) -> u64
+/// How many units of the runs aren't removed.
+pub(crate) fn shown_units(runs: &[RunRec]) -> u64
     requires { unit_count runs.now ≤ 2 ^ 52 }
     ensures { result ≡ unremoved_units runs.now }
 {

@@ -43,8 +43,8 @@ fn put_number(
     Ok(put(members, alloc, key, Value::from(number))?)
 }
 
-// Whether it is the stamp that stands for an old or an unknown one.
-fn is_universal(mark: Mark) -> bool
+/// Whether it is the stamp that stands for an old or an unknown one.
+pub(crate) fn is_universal(mark: Mark) -> bool
     ensures { result ≡ is_universal mark }
 {
     mark.seq == 0 && mark.conn == 0
