@@ -1,5 +1,6 @@
 -- The words of messages are characters; the code compares their bytes, which is the same.
 use Rattle.std.proofs.Common.{◌≡◌, false, List, ℕ, Ok, codes, bytes_eq, refl, sym, ap, ◌∙◌}
+use Rattle.std.proofs.lemmas.Bool.{false≢true}
 use Rattle.std.proofs.lemmas.Slice.Eq.{bytes_eq-Decides}
 use Rattle.std.proofs.lemmas.Str.{encodes-chars}
 use Rattle.std.proofs.Math.Utf8.{encodes}
@@ -17,6 +18,10 @@ use Rattle.ft_msg.specs.MessageGrammar.{body_for, grid_body, kind_of, needed_bod
 pub other_word : (bs word : List ℕ) → IsUtf8 bs → encodes word ≡ word → (bs ≡ word → ⊥) → bytes_eq (chars bs) word ≡ false
 other_word bs word utf8 spelled other =
     refuted (bytes_eq (chars bs) word) (λ h. other (sym (encodes-chars bs utf8) ∙ ap encodes ((bytes_eq-Decides (chars bs) word).0 h) ∙ spelled))
+
+-- and one with its bytes hasn't
+pub the_word : (bs word : List ℕ) → chars word ≡ word → bs ≡ word → bytes_eq (chars bs) word ≡ false → ⊥
+the_word bs word spelled is other = false≢true (sym other ∙ (bytes_eq-Decides (chars bs) word).1 (ap chars is ∙ spelled))
 
 -- ---- kinds
 

@@ -12,6 +12,7 @@ pub mod names;
 pub mod reading;
 pub mod replica;
 pub mod views;
+pub mod well_formed;
 pub mod writing;
 
 pub use faults::{Cause, EditFault, LinkFault, ProcessFault, SummaryFault, ViewFault};
@@ -20,4 +21,5 @@ pub use names::Names;
 pub use reading::{read_draft, read_message};
 pub use replica::Replica;
 pub use views::{Link, Numbers, Run, Runs, Spot, Spots, View};
+pub use well_formed::{is_well_formed_draft, is_well_formed_message};
 pub use writing::{write_draft, write_message};
