@@ -20,7 +20,7 @@ use std::alloc::Global;
 /// would show; `queued`, `queue_at`, `numbers` and `take_outgoing` go on answering by the state before
 /// that call.
 pub trait Replica: Sized {
-    ghost use Rattle.std.specs.Prelude.{◌≡◌, ◌≤◌, Bool, IfOk, OnOk, Ok, IsTrue, length, drop, slice_get, option_copied};
+    ghost use Rattle.std.specs.Prelude.{◌≡◌, ◌≤◌, Bool, IfOk, OnOk, Ok, IsTrue, Some, length, drop, slice_get, option_copied};
     ghost use Rattle.ft_op.specs.Document.{Document, empty};
     ghost use Rattle.ft_op.specs.WellFormed.{IsWellFormed};
     ghost use Rattle.ft_msg.specs.Answers.{Answers, AnswersRead, AnswersSummary, IsFullyCompacted, ReplicaState, RunsFor, StandsForSome, StartsOver, edit_fault_kind, link_fault_kind, numbers_of, process_fault_kind, view_content, view_fault_kind, with_queue};
@@ -32,7 +32,7 @@ pub trait Replica: Sized {
     ghost use Rattle.ft_msg.specs.Reached.{IsReached};
     ghost use Rattle.ft_msg.specs.Summary.{GivesDocument, doc_of};
     ghost use Rattle.ft_sumdoc.specs.Valid.{IsValidSummary};
-    ghost use Rattle.ft_msg.specs.WellFormed.{IsWellFormedMessage};
+    ghost use Rattle.ft_msg.specs.WellFormed.{IsWellFormedDraft, IsWellFormedMessage};
 
     /// What contracts see.
     ghost state: { Self → ReplicaState };
@@ -110,10 +110,11 @@ pub trait Replica: Sized {
         ensures numbers { result ≡ numbers_of (state self.now) }
         ensures stands { StandsForSome (state self.now) };
 
-    /// Takes the oldest draft that isn't sent yet: None exactly where there is none.
+    /// Takes the oldest draft that isn't sent yet, which is well formed: None exactly where there is none.
     fn take_outgoing(&mut self) -> Option<Draft>
         ensures oldest { result ≡ slice_get (state self.old).client.queue 0 }
-        ensures rest { state self.new ≡ with_queue (drop 1 (state self.old).client.queue) (state self.old) };
+        ensures rest { state self.new ≡ with_queue (drop 1 (state self.old).client.queue) (state self.old) }
+        ensures formed { (draft : Draft) → result ≡ Some draft → IsWellFormedDraft draft };
 
     /// What the client shows.
     ///

@@ -1,5 +1,6 @@
 -- What a client hasn't sent yet.
-use Rattle.std.specs.Prelude.{ℕ, ◌+◌, List, [], ◌∷◌, ◌++◌, Option, Some, None}
+use Rattle.std.specs.Prelude.{◌≡◌, ℕ, ◌+◌, List, [], ◌∷◌, ◌++◌, Option, Some, None, ⊤}
+use Rattle.ft_op.specs.WellFormed.{IsWellFormed}
 use Rattle.ft_msg.specs.declared.messages.Draft.{Draft}
 use Rattle.ft_msg.specs.declared.messages.Body.TheVariants.{Op}
 use Rattle.ft_msg.specs.Client.{SentAs}
@@ -13,3 +14,8 @@ pub record Unsent : Type 0 where
 abbrev pub with_sent : Option SentAs → ℕ → Unsent → Unsent
 with_sent None ref_seq box = box
 with_sent (Some sent) ref_seq box = record { next = box.next + 1; drafts = box.drafts ++ (record { client_seq = sent.client_seq; ref_seq = ref_seq; body = Op sent.op } ∷ []) }
+
+-- as what an edit is sent, if it is, is well formed and has the number of the next draft
+abbrev pub IsNextSent : Option SentAs → Unsent → Type 0
+IsNextSent None box = ⊤
+IsNextSent (Some sent) box = IsWellFormed sent.op × (sent.client_seq ≡ box.next)

@@ -1,6 +1,6 @@
 //! The connections of a client.
 
-ghost use Rattle.std.specs.Prelude.{◌≡◌, [], ◌∷◌, ◌++◌, IsTrue, OnErr, OnOk, nat_eq};
+ghost use Rattle.std.specs.Prelude.{◌≡◌, ◌↔◌, [], ◌∷◌, ◌++◌, IsTrue, OnErr, OnOk, nat_eq};
 ghost use Rattle.std.specs.List.{list_any};
 ghost use Rattle.std.specs.List.Sorted.{IsNonDecreasingBy};
 
@@ -16,14 +16,14 @@ pub struct Connections {
 }
 
 impl Model for Connections {
-    ghost use Rattle.std.specs.Prelude.{ℕ, List, IsTrue};
+    ghost use Rattle.std.specs.Prelude.{◌↔◌, ℕ, List, IsTrue};
     ghost use Rattle.std.specs.List.Sorted.{IsNonDecreasingBy};
 
     ghost Value = { List ℕ };
 
     ghost view = { λ a. a.numbers.items };
 
-    ghost invariant = { λ a. IsTrue a.rise → IsNonDecreasingBy (λ n. n) a.numbers.items };
+    ghost invariant = { λ a. IsTrue a.rise ↔ IsNonDecreasingBy (λ n. n) a.numbers.items };
 }
 
 impl Connections {
@@ -65,7 +65,7 @@ impl Connections {
 
     // Whether the numbers go on to rise with this one behind them.
     fn rises_to(&self, conn: u32) -> bool
-        ensures { IsTrue result → IsNonDecreasingBy (λ n. n) (self.now ++ conn ∷ []) }
+        ensures { IsTrue result ↔ IsNonDecreasingBy (λ n. n) (self.now ++ conn ∷ []) }
     {
         if !self.rise {
             return false;

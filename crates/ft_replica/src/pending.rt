@@ -1,9 +1,10 @@
 //! Pending edits, without their stages, which the document keeps.
 
-ghost use Rattle.std.specs.Prelude.{◌≡◌, ◌<◌, [], ◌∷◌, ◌++◌, IfOk, OnOk, OnErr, drop, length, map, slice_get, option_copied};
+ghost use Rattle.std.specs.Prelude.{◌≡◌, ◌<◌, [], ◌∷◌, ◌++◌, IsTrue, IfOk, OnOk, OnErr, drop, length, map, slice_get, option_copied};
 ghost use Rattle.std.specs.VecDeque.{deque_capacity, deque_len};
 ghost use Rattle.ft_replica.specs.Linked.{PendingPart, oldest_count, oldest_ref};
-ghost use Rattle.ft_replica.specs.Unsent.{with_sent};
+ghost use Rattle.ft_op.specs.WellFormed.{is_count};
+ghost use Rattle.ft_replica.specs.Unsent.{IsNextSent, with_sent};
 
 use crate::outbox::Outbox;
 use ft_base::OutOfMemory;
@@ -171,9 +172,11 @@ impl PendingEdits {
 
     /// Adds an edit behind the others, and its draft to the outbox, if it is sent.
     ///
-    /// Returns `OutOfMemory` where there is no room for that, or the next number of the outbox would pass
-    /// 2^64 - 1, and then nothing changed.
+    /// Returns `OutOfMemory` where there is no room for that, or the number of the draft would pass 2^53 - 1,
+    /// and then nothing changed.
     pub fn push(&mut self, edit: PendingEdit, outbox: &mut Outbox) -> Result<(), OutOfMemory>
+        requires sent { IsNextSent edit.sent outbox.old }
+        requires ref_seq { IsTrue (is_count edit.ref_seq) }
         ensures edits { OnOk result (self.new ≡ self.old ++ edit ∷ []) }
         ensures outbox { OnOk result (outbox.new ≡ with_sent edit.sent edit.ref_seq outbox.old) }
         ensures err { OnErr result ((self.new ≡ self.old) × (outbox.new ≡ outbox.old)) }
@@ -206,13 +209,15 @@ impl PendingEdits {
 
 // Makes room for an edit, and adds its draft to the outbox, if it is sent.
 //
-// Returns `OutOfMemory` where there is no room for that, or the next number of the outbox would pass 2^64 - 1, and
-// then nothing is sent.
+// Returns `OutOfMemory` where there is no room for that, or the number of the draft would pass 2^53 - 1, and then
+// nothing is sent.
 fn send(
     edits: &mut VecDeque<PendingEdit>,
     edit: &PendingEdit,
     outbox: &mut Outbox,
 ) -> Result<(), OutOfMemory>
+    requires sent { IsNextSent edit.now.sent outbox.old }
+    requires ref_seq { IsTrue (is_count edit.now.ref_seq) }
     ensures kept { edits.new.items ≡ edits.old.items }
     ensures room { OnOk result (deque_len edits.new < deque_capacity edits.new) }
     ensures outbox { OnOk result (outbox.new ≡ with_sent edit.now.sent edit.now.ref_seq outbox.old) }

@@ -1,6 +1,6 @@
 //! The replica over any document.
 
-ghost use Rattle.std.specs.Prelude.{◌≡◌, ◌<◌, ◌≤◌, ◌||◌, IfOk, IsTrue, None, take};
+ghost use Rattle.std.specs.Prelude.{◌≡◌, ◌<◌, ◌≤◌, ◌||◌, IfOk, IsTrue, None, length, take};
 ghost use Rattle.ft_op.specs.WellFormed.{IsWellFormed};
 ghost use Rattle.ft_msg.specs.Answers.{Answers, AnswersRead, edit_fault_kind};
 ghost use Rattle.ft_msg.specs.Client.{NaiveClient, local_edit};
@@ -258,15 +258,13 @@ fn is_nameless_after(was: bool, entry: &Entry) -> bool
 }
 
 // So many names of the table, in which none stands twice.
-//
-// Returns `OutOfMemory` where there is no room for them, or it has fewer.
 fn first_names(names: &Names, count: u32) -> Result<Texts, OutOfMemory>
+    requires { count ≤ length names.now }
     ensures first { IfOk result (λ conns. conns ≡ take count names.now) }
     ensures distinct { AreDistinct names.now }
 {
-    let known = names.len();
-    if (count as usize) > known {
-        return Err(OutOfMemory);
+    if (count as usize) > names.len() {
+        unreachable!();
     }
     names.first(count)
 }

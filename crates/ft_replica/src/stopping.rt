@@ -1,10 +1,10 @@
 //! The client as a replica: it stops for good at the first call that changes it and finds no memory.
 
-ghost use Rattle.std.specs.Prelude.{◌≡◌, Err, IsTrue, None, OnOk, drop, slice_get};
+ghost use Rattle.std.specs.Prelude.{◌≡◌, Err, IsTrue, None, OnOk, Some, drop, slice_get};
 ghost use Rattle.ft_op.specs.WellFormed.{IsWellFormed};
 ghost use Rattle.ft_msg.specs.Answers.{edit_fault_kind, link_fault_kind};
 ghost use Rattle.ft_msg.specs.Client.{connect, drop_link, local_edit, noop};
-ghost use Rattle.ft_msg.specs.WellFormed.{IsWellFormedMessage};
+ghost use Rattle.ft_msg.specs.WellFormed.{IsWellFormedDraft, IsWellFormedMessage};
 ghost use Rattle.ft_replica.specs.Linked.{Anyone, RunsForOne, least_ref, linked_over};
 ghost use Rattle.ft_replica.specs.Own.{HasNoTombstone, ReadsFew};
 ghost use Rattle.ft_replica.specs.Stopping.{AnswersEntry, AnswersOwn, AnswersOwnCompaction, told_numbers};
@@ -182,10 +182,11 @@ impl<D: OwnDocument> StoppingClient<D> {
         answer
     }
 
-    /// Takes the oldest draft that isn't sent yet: None exactly where there is none.
+    /// Takes the oldest draft that isn't sent yet, which is well formed: None exactly where there is none.
     pub fn take_outgoing(&mut self) -> Option<Draft>
         ensures oldest { result ≡ slice_get self.old.client.box.drafts 0 }
         ensures rest { self.new ≡ record self.old { client = record self.old.client { box = record self.old.client.box { drafts = drop 1 self.old.client.box.drafts } } } }
+        ensures formed { (draft : Draft) → result ≡ Some draft → IsWellFormedDraft draft }
     {
         self.client.take_outgoing()
     }

@@ -1,7 +1,7 @@
 //! The client's own edits.
 
 ghost use Rattle.std.specs.Prelude.{◌≡◌, ◌+◌, [], ◌∷◌, ◌++◌, IfOk, IsTrue, OnOk, OnErr};
-ghost use Rattle.ft_op.specs.WellFormed.{IsWellFormed};
+ghost use Rattle.ft_op.specs.WellFormed.{IsWellFormed, is_count};
 ghost use Rattle.ft_msg.specs.Answers.{edit_fault_kind};
 ghost use Rattle.ft_msg.specs.Client.{local_edit, sent_as};
 ghost use Rattle.ft_replica.specs.Linked.{Anyone, AnswersLinked, RunsForOne};
@@ -47,8 +47,11 @@ impl<D: OwnDocument> LinkedClient<D> {
 
     // Keeps an edit with so many stages as pending, and queues its draft, if it is sent.
     //
-    // Returns `OutOfMemory` where there is no room for that, and then nothing changed.
+    // Returns `OutOfMemory` where there is no room for that, or a count would pass its greatest number, and then
+    // nothing changed.
     fn keep_edit(&mut self, count: usize, ref_seq: u64, op: &ChannelOp) -> Result<(), OutOfMemory>
+        requires ref_seq { IsTrue (is_count ref_seq) }
+        requires formed { IsWellFormed op.now }
         ensures ok { let sent = sent_as self.old.link self.old.box.next op.now in OnOk result (self.new ≡ record self.old {
           last_stage = self.old.last_stage + count;
           box = with_sent sent ref_seq self.old.box;

@@ -1,8 +1,9 @@
 //! The client's link, and its queue.
 
-ghost use Rattle.std.specs.Prelude.{◌≡◌, Err, length, drop, slice_get, option_copied};
+ghost use Rattle.std.specs.Prelude.{◌≡◌, Err, Some, length, drop, slice_get, option_copied};
 ghost use Rattle.ft_msg.specs.Answers.{link_fault_kind};
 ghost use Rattle.ft_msg.specs.Client.{connect, drop_link, noop};
+ghost use Rattle.ft_msg.specs.WellFormed.{IsWellFormedDraft};
 ghost use Rattle.ft_replica.specs.Linked.{AnswersLinked};
 
 use crate::document::OwnDocument;
@@ -78,10 +79,11 @@ impl<D: OwnDocument> LinkedClient<D> {
         self.outbox.at(i)
     }
 
-    /// Takes the oldest draft that isn't sent yet: None exactly where there is none.
+    /// Takes the oldest draft that isn't sent yet, which is well formed: None exactly where there is none.
     pub fn take_outgoing(&mut self) -> Option<Draft>
         ensures oldest { result ≡ slice_get self.old.box.drafts 0 }
         ensures rest { self.new ≡ record self.old { box = record self.old.box { drafts = drop 1 self.old.box.drafts } } }
+        ensures formed { (draft : Draft) → result ≡ Some draft → IsWellFormedDraft draft }
     {
         self.outbox.take()
     }

@@ -8,5 +8,5 @@ pub returns-then-self : goal.returns-then-self
 returns-then-self c =
     c.is_ok.ensures.value
     ∙ found c.args.conn c.as_slice.result.now c.binary_search.result c.binary_search.ensures.position
-    (subst (IsNonDecreasingBy (λ n. n)) (sym c.as_slice.ensures.value) (c.self.invariant c.if-self.true))
+    (subst (IsNonDecreasingBy (λ n. n)) (sym c.as_slice.ensures.value) (c.self.invariant.0 c.if-self.true))
     ∙ ap (list_any (nat_eq c.args.conn)) (c.as_slice.ensures.value ∙ c.self.view_is)

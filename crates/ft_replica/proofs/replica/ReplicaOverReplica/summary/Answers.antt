@@ -27,6 +27,14 @@ summary-requires g c =
     told-runs D.holds D.shown shows i.client c.client-2.result.now i.nameless (λ p. p.pending ≡ []) c.self.invariant runs c.client-2.ensures
     (idle-kept D.holds D.shown shows i.client i.nameless c.self.invariant runs idle)
 
+pub first_names-requires : goal.first_names-requires
+first_names-requires g c =
+    let i = c.self.inside in
+    let D = g.D.OwnDocument in
+    let names = c.args.names.now in
+    subst (λ n. n ≤ length names) (origin-of D.holds D.shown g.met.D.OwnDocument.shows i.client ∙ sym c.origin.ensures)
+    (subst (λ (s : ReplicaState). s.origin ≤ length names) (sym c.self.view_is) c.requires)
+
 -- the summary of the client that it keeps
 pub returns-in-Ok-summary : goal.returns-in-Ok-summary
 returns-in-Ok-summary g c =
