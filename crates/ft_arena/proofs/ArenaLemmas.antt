@@ -12,7 +12,7 @@ use Rattle.ft_arena.specs.Links.{Slot}
 use Rattle.ft_arena.specs.declared.arena.Arena.TheInside.{Inside}
 use Rattle.ft_arena.specs.Ids.{times, points, first, after}
 use Rattle.ft_arena.specs.Forest.{Forest, Entry, IsForest, Changes, PutsChild, TakesChild, count_some, leaf_of_entry, kids_of_entry, parent_of_entry, entry, IsPlace, leaf_value}
-use Rattle.ft_arena.specs.Links.{walk, IsWalk, entries_of, entry_of, leaves_of, live_of, next_of, prev_of, view_of, IsChain, next_of_slot, prev_of_slot}
+use Rattle.ft_arena.specs.Links.{walk, IsWalk, forest_of, entries_of, entry_of, leaves_of, live_of, next_of, prev_of, view_of, IsChain, next_of_slot, prev_of_slot}
 use Rattle.ft_arena.proofs.IdLemmas.{length_from_once}
 use Rattle.ft_arena.proofs.RingLemmas.{walk_is, IsWalk-first, IsWalk-after}
 
@@ -159,6 +159,11 @@ module _ {L B : Type 0} where
           λ b. rw e (h.1.few b);
     },
   )
+
+  pub shown_same : (s s' : Slab (Slot L B)) (head tail : Option ℕ) (spare : ℕ) → s'.slots ≡ s.slots
+      → forest_of record { slots = s'; head = head; tail = tail } spare ≡ forest_of record { slots = s; head = head; tail = tail } spare
+  shown_same s s' head tail spare e =
+      ap (λ (zs : List (Option (Slot L B))). forest_of record { slots = record { slots = zs; vacant_key = 0; capacity = 0 }; head = head; tail = tail } spare) e
 
   -- a write of one slot that keeps its node and parent
   pub entries_kept : (s : Slab (Slot L B)) (id : ℕ) (old new : Slot L B) → get s id ≡ Some old → entry_of new ≡ entry_of old

@@ -1,4 +1,3 @@
-pub mod SeatLemmas
 pub mod IdLemmas
 pub mod RingLemmas
 pub mod ArenaLemmas

@@ -6,13 +6,13 @@ use Rattle.ft_arena.specs.Links.{Slot}
 use Rattle.ft_arena.specs.declared.nodes.Node.{Node}
 use Rattle.ft_arena.specs.declared.nodes.Node.TheVariants.{Leaf}
 use Rattle.ft_arena.specs.declared.links.Links.{Links}
-use Rattle.ft_arena.specs.Links.{links_under, with_next, with_prev, end_with, next_in, slot_of, slot_at, slots_of}
+use Rattle.ft_arena.specs.Links.{AreNumbered, links_under, with_next, with_prev, end_with, next_in, slot_of, slot_at, slots_of}
 use Rattle.ft_arena.specs.Ids.{put_after}
 use Rattle.ft_arena.specs.Forest.{Forest, Changes, count_some, leaf_of_entry, kids_of_entry, parent_of_entry, entry}
 use Rattle.ft_arena.specs.Links.{IsChain, entries_of, entry_of, leaves_of, live_of, next_of, prev_of, nodes_of, next_of_slot, prev_of_slot, HasPlace}
 use Rattle.ft_arena.proofs.ArenaLemmas.{SetsNext, SetsPrev, entries_at}
 use Rattle.ft_arena.proofs.KidLemmas.{kept}
-use Rattle.ft_arena.proofs.SlotLemmas.{kept_place, live_place, node_place, next_shown, slots_at, slots_next, slots_prev, length-with_next, length-with_prev}
+use Rattle.ft_arena.proofs.SlotLemmas.{kept_place, numbered_as, live_place, node_place, next_shown, slots_at, slots_next, slots_prev, length-with_next, length-with_prev}
 use Rattle.ft_arena.proofs.HookLemmas.{IsLinked, hooked, linked_from, leaves_from, sound_from, placed}
 
 module _ {L B : Type 0} (s0 s1 s2 s3 : Slab (Slot L B)) (h0 t0 h2 t3 at next : Option ℕ) (id : ℕ) (leaf : L) (sound : IsChain record { slots = s0; head = h0; tail = t0 })
@@ -83,7 +83,7 @@ module _ {L B : Type 0} (s0 s1 s2 s3 : Slab (Slot L B)) (h0 t0 h2 t3 at next : O
 module _ {L B : Type 0} (n0 n1 : Slab (Node L B)) (l0 l1 l2 : List Links) (h0 t0 h2 at next : Option ℕ) (id : ℕ) (leaf : L)
     (sound : IsChain record { slots = slots_of n0 l0; head = h0; tail = t0 }) (place : live_of (entries_of (slots_of n0 l0)) at ≡ 1) (follows : next ≡ next_in l0 h0 at)
     (vacant : get n0 id ≡ None) (ups : Updates (slots_of n0 l0) (slots_of n1 l1) id (Some (slot_of (Leaf leaf) record { parent = None; prev = at; next = next })))
-    (others : (x : ℕ) → ContainsKey n0 x → ContainsKey n1 x) (long : length l1 ≡ length n1.slots) (first : l2 ≡ with_next l1 at (Some id)) (head : h2 ≡ end_with h0 at
+    (others : (x : ℕ) → ContainsKey n0 x → ContainsKey n1 x) (long : AreNumbered n1 (length l1)) (first : l2 ≡ with_next l1 at (Some id)) (head : h2 ≡ end_with h0 at
     (Some id)) where
   pub at_has_node : HasPlace n1 at
   at_has_node = kept_place n0 n1 others at (live_place n0 l0 at place)
@@ -97,8 +97,8 @@ module _ {L B : Type 0} (n0 n1 : Slab (Node L B)) (l0 l1 l2 : List Links) (h0 t0
   gone : get (slots_of n0 l0) id ≡ None
   gone = slots_at n0 l0 id ∙ ap (λ o. slot_at o (links_under l0 id)) vacant
 
-  pub long2 : length l2 ≡ length n1.slots
-  long2 = ap length first ∙ length-with_next l1 at (Some id) ∙ long
+  pub long2 : AreNumbered n1 (length l2)
+  long2 = numbered_as n1 _ _ (ap length first ∙ length-with_next l1 at (Some id)) long
 
   pub next_has_node : HasPlace n1 next
   next_has_node = node_place n1 l2 next
@@ -108,8 +108,8 @@ module _ {L B : Type 0} (n0 n1 : Slab (Node L B)) (l0 l1 l2 : List Links) (h0 t0
     pv : SetsPrev (slots_of n1 l2) t0 (slots_of n1 l3) t3 next (Some id)
     pv = slots_prev n1 l2 l3 t0 t3 next (Some id) long2 next_has_node second tail
 
-    pub hooked_length : length l3 ≡ length n1.slots
-    hooked_length = ap length second ∙ length-with_prev l2 next (Some id) ∙ long2
+    pub hooked_length : length l3 ≡ length l1
+    hooked_length = ap length second ∙ length-with_prev l2 next (Some id) ∙ ap length first ∙ length-with_next l1 at (Some id)
 
     pub hooked_changes : Changes (nodes_of record { slots = slots_of n0 l0; head = h0; tail = t0 })
         (nodes_of record { slots = slots_of n1 l3; head = h2; tail = t3 }) id

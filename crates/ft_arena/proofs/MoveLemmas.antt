@@ -3,14 +3,14 @@ use Rattle.std.proofs.Common.{◌-◌, ◌≡◌, ◌≢◌, ℕ, List, length, 
 use Rattle.slab.specs.Slab.{Slab, get}
 use Rattle.ft_arena.specs.declared.nodes.Node.{Node}
 use Rattle.ft_arena.specs.declared.links.Links.{Links}
-use Rattle.ft_arena.specs.Links.{links_under, with_next, with_prev, end_with, next_in, slots_of, next_of_slot, prev_of_slot}
+use Rattle.ft_arena.specs.Links.{AreNumbered, links_under, with_next, with_prev, end_with, next_in, slots_of, next_of_slot, prev_of_slot}
 use Rattle.ft_arena.specs.Links.{Slot}
 use Rattle.ft_arena.specs.Ids.{points, put_after, without}
 use Rattle.ft_arena.specs.Forest.{Entry, kids_of_entry, parent_of_entry}
 use Rattle.ft_arena.specs.Links.{IsChain, entries_of, leaves_of, live_of, next_of, prev_of, HasPlace}
 use Rattle.ft_arena.proofs.IdLemmas.{same_refl, same_other}
 use Rattle.ft_arena.proofs.ArenaLemmas.{SetsNext, SetsPrev}
-use Rattle.ft_arena.proofs.SlotLemmas.{some_value, live_place, found_slot, next_shown, slots_next, slots_prev, length-with_next, length-with_prev}
+use Rattle.ft_arena.proofs.SlotLemmas.{some_value, numbered_as, live_place, found_slot, next_shown, slots_next, slots_prev, length-with_next, length-with_prev}
 use Rattle.ft_arena.proofs.HookLemmas.{IsLinked, unhooked, hooked, live_bound, linked_from, leaves_from, sound_from}
 
 points_not : (p : Option ℕ) (id : ℕ) → p ≢ Some id → points p id ≡ 0
@@ -76,7 +76,7 @@ module _ {L B : Type 0} (s0 s1 s2 s3 s4 s5 s6 : Slab (Slot L B)) (h0 t0 h1 t2 h3
 -- the same of nodes and the links beside them
 module _ {L B : Type 0} (n : Slab (Node L B)) (l0 : List Links) (h0 t0 at : Option ℕ) (id : ℕ) (links : Links)
     (sound : IsChain record { slots = slots_of n l0; head = h0; tail = t0 }) (leaf : live_of (entries_of (slots_of n l0)) (Some id) ≡ 1)
-    (place : live_of (entries_of (slots_of n l0)) at ≡ 1) (differ : at ≢ Some id) (read : links ≡ links_under l0 id) (long : length l0 ≡ length n.slots) where
+    (place : live_of (entries_of (slots_of n l0)) at ≡ 1) (differ : at ≢ Some id) (read : links ≡ links_under l0 id) (long : AreNumbered n (length l0)) where
   its_node : (x : Node L B) × (get n id ≡ Some x)
   its_node = some_value (get n id) (live_place n l0 (Some id) leaf)
 
@@ -100,11 +100,11 @@ module _ {L B : Type 0} (n : Slab (Node L B)) (l0 : List Links) (h0 t0 at : Opti
 
   module _ (l1 l2 : List Links) (h1 t2 after : Option ℕ) (e1 : l1 ≡ with_next l0 links.prev links.next) (k1 : h1 ≡ end_with h0 links.prev links.next)
       (e2 : l2 ≡ with_prev l1 links.next links.prev) (k2 : t2 ≡ end_with t0 links.next links.prev) (follows : after ≡ next_in l2 h1 at) where
-    pub long1 : length l1 ≡ length n.slots
-    long1 = ap length e1 ∙ length-with_next l0 links.prev links.next ∙ long
+    pub long1 : AreNumbered n (length l1)
+    long1 = numbered_as n _ _ (ap length e1 ∙ length-with_next l0 links.prev links.next) long
 
-    pub long2 : length l2 ≡ length n.slots
-    long2 = ap length e2 ∙ length-with_prev l1 links.next links.prev ∙ long1
+    pub long2 : AreNumbered n (length l2)
+    long2 = numbered_as n _ _ (ap length e2 ∙ length-with_prev l1 links.next links.prev) long1
 
     s1 : SetsNext (slots_of n l0) h0 (slots_of n l1) h1 links.prev links.next
     s1 = slots_next n l0 l1 h0 h1 links.prev links.next long prev_has_node e1 k1
@@ -122,17 +122,19 @@ module _ {L B : Type 0} (n : Slab (Node L B)) (l0 : List Links) (h0 t0 at : Opti
 
     module _ (l3 l4 l5 l6 : List Links) (h3 t4 h5 t6 : Option ℕ) (e3 : l3 ≡ with_next l2 (Some id) after) (k3 : h3 ≡ h1) (e4 : l4 ≡ with_prev l3 (Some id) at) (k4 : t4 ≡ t2)
         (e5 : l5 ≡ with_next l4 at (Some id)) (k5 : h5 ≡ end_with h3 at (Some id)) (e6 : l6 ≡ with_prev l5 after (Some id)) (k6 : t6 ≡ end_with t4 after (Some id)) where
-      pub long3 : length l3 ≡ length n.slots
-      long3 = ap length e3 ∙ length-with_next l2 (Some id) after ∙ long2
+      pub long3 : AreNumbered n (length l3)
+      long3 = numbered_as n _ _ (ap length e3 ∙ length-with_next l2 (Some id) after) long2
 
-      pub long4 : length l4 ≡ length n.slots
-      long4 = ap length e4 ∙ length-with_prev l3 (Some id) at ∙ long3
+      pub long4 : AreNumbered n (length l4)
+      long4 = numbered_as n _ _ (ap length e4 ∙ length-with_prev l3 (Some id) at) long3
 
-      pub long5 : length l5 ≡ length n.slots
-      long5 = ap length e5 ∙ length-with_next l4 at (Some id) ∙ long4
+      pub long5 : AreNumbered n (length l5)
+      long5 = numbered_as n _ _ (ap length e5 ∙ length-with_next l4 at (Some id)) long4
 
-      pub long6 : length l6 ≡ length n.slots
-      long6 = ap length e6 ∙ length-with_prev l5 after (Some id) ∙ long5
+      pub rehooked_length : length l6 ≡ length l0
+      rehooked_length = ap length e6 ∙ length-with_prev l5 after (Some id) ∙ ap length e5 ∙ length-with_next l4 at (Some id) ∙ ap length e4 ∙ length-with_prev l3 (Some id) at
+          ∙ ap length e3 ∙ length-with_next l2 (Some id) after ∙ ap length e2 ∙ length-with_prev l1 links.next links.prev ∙ ap length e1
+          ∙ length-with_next l0 links.prev links.next
 
       s3 : SetsNext (slots_of n l2) h1 (slots_of n l3) h3 (Some id) after
       s3 = slots_next n l2 l3 h1 h3 (Some id) after long2 id_has_node e3 k3

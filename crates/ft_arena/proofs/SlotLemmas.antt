@@ -1,17 +1,17 @@
 -- What nodes and the links beside them show as slots.
-use Rattle.std.proofs.Common.{◌≡◌, ◌≢◌, ℕ, zero, suc, ◌<◌, ◌≤◌, List, [], ◌∷◌, length, get_or, set, Option}
-use Rattle.std.proofs.Common.{Some, None, IsSome, refl, sym, ap, subst, ◌∙◌, inl, inr, arith, length-set, cond, is_some}
-use Rattle.std.specs.Prelude.{count_by}
+use Rattle.std.proofs.Common.{◌≡◌, ◌≢◌, ℕ, zero, suc, ◌<◌, ◌≤◌, List, [], ◌∷◌, ◌+◌, length, get_or, set, Option}
+use Rattle.std.proofs.Common.{Some, None, IsSome, refl, sym, ap, subst, ◌∙◌, inl, inr, arith, length-set, cond, is_some, true≢false}
+use Rattle.std.specs.Prelude.{count_by, max}
 use Rattle.std.proofs.lemmas.Bool.{cases_eq}
 use Rattle.std.proofs.lemmas.List.{get_or_read}
 use Rattle.std.proofs.lemmas.List.Sums.{sum_by-set}
-use Rattle.slab.specs.Slab.{Slab, get, slab_len, ContainsKey, with_value, Updates}
+use Rattle.slab.specs.Slab.{Slab, get, slab_len, HasRoomFor, ContainsKey, with_value, Updates}
 use Rattle.slab.proofs.SlabLemmas.{ContainsKey-within, Updates-with_value}
 use Rattle.ft_arena.specs.declared.nodes.Node.{Node}
 use Rattle.ft_arena.specs.declared.nodes.Node.TheVariants.{Leaf, Block}
 use Rattle.ft_arena.specs.declared.links.Links.{Links}
 use Rattle.ft_arena.specs.Links.{no_links, links_under, next_changed, prev_changed, with_next, with_prev, end_with, next_in}
-use Rattle.ft_arena.specs.Links.{IsWithin, HasPlace, Slot, slot_of, slot_at, zipped, slots_of, next_of}
+use Rattle.ft_arena.specs.Links.{IsWithin, AreNumbered, HasPlace, Slot, slot_of, slot_at, zipped, slots_of, next_of}
 use Rattle.ft_arena.specs.Links.{next_of_slot, prev_of, prev_of_slot, entries_of, entry_of, live_of, HaveRoom}
 use Rattle.ft_arena.specs.Forest.{Entry, parent_of_entry, leaf_of_entry, block_of_entry, leaf_of_node, block_of_node, kids_of_node, kids_of_entry}
 use Rattle.std.specs.Option.{option_map}
@@ -34,11 +34,25 @@ some_value None h = cc
 some_value (Some x) h = (x, refl)
 
 -- a place with a value is one of the numbers
-pub place_within : {T : Type 0} (s : Slab T) (n : ℕ) (p : Option ℕ) → n ≡ length s.slots → HasPlace s p → IsWithin n p
+pub place_within : {T : Type 0} (s : Slab T) (n : ℕ) (p : Option ℕ) → AreNumbered s n → HasPlace s p → IsWithin n p
 place_within s n None e h = tt
-place_within s n (Some id) e h = omega (arith, e, ContainsKey-within s id h)
+place_within s n (Some id) e h = e id h
+
+-- the same at as many numbers
+pub numbered_as : {T : Type 0} (s : Slab T) (n n' : ℕ) → n' ≡ n → AreNumbered s n → AreNumbered s n'
+numbered_as s n n' e h = subst (AreNumbered s) (sym e) h
+
+-- the others, where one value was taken out
+pub numbered_still : {T : Type 0} (s s' : Slab T) (key n : ℕ) → Updates s s' key None → AreNumbered s n → AreNumbered s' n
+numbered_still {T} s s' key n u h id there = elim (cases_eq id key) [
+  | inl e ↦ absurd (true≢false (sym there ∙ ap (λ (z : ℕ). is_some (get s' z)) e ∙ ap is_some u.changed))
+  | inr d ↦ h id (subst (λ (o : Option T). IsSome o) (u.others id d) there)
+]
 
 module _ {T : Type 0} (s s' : Slab T) where
+  pub same_numbered : (n n' : ℕ) → s'.slots ≡ s.slots → n' ≡ n → AreNumbered s n → AreNumbered s' n'
+  same_numbered n n' e k h id there = omega (arith, k, h id (subst (λ (os : List (Option T)). IsSome (get_or os id None)) e there))
+
   -- what keeps all values keeps all places
   pub kept_place : ((x : ℕ) → ContainsKey s x → ContainsKey s' x) → (p : Option ℕ) → HasPlace s p → HasPlace s' p
   kept_place k None h = tt
@@ -54,6 +68,14 @@ module _ {T : Type 0} (s : Slab T) (id : ℕ) (old new : T) (found : get s id �
         | inr d ↦ subst (λ (o : Option T). IsSome o) (sym (u.others x d)) h
       ]
 
+  pub was_there : (x : ℕ) → ContainsKey (with_value s id new) x → ContainsKey s x
+  was_there x h =
+      let u : Updates s (with_value s id new) id (Some new) = Updates-with_value s id new (rw found refl) in
+      elim (cases_eq x id) [
+        | inl e ↦ subst (λ (z : ℕ). IsSome (get s z)) (sym e) (rw found refl)
+        | inr d ↦ subst (λ (o : Option T). IsSome o) (u.others x d) h
+      ]
+
   len_kept : slab_len (with_value s id new) ≡ slab_len s
   len_kept =
       let l : id < length s.slots = ContainsKey-within s id (rw found refl) in
@@ -64,27 +86,48 @@ module _ {T : Type 0} (s : Slab T) (id : ℕ) (old new : T) (found : get s id �
 module _ {L B : Type 0} where
   pub less_room : (s : Slab (Node L B)) (n capacity spare less : ℕ) → less ≤ spare → HaveRoom s n capacity spare → HaveRoom s n capacity less
   less_room s n capacity spare less le h =
-      record { numbered = h.numbered; nodes_fit = omega (arith, h.nodes_fit, le); links_fit = omega (arith, h.links_fit, le) }
+      record { numbered = h.numbered; nodes_fit = omega (arith, h.nodes_fit, le); links_fit = λ one. h.links_fit (omega (arith, one, le)) }
 
   -- as many nodes are spare after a write of one
   pub room_written : (s : Slab (Node L B)) (n n' capacity spare id : ℕ) (old new : Node L B) → get s id ≡ Some old → n' ≡ n → HaveRoom s n capacity spare
       → HaveRoom (with_value s id new) n' capacity spare
   room_written s n n' capacity spare id old new found same h =
       record {
-        numbered = omega (arith, same, h.numbered, length-set s.slots id (Some new));
+        numbered = λ x there. omega (arith, same, h.numbered x (was_there s id old new found x there));
         nodes_fit = omega (arith, h.nodes_fit, len_kept s id old new found);
-        links_fit = omega (arith, h.links_fit, len_kept s id old new found);
+        links_fit = h.links_fit;
       }
 
-  -- room that has grown
-  pub room_grown : (s s' : Slab (Node L B)) (n n' capacity capacity' spare : ℕ) → s'.slots ≡ s.slots → s.capacity ≤ s'.capacity → n' ≡ n → capacity ≤ capacity'
-      → HaveRoom s n capacity spare → HaveRoom s' n' capacity' spare
-  room_grown s s' n n' capacity capacity' spare e nodes same links h =
+  -- as many links, and as much room for them
+  pub kept_room : (s : Slab (Node L B)) (n n' capacity capacity' spare : ℕ) → n' ≡ n → capacity' ≡ capacity → HaveRoom s n capacity spare
+      → HaveRoom s n' capacity' spare
+  kept_room s n n' capacity capacity' spare e k h = rw (e, k) h
+
+  -- a node fewer
+  pub room_freed : (s s' : Slab (Node L B)) (key n n' capacity capacity' spare : ℕ) → Updates s s' key None → slab_len s' + 1 ≡ slab_len s → s'.capacity ≡ s.capacity
+      → n' ≡ n → capacity' ≡ capacity → HaveRoom s n capacity spare → HaveRoom s' n' capacity' spare
+  room_freed s s' key n n' capacity capacity' spare gone len room links kept h =
+      record {
+        numbered = numbered_as s' n n' links (numbered_still s s' key n gone h.numbered);
+        nodes_fit = omega (arith, len, room, h.nodes_fit);
+        links_fit = λ one. omega (arith, room, kept, h.links_fit one);
+      }
+
+  -- none spare
+  pub none_spare : (s s' : Slab (Node L B)) (n n' capacity capacity' spare : ℕ) → s'.slots ≡ s.slots → n' ≡ n → HaveRoom s n capacity spare
+      → HaveRoom s' n' capacity' 0
+  none_spare s s' n n' capacity capacity' spare e same h =
+      record { numbered = same_numbered s s' n n' e same h.numbered; nodes_fit = omega arith; links_fit = λ one. absurd (omega (arith, one)) }
+
+  -- room for so many nodes more, and for those that there was room for
+  pub room_made : (s s' : Slab (Node L B)) (numbers numbers' capacity capacity' spare n : ℕ) → s'.slots ≡ s.slots → numbers' ≡ numbers → s.capacity ≤ s'.capacity
+      → HasRoomFor s' n → s'.capacity ≤ capacity' → HaveRoom s numbers capacity spare → HaveRoom s' numbers' capacity' (max spare n)
+  room_made s s' numbers numbers' capacity capacity' spare n e same grown room fits h =
       let len : slab_len s' ≡ slab_len s = ap (λ (os : List (Option (Node L B))). count_by is_some os) e in
       record {
-        numbered = same ∙ h.numbered ∙ sym (ap length e);
-        nodes_fit = omega (arith, h.nodes_fit, len, nodes);
-        links_fit = omega (arith, h.links_fit, len, links);
+        numbered = same_numbered s s' numbers numbers' e same h.numbered;
+        nodes_fit = omega (arith, h.nodes_fit, len, grown, room);
+        links_fit = λ one. fits;
       }
 
   -- the same nodes and links, whatever room there is
@@ -170,7 +213,7 @@ module _ {L B : Type 0} where
   next_shown s ls head (Some id) h = let n = some_value (get s id) h in sym (ap next_of_slot (found_slot s ls id n.0 n.1))
 
   -- a write of one link, seen at the slots
-  pub slots_next : (s : Slab (Node L B)) (ls ls' : List Links) (head head' at to : Option ℕ) → length ls ≡ length s.slots → HasPlace s at
+  pub slots_next : (s : Slab (Node L B)) (ls ls' : List Links) (head head' at to : Option ℕ) → AreNumbered s (length ls) → HasPlace s at
       → ls' ≡ with_next ls at to
       → head' ≡ end_with head at to → SetsNext (slots_of s ls) head (slots_of s ls') head' at to
   slots_next s ls ls' head head' None to long h e k =
@@ -178,10 +221,10 @@ module _ {L B : Type 0} where
   slots_next s ls ls' head head' (Some id) to long h e k =
       let n = some_value (get s id) h in
       let l : Links = links_under ls id in
-      rw (e, k, slots-with_links s ls id (next_changed l to) n.0 n.1 (omega (arith, long, ContainsKey-within s id h)))
+      rw (e, k, slots-with_links s ls id (next_changed l to) n.0 n.1 (long id h))
       (sets_next (slots_of s ls) head to id (slot_of n.0 l) (found_slot s ls id n.0 n.1))
 
-  pub slots_prev : (s : Slab (Node L B)) (ls ls' : List Links) (tail tail' at to : Option ℕ) → length ls ≡ length s.slots → HasPlace s at
+  pub slots_prev : (s : Slab (Node L B)) (ls ls' : List Links) (tail tail' at to : Option ℕ) → AreNumbered s (length ls) → HasPlace s at
       → ls' ≡ with_prev ls at to
       → tail' ≡ end_with tail at to → SetsPrev (slots_of s ls) tail (slots_of s ls') tail' at to
   slots_prev s ls ls' tail tail' None to long h e k =
@@ -189,7 +232,7 @@ module _ {L B : Type 0} where
   slots_prev s ls ls' tail tail' (Some id) to long h e k =
       let n = some_value (get s id) h in
       let l : Links = links_under ls id in
-      rw (e, k, slots-with_links s ls id (prev_changed l to) n.0 n.1 (omega (arith, long, ContainsKey-within s id h)))
+      rw (e, k, slots-with_links s ls id (prev_changed l to) n.0 n.1 (long id h))
       (sets_prev (slots_of s ls) tail to id (slot_of n.0 l) (found_slot s ls id n.0 n.1))
 
   -- what stands before a leaf, and above a node

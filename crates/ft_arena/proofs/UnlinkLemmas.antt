@@ -6,13 +6,13 @@ use Rattle.ft_arena.specs.Links.{Slot}
 use Rattle.ft_arena.specs.declared.nodes.Node.{Node}
 use Rattle.ft_arena.specs.declared.nodes.Node.TheVariants.{Leaf, Block}
 use Rattle.ft_arena.specs.declared.links.Links.{Links}
-use Rattle.ft_arena.specs.Links.{links_under, with_next, with_prev, end_with, slot_of, slots_of}
+use Rattle.ft_arena.specs.Links.{AreNumbered, links_under, with_next, with_prev, end_with, slot_of, slots_of}
 use Rattle.ft_arena.specs.Ids.{without}
 use Rattle.ft_arena.specs.Forest.{Forest, Entry, Changes, count_some, leaf_of_entry, kids_of_entry, parent_of_entry, entry, leaf_of_node, kids_of_node}
 use Rattle.ft_arena.specs.Links.{IsChain, entries_of, entry_of, leaves_of, live_of, next_of, prev_of, nodes_of, next_of_slot, prev_of_slot, HasPlace}
 use Rattle.ft_arena.proofs.ArenaLemmas.{SetsNext, SetsPrev, entries_at}
 use Rattle.ft_arena.proofs.KidLemmas.{kept}
-use Rattle.ft_arena.proofs.SlotLemmas.{node_place, found_slot, slots-updates, slots_next, slots_prev, length-with_next, length-with_prev}
+use Rattle.ft_arena.proofs.SlotLemmas.{node_place, numbered_as, found_slot, slots-updates, slots_next, slots_prev, length-with_next, length-with_prev}
 use Rattle.ft_arena.proofs.HookLemmas.{IsLinked, unhooked, next_apart, linked_from, leaves_from, sound_from, placed}
 
 no_kids : {L B : Type 0} (o : Option (Entry L B)) → count_some (leaf_of_entry o) ≡ 1 → kids_of_entry o ≡ []
@@ -88,7 +88,7 @@ module _ {L B : Type 0} (s0 s1 s2 s3 : Slab (Slot L B)) (h0 t0 h2 t3 : Option �
 -- the same of nodes and the links beside them
 module _ {L B : Type 0} (n0 n1 : Slab (Node L B)) (l0 : List Links) (h0 t0 : Option ℕ) (id : ℕ) (node : Node L B) (links : Links)
     (sound : IsChain record { slots = slots_of n0 l0; head = h0; tail = t0 }) (found : get n0 id ≡ Some node) (read : links ≡ links_under l0 id)
-    (leaf : live_of (entries_of (slots_of n0 l0)) (Some id) ≡ 1) (gone : Updates n0 n1 id None) (long : length l0 ≡ length n1.slots) where
+    (leaf : live_of (entries_of (slots_of n0 l0)) (Some id) ≡ 1) (gone : Updates n0 n1 id None) (long : AreNumbered n1 (length l0)) where
   pub found_links : get (slots_of n0 l0) id ≡ Some (slot_of node links)
   found_links = found_slot n0 l0 id node found ∙ ap (λ l. Some (slot_of node l)) (sym read)
 
@@ -103,8 +103,8 @@ module _ {L B : Type 0} (n0 n1 : Slab (Node L B)) (l0 : List Links) (h0 t0 : Opt
     nx : SetsNext (slots_of n1 l0) h0 (slots_of n1 l2) h2 links.prev links.next
     nx = slots_next n1 l0 l2 h0 h2 links.prev links.next long prev_has_node first head
 
-    pub long2 : length l2 ≡ length n1.slots
-    long2 = ap length first ∙ length-with_next l0 links.prev links.next ∙ long
+    pub long2 : AreNumbered n1 (length l2)
+    long2 = numbered_as n1 _ _ (ap length first ∙ length-with_next l0 links.prev links.next) long
 
     pub next_has_node : HasPlace n1 links.next
     next_has_node = node_place n1 l2 links.next
@@ -114,8 +114,8 @@ module _ {L B : Type 0} (n0 n1 : Slab (Node L B)) (l0 : List Links) (h0 t0 : Opt
       pv : SetsPrev (slots_of n1 l2) t0 (slots_of n1 l3) t3 links.next links.prev
       pv = slots_prev n1 l2 l3 t0 t3 links.next links.prev long2 next_has_node second tail
 
-      pub unhooked_length : length l3 ≡ length n1.slots
-      unhooked_length = ap length second ∙ length-with_prev l2 links.next links.prev ∙ long2
+      pub unhooked_length : length l3 ≡ length l0
+      unhooked_length = ap length second ∙ length-with_prev l2 links.next links.prev ∙ ap length first ∙ length-with_next l0 links.prev links.next
 
       pub unhooked_changes : Changes (nodes_of record { slots = slots_of n0 l0; head = h0; tail = t0 })
           (nodes_of record { slots = slots_of n1 l3; head = h2; tail = t3 }) id None

@@ -59,6 +59,10 @@ abbrev pub HasPlace : {T : Type 0} → Slab T → Option ℕ → Type 0
 HasPlace s None = Unit {0}
 HasPlace s (Some id) = ContainsKey s id
 
+-- each value stands at one of so many numbers
+abbrev pub AreNumbered : {T : Type 0} → Slab T → ℕ → Type 0
+AreNumbered s n = (id : ℕ) → ContainsKey s id → id < n
+
 -- a node with its links
 pub record Slot (L B : Type 0) : Type 0 where
   pub node : Node L B
@@ -162,11 +166,12 @@ module _ {L B : Type 0} where
   abbrev pub view_of : Inside L B → Forest L B
   view_of a = forest_of (chain_of a) a.spare
 
-  -- there are links for so many numbers as nodes have, and both have room for so many nodes more
+  -- each node has links, where there are links at so many numbers, and there is room for so many nodes more and for the links at
+  -- each number that one of them may get
   pub record HaveRoom (nodes : Slab (Node L B)) (numbers capacity spare : ℕ) : Type 0 where
-    pub numbered : numbers ≡ length nodes.slots
+    pub numbered : AreNumbered nodes numbers
     pub nodes_fit : spare ≤ nodes.capacity - slab_len nodes
-    pub links_fit : slab_len nodes + spare ≤ capacity
+    pub links_fit : 1 ≤ spare → nodes.capacity ≤ capacity
 
   -- the leaves are a chain, and there is room for as many nodes as are spare
   abbrev pub IsSound : Inside L B → Type 0

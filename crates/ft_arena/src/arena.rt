@@ -14,6 +14,7 @@ use crate::slots::Slots;
 use ft_base::{OutOfMemory, Steps};
 use std::alloc::Global;
 use std::marker::Model;
+use std::mem;
 use std::sync::ledger::Ledger;
 
 /// Nodes by number: leaves, which stand in one list, and blocks, which have children. A contract sees
@@ -64,18 +65,20 @@ impl<L, B> Arena<L, B> {
 
     /// Makes room for `n` more nodes.
     ///
-    /// Returns `OutOfMemory` where there is no room for them, or where there would be more than
-    /// `MOST_SLOTS` nodes, and then the arena is as it was.
+    /// Returns `OutOfMemory` where there is no room for them, or where there would be room for more than
+    /// `MOST_SLOTS` nodes. Then no room is spare, also none that was, and all else is as it was.
     pub fn reserve(&mut self, n: usize) -> Result<(), OutOfMemory>
         ensures room { OnOk result (n ≤ self.new.spare) }
-        ensures spare { self.old.spare ≤ self.new.spare }
+        ensures spare { OnOk result (self.old.spare ≤ self.new.spare) }
         ensures kept { self.new ≡ record self.old { spare = self.new.spare } }
-        ensures err { OnErr result (self.new ≡ self.old) }
+        ensures err { OnErr result (self.new ≡ record self.old { spare = 0 }) }
     {
+        let spare = mem::replace(&mut self.spare, 0);
         self.nodes.reserve(n)?;
-        let free = self.nodes.free();
-        self.links.reserve(n.saturating_sub(free))?;
-        self.spare = self.spare.max(n);
+        let numbers = self.nodes.capacity();
+        self.links
+            .reserve(numbers.saturating_sub(self.links.len()))?;
+        self.spare = spare.max(n);
         Ok(())
     }
 
@@ -206,12 +209,7 @@ impl<L, B> Arena<L, B> {
             kids: Kids::new(),
             value,
         };
-        let links = Links {
-            parent: Link::NONE,
-            prev: Link::NONE,
-            next: Link::NONE,
-        };
-        let id = insert(&mut self.nodes, &mut self.links, node, links);
+        let id = insert(&mut self.nodes, &mut self.links, node, Links::NONE);
         self.spare -= 1;
         NodeId(id)
     }

@@ -2,7 +2,7 @@
 //! or from leaf to leaf, reads twelve bytes of each node that it passes. In the functions on leaves `None`
 //! is the place before the first leaf and after the last, and `head` and `tail` are what that place leads to.
 
-ghost use Rattle.std.specs.Prelude.{◌≡◌, ◌<◌, ◌≤◌, length, vec_capacity};
+ghost use Rattle.std.specs.Prelude.{◌≡◌, ◌<◌, length, vec_capacity};
 ghost use Rattle.ft_arena.specs.Links.{HasPlace, IsWithin, PutsLinks, with_next, with_prev, end_with, next_in};
 
 use crate::nodes::Node;
@@ -16,6 +16,15 @@ pub(crate) struct Links {
     pub(crate) parent: Link,
     pub(crate) prev: Link,
     pub(crate) next: Link,
+}
+
+impl Links {
+    // Links to nothing.
+    pub(crate) const NONE: Links = Links {
+        parent: Link::NONE,
+        prev: Link::NONE,
+        next: Link::NONE,
+    };
 }
 
 // The node that is linked.
@@ -41,18 +50,17 @@ pub(crate) fn raw<L, B>(nodes: &Slots<Node<L, B>>, at: Option<NodeId>) -> Link
     }
 }
 
-// Writes the links of a number: of one that has some, or of the first without, for which there is room.
+// Writes the links of a number, for which there is room. Where the numbers before it have none yet, they get
+// links to nothing.
 pub(crate) fn put_links(links: &mut Vec<Links>, id: usize, to: Links)
-    requires within { id ≤ length links.old.items }
-    requires room { id ≡ length links.old.items → id < vec_capacity links.old }
+    requires { id < vec_capacity links.old }
     ensures puts { PutsLinks links.old.items links.new.items id to }
     ensures capacity { vec_capacity links.new ≡ vec_capacity links.old }
 {
-    if id == links.len() {
-        links.push_reserved(to);
-    } else {
-        links[id] = to;
+    while links.len() <= id {
+        links.push_reserved(Links::NONE);
     }
+    links[id] = to;
 }
 
 // The leaf that follows this place.

@@ -1,14 +1,11 @@
-use Rattle.std.proofs.Common.{◌+◌, Some, refl, sym, ap, ◌∙◌, inl, inr, arith}
+use Rattle.std.proofs.Common.{Option, Some, IsSome, refl, subst, inl, inr, arith}
 use Rattle.std.proofs.lemmas.Bool.{cases_eq}
-use Rattle.std.specs.Prelude.{max}
 use Rattle.ft_arena.proofs.SlotLemmas.{slots-updates}
+use Rattle.ft_arena.specs.declared.nodes.Node.{Node}
 use Rattle.ft_arena.proofs.arena.insert.Goals as goal
 
-pub put_links-requires-clause-within : goal.put_links-requires-clause-within
-put_links-requires-clause-within g c = omega (arith, c.requires.numbered, c.insert_reserved-id.ensures.within)
-
-pub put_links-requires-clause-room : goal.put_links-requires-clause-room
-put_links-requires-clause-room g c = λ e. omega (arith, c.requires.numbered, c.requires.links_fit, c.insert_reserved-id.ensures.reuses (e ∙ c.requires.numbered))
+pub put_links-requires : goal.put_links-requires
+put_links-requires g c = omega (arith, c.requires.links_fit (omega arith), c.insert_reserved-id.ensures.within, c.insert_reserved-id.ensures.capacity)
 
 pub returns-clause-updates : goal.returns-clause-updates
 returns-clause-updates g c =
@@ -27,7 +24,14 @@ returns-clause-others g c = λ other h. elim (cases_eq other c.insert_reserved-i
 pub returns-clause-room : goal.returns-clause-room
 returns-clause-room g c = λ n h.
     record {
-      numbered = c.put_links.ensures.puts.grown ∙ ap (λ k. max k (c.insert_reserved-id.result + 1)) h.numbered ∙ sym c.insert_reserved-id.ensures.numbers;
+      numbered = λ id there. elim (cases_eq id c.insert_reserved-id.result) [
+        | inl e ↦ omega (arith, e, c.put_links.ensures.puts.grown)
+        | inr d ↦ omega (
+          arith,
+          c.put_links.ensures.puts.grown,
+          h.numbered id (subst (λ (o : Option (Node g.row.L.Denot g.row.B.Denot)). IsSome o) (c.insert_reserved-id.ensures.updates.others id d) there),
+        )
+      ];
       nodes_fit = omega (arith, h.nodes_fit, c.insert_reserved-id.ensures.len, c.insert_reserved-id.ensures.capacity);
-      links_fit = omega (arith, h.links_fit, c.insert_reserved-id.ensures.len, c.put_links.ensures.capacity);
+      links_fit = λ one. omega (arith, h.links_fit (omega arith), c.insert_reserved-id.ensures.capacity, c.put_links.ensures.capacity);
     }

@@ -1,11 +1,11 @@
-use Rattle.std.proofs.Common.{arith, [], ◌≡◌, Some, None, IsSome, refl, ap, sym, ◌∙◌}
+use Rattle.std.proofs.Common.{[], ◌≡◌, Some, None, IsSome, refl, ap, sym, ◌∙◌}
 use Rattle.ft_arena.specs.Forest.{block_value, block_of_entry, parent_of, kids_of, block_of_node, kids_of_entry, parent_of_entry, leaf_of_node, count_some}
 use Rattle.ft_arena.specs.Links.{entry_of, links_under, slot_of, slots_of}
 use Rattle.std.specs.Option.{option_map}
 use Rattle.ft_arena.proofs.ArenaLemmas.{at_view, entries_at, IsForest-spare, Changes-spare}
 use Rattle.ft_arena.specs.declared.nodes.Node.{Node}
 use Rattle.ft_arena.specs.declared.nodes.Node.TheVariants.{Leaf, Block}
-use Rattle.ft_arena.proofs.SlotLemmas.{found_slot, slots-updates, block_node, block_here, entry_is}
+use Rattle.ft_arena.proofs.SlotLemmas.{found_slot, room_freed, slots-updates, block_node, block_here, entry_is}
 use Rattle.ft_arena.proofs.KidLemmas.{sound_gone, Changes-at}
 use Rattle.ft_arena.proofs.arena.Arena.drop_block.Goals as goal
 
@@ -39,11 +39,8 @@ invariant_of-self g c = (
       (ap parent_of_entry (sym (ap (option_map entry_of) (found_slot c.self.inside.nodes c.self.inside.links.items c.id.inside.0 c.remove-node.result
       c.remove-node.ensures.value)) ∙ sym (entries_at (slots_of c.self.inside.nodes c.self.inside.links.items) c.id.inside.0))
       ∙ (at_view (λ s i. parent_of s i ≡ None) c.self.inside c.args.self.now c.id.inside.0 c.args.id c.self.view_is c.id.view_is c.requires.alone)) c.self.invariant.0).0,
-  record {
-    numbered = c.self.invariant.1.numbered ∙ sym c.remove-node.ensures.numbers;
-    nodes_fit = omega (arith, c.self.invariant.1.nodes_fit, c.remove-node.ensures.len, c.remove-node.ensures.capacity);
-    links_fit = omega (arith, c.self.invariant.1.links_fit, c.remove-node.ensures.len);
-  },
+  room_freed c.self.inside.nodes c.remove-node.new.self c.id.inside.0 _ _ _ _ c.self.inside.spare c.remove-node.ensures.updates c.remove-node.ensures.len
+      c.remove-node.ensures.capacity refl refl c.self.invariant.1,
 )
 
 pub returns-clause-sound : goal.returns-clause-sound

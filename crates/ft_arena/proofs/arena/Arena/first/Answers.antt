@@ -14,5 +14,5 @@ returns-clause-few g c =
       leaves_fit (slots_of c.self.inside.nodes c.self.inside.links.items) c.self.inside.head c.self.inside.tail c.self.invariant.0,
       length-zipped
           c.self.inside.nodes.slots c.self.inside.links.items,
-      c.capacity-capacity.ensures.slots,
+      c.capacity-capacity.ensures.few,
     )

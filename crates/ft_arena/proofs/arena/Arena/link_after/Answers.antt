@@ -1,7 +1,7 @@
-use Rattle.std.proofs.Common.{◌-◌, arith}
+use Rattle.std.proofs.Common.{◌-◌, ◌∙◌, arith}
 use Rattle.ft_arena.specs.Links.{view_of}
 use Rattle.ft_arena.proofs.ArenaLemmas.{place_is_live, IsForest-spare, Changes-spare}
-use Rattle.ft_arena.proofs.SlotLemmas.{less_room, place_within, live_place, kept_place, vacant_shown}
+use Rattle.ft_arena.proofs.SlotLemmas.{kept_room, less_room, place_within, live_place, kept_place, vacant_shown}
 use Rattle.ft_arena.proofs.LinkLemmas.{next_has_node, long2, hooked_length, hooked_leaves, hooked_changes, hooked_sound}
 use Rattle.ft_arena.proofs.arena.Arena.link_after.Goals as goal
 
@@ -54,18 +54,14 @@ invariant_of-self g c =
           at c.requires.room) c.self.invariant.1)).numbered
           (rw c.raw-here.ensures at c.set_next.ensures.links) (rw c.raw-here.ensures at c.set_next.ensures.head) c.set_prev.new.links.items c.set_prev.new.tail
           (rw c.raw-here.ensures at c.set_prev.ensures.links) (rw c.raw-here.ensures at c.set_prev.ensures.tail),
-      record {
-        numbered = hooked_length c.self.inside.nodes c.insert-id.new.nodes c.self.inside.links.items c.insert-id.new.links.items c.set_next.new.links.items
-            c.self.inside.head c.self.inside.tail c.set_next.new.head c.raw-at.result
-            c.next_at-next.result c.insert-id.result c.args.leaf c.self.invariant.0
-            (place_is_live (view_of c.self.inside) c.raw-at.result (rw (c.self.view_is, c.raw-at.ensures) c.requires.place)) c.next_at-next.ensures
-            c.insert-id.ensures.was_vacant c.insert-id.ensures.updates c.insert-id.ensures.others (c.insert-id.ensures.room 0 (less_room _ _ _ _ 1 (rw (← c.self.view_is)
-            at c.requires.room) c.self.invariant.1)).numbered
-            (rw c.raw-here.ensures at c.set_next.ensures.links) (rw c.raw-here.ensures at c.set_next.ensures.head) c.set_prev.new.links.items c.set_prev.new.tail
-            (rw c.raw-here.ensures at c.set_prev.ensures.links) (rw c.raw-here.ensures at c.set_prev.ensures.tail);
-        nodes_fit = room.nodes_fit;
-        links_fit = omega (arith, room.links_fit, c.set_next.ensures.capacity, c.set_prev.ensures.capacity);
-      },
+      kept_room c.insert-id.new.nodes _ _ _ _ _ (hooked_length c.self.inside.nodes c.insert-id.new.nodes c.self.inside.links.items c.insert-id.new.links.items c.set_next.new.links.items
+          c.self.inside.head c.self.inside.tail c.set_next.new.head c.raw-at.result
+          c.next_at-next.result c.insert-id.result c.args.leaf c.self.invariant.0
+          (place_is_live (view_of c.self.inside) c.raw-at.result (rw (c.self.view_is, c.raw-at.ensures) c.requires.place)) c.next_at-next.ensures
+          c.insert-id.ensures.was_vacant c.insert-id.ensures.updates c.insert-id.ensures.others (c.insert-id.ensures.room 0 (less_room _ _ _ _ 1 (rw (← c.self.view_is)
+          at c.requires.room) c.self.invariant.1)).numbered
+          (rw c.raw-here.ensures at c.set_next.ensures.links) (rw c.raw-here.ensures at c.set_next.ensures.head) c.set_prev.new.links.items c.set_prev.new.tail
+          (rw c.raw-here.ensures at c.set_prev.ensures.links) (rw c.raw-here.ensures at c.set_prev.ensures.tail)) (c.set_prev.ensures.capacity ∙ c.set_next.ensures.capacity) room,
     )
 
 pub returns-clause-sound : goal.returns-clause-sound

@@ -1,4 +1,5 @@
 use Rattle.std.proofs.Common.{◌≡◌, ◌≤◌, ◌<◌, Some, None, IsSome, length, ap, sym, subst, arith, length-set}
+use Rattle.slab.proofs.SlabLemmas.{ContainsKey-within}
 use Rattle.ft_arena.specs.Forest.{Forest, entry, block_value, parent_of, kids_of, kids_of_entry}
 use Rattle.ft_arena.proofs.ArenaLemmas.{at_view, IsForest-spare, PutsChild-spare}
 use Rattle.ft_arena.proofs.SlotLemmas.{links_read, place_within, entry_node, entry_is, block_node, block_here, room_written}
@@ -8,10 +9,8 @@ use Rattle.ft_arena.proofs.arena.Arena.put_child.Goals as goal
 pub put_kid-requires-clause-fits : goal.put_kid-requires-clause-fits
 put_kid-requires-clause-fits g c = omega (
   arith,
-  (place_within c.self.inside.nodes _ (Some c.child.inside.0) c.self.invariant.1.numbered (entry_node c.self.inside.nodes c.self.inside.links.items c.child.inside.0
+  (ContainsKey-within c.self.inside.nodes c.child.inside.0 (entry_node c.self.inside.nodes c.self.inside.links.items c.child.inside.0
       (at_view (λ s i. IsSome (entry s i)) c.self.inside c.args.self.now c.child.inside.0 c.args.child c.self.view_is c.child.view_is c.requires.child))),
-  c.self.invariant.1.numbered,
-  c.capacity-capacity.ensures.slots,
   c.capacity-capacity.ensures.few,
 )
 
