@@ -60,8 +60,8 @@ impl Refs {
 
     /// Makes a new reference at the end of the list of this owner, and holds the owner.
     ///
-    /// Returns `OutOfMemory` where there is no room for it, or where there are `ft_arena::MOST_SLOTS`
-    /// references, and then nothing changed.
+    /// Returns `OutOfMemory` where there is no room for it, or where there would be room for more than
+    /// `ft_arena::MOST_SLOTS` references, and then nothing changed.
     pub fn attach(&mut self, owner: NodeId, offset: u64) -> Result<RefId, OutOfMemory>
         ensures fresh { IfOk result (λ r. entry self.old r ≡ None) }
         ensures list { IfOk result (λ r. references_of self.new owner ≡ references_of self.old owner ++ (r, offset) ∷ []) }
