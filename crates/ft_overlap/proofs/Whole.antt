@@ -1,19 +1,20 @@
 -- What an index in order says of its nodes, and the other way round.
-use Rattle.std.proofs.Common.{◌≡◌, ℕ, zero, suc, ℤ, List, [], ◌∷◌, Option, Some, None, All, Contains, refl, sym, ap, subst, ◌∙◌, arith}
+use Rattle.std.proofs.Common.{◌≡◌, ℕ, zero, suc, ℤ, List, [], ◌∷◌, ◌++◌, Option, Some, None, All, Contains, refl, sym, ap, subst, ◌∙◌, arith}
 use Rattle.std.proofs.lemmas.List.Elements.{All-nil, All-cons, All-append, All-contains}
 use Rattle.std.specs.List.{flat_map}
 use Rattle.ft_arena.specs.Forest.{IsForest, kids_of, block_value, leaf_value, block_of_entry, count_some}
 use Rattle.ft_arena.proofs.IdLemmas.{same_refl}
 use Rattle.ft_shape.specs.declared.headed.Headed.{Headed}
-use Rattle.ft_shape.specs.Tree.{IsTree, IsBare, height_of}
+use Rattle.ft_shape.specs.Tree.{IsTree, IsBare, below, height_of}
 use Rattle.ft_shape.specs.Told.{sum_of, KeepsBut}
 use Rattle.ft_shape.proofs.Levels.{AllHigh, kids_high, root_high}
-use Rattle.ft_shape.proofs.ToldLemmas.{bare_keeps}
+use Rattle.ft_shape.proofs.InsertLemmas.{room_tree}
+use Rattle.ft_shape.proofs.ToldLemmas.{bare_keeps, room_keeps}
 use Rattle.ft_overlap.specs.declared.items.Item.{Item}
 use Rattle.ft_overlap.specs.declared.items.Span.{Span}
 use Rattle.ft_overlap.specs.declared.index.Index.TheInside.{Inside}
 use Rattle.ft_overlap.specs.Items.{Below, ItemList, IsInOrder, AreKnown, IsGreatest, NamesGreatest}
-use Rattle.ft_overlap.specs.Inside.{Nodes, items_under, items_below, block_of, blocks_of, blocks_below, all_blocks, view_of, IsRooted, IsSound, either_named, span_last, AreGreatest, SpansLast, EndsKnown}
+use Rattle.ft_overlap.specs.Inside.{Nodes, IsSpan, item_of, items_of, depth_of, items_under, items_below, block_of, blocks_of, blocks_below, all_blocks, view_of, IsRooted, IsSound, either_named, span_last, AreGreatest, SpansLast, EndsKnown}
 use Rattle.ft_overlap.proofs.Leaves.{items_in}
 use Rattle.ft_overlap.proofs.Law.{IsPart}
 use Rattle.ft_overlap.proofs.Parts.{in_parts}
@@ -89,3 +90,63 @@ module _ (place : ℕ → ℤ) (a : Inside) (v : ItemList) (is : view_of a ≡ v
         by (Some y) b el eb q = let d : y ≡ x = cc q in in_leaf id x (el ∙ ap Some d)
         by None (Some w) el eb q = let d : w.sum.last ≡ x = cc q in subst (Contains v.items) d (in_block id w eb)
         by None None el eb q = cc q
+
+-- what an index shows and keeps doesn't look at how many nodes are spare
+module _ (s : Nodes) (n : ℕ) where
+  items_spared : (ids : List ℕ) → items_of (record s { spare = n }) ids ≡ items_of s ids
+  items_spared [] = refl
+  items_spared (x ∷ xs) = ap (item_of (leaf_value s x)) (items_spared xs)
+
+  below_spared : (h : ℕ) (xs : List ℕ) → below (record s { spare = n }) h xs ≡ below s h xs
+  below_spared zero xs = refl
+  below_spared (suc h) xs = below_spared h (flat_map (kids_of s) xs)
+
+  under_spared : (h x : ℕ) → items_under (record s { spare = n }) h x ≡ items_under s h x
+  under_spared h x = items_spared (below (record s { spare = n }) h (x ∷ [])) ∙ ap (items_of s) (below_spared h (x ∷ []))
+
+  row_spared : (h : ℕ) (xs : List ℕ) → blocks_of (record s { spare = n }) h xs ≡ blocks_of s h xs
+  row_spared h [] = refl
+  row_spared h (x ∷ xs) =
+      ap (λ (zs : List Item). block_of (block_value s x) zs (blocks_of (record s { spare = n }) h xs)) (under_spared h x)
+      ∙ ap (block_of (block_value s x) (items_under s h x)) (row_spared h xs)
+
+  rows_spared : (h : ℕ) (xs : List ℕ) → blocks_below (record s { spare = n }) h xs ≡ blocks_below s h xs
+  rows_spared zero xs = refl
+  rows_spared (suc h) xs =
+      ap (λ (bs : List Below). bs ++ blocks_below (record s { spare = n }) h (flat_map (kids_of s) xs)) (row_spared (suc h) xs)
+      ∙ ap (λ (bs : List Below). blocks_of s (suc h) xs ++ bs) (rows_spared h (flat_map (kids_of s) xs))
+
+  depth_spared : (root : Option ℕ) → depth_of (record s { spare = n }) root ≡ depth_of s root
+  depth_spared None = refl
+  depth_spared (Some root) = refl
+
+  all_spared : (root : Option ℕ) → all_blocks (record s { spare = n }) root ≡ all_blocks s root
+  all_spared None = refl
+  all_spared (Some root) = rows_spared (height_of s root) (root ∷ [])
+
+  rooted_spared : (root : Option ℕ) → IsRooted s root → IsRooted (record s { spare = n }) root
+  rooted_spared None bare =
+      record {
+        forest = record { leaf_once = bare.forest.leaf_once; child_once = bare.forest.child_once; few = bare.forest.few };
+        leaves = bare.leaves;
+        nodes = bare.nodes;
+      }
+  rooted_spared (Some root) tree = room_tree s (record s { spare = n }) refl root tree
+
+module _ (a : Inside) (s : Nodes) (room : s ≡ record a.arena { spare = s.spare }) where
+  pub sound_room : IsSound a → IsSound record { arena = s; root = a.root; alloc = a.alloc }
+  sound_room h =
+      record {
+        rooted = subst (λ (z : Nodes). IsRooted z a.root) (sym room) (rooted_spared a.arena s.spare a.root h.rooted);
+        names = room_keeps IsSpan a.arena s room h.names;
+      }
+
+  pub view_room : view_of record { arena = s; root = a.root; alloc = a.alloc } ≡ view_of a
+  view_room =
+      let shown : Nodes → ItemList = λ z. record { items = items_of z z.leaves; depth = depth_of z a.root; blocks = all_blocks z a.root } in
+      let made : List Item → ℕ → List Below → ItemList = λ items depth blocks. record { items = items; depth = depth; blocks = blocks } in
+      let z : Nodes = record a.arena { spare = s.spare } in
+      ap shown room
+      ∙ ap (λ items. made items (depth_of z a.root) (all_blocks z a.root)) (items_spared a.arena s.spare a.arena.leaves)
+      ∙ ap (λ depth. made (items_of a.arena a.arena.leaves) depth (all_blocks z a.root)) (depth_spared a.arena s.spare a.root)
+      ∙ ap (made (items_of a.arena a.arena.leaves) (depth_of a.arena a.root)) (all_spared a.arena s.spare a.root)

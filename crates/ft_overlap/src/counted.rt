@@ -38,7 +38,7 @@ pub(crate) fn insert_in<P: Places, G: Ledger>(
     ensures one { IfOk result (λ top. KeepsBut IsSpan arena.new None) }
     ensures last { IfOk result (λ top. KeepsBut (SpansLast (P.end_place at.now)) arena.new None) }
     ensures items { IfOk result (λ top. items_of arena.new arena.new.leaves ≡ put_item (P.end_place at.now) item (items_of arena.old arena.old.leaves)) }
-    ensures err { OnErr result (arena.new ≡ arena.old) }
+    ensures err { OnErr result (arena.new ≡ record arena.old { spare = arena.new.spare }) }
 {
     let Some(root) = root else {
         arena.reserve(2)?;

@@ -1,9 +1,9 @@
-use Rattle.std.proofs.Common.{sym, ap, subst, ◌∙◌}
+use Rattle.std.proofs.Common.{rules, sym, ap, subst, ◌∙◌}
 use Rattle.std.proofs.lemmas.List.Elements.{All-tail}
 use Rattle.ft_overlap.specs.declared.items.Item.{Item}
 use Rattle.ft_overlap.specs.Items.{ItemList, IsRising, put_item}
 use Rattle.ft_overlap.proofs.ItemLists.{rising_put}
-use Rattle.ft_overlap.proofs.Whole.{in_last, in_starts, in_ends, all_great}
+use Rattle.ft_overlap.proofs.Whole.{sound_room, view_room, in_last, in_starts, in_ends, all_great}
 use Rattle.ft_overlap.proofs.index.Index.insert.Goals as goal
 
 pub insert_in-requires-clause-last : goal.insert_in-requires-clause-last
@@ -30,3 +30,10 @@ returns-clause-order g c =
 pub insert_in-requires-clause-rising : goal.insert_in-requires-clause-rising
 insert_in-requires-clause-rising g c =
     subst (IsRising (g.P.Places.end_place c.args.at.now)) (sym (ap (λ (w : ItemList). w.items) c.self.view_is)) c.requires.order.rising
+
+pub invariant_of-self : goal.invariant_of-self
+invariant_of-self g c = sound_room c.self.inside c.insert_in.new.arena c.in_err-self-inside.ensures.err c.self.invariant
+
+pub returns-in_err-self-inside-clause-err : goal.returns-in_err-self-inside-clause-err
+returns-in_err-self-inside-clause-err g c =
+    let same = view_room c.self.inside c.insert_in.new.arena c.in_err-self-inside.ensures.err ∙ c.self.view_is in search rules
