@@ -27,6 +27,7 @@ use Rattle.std.proofs.Common.{
   replicate,
   refl,
   ap,
+  subst,
   sym,
   arith,
   length-append,
@@ -34,11 +35,11 @@ use Rattle.std.proofs.Common.{
   append_assoc,
 }
 use Rattle.std.specs.Prelude.{⊤, slice_get, nat_lt}
-use Rattle.std.proofs.lemmas.List.{get_or_default, length-replicate, replicate-append-replicate}
+use Rattle.std.proofs.lemmas.List.{drop_more, get_or_default, length-replicate, replicate-append-replicate}
 use Rattle.std.proofs.lemmas.Bool.Decides.{nat_tests}
 use Rattle.ft_attrib.specs.declared.attribution.Origin.{Origin}
 use Rattle.ft_attrib.specs.declared.pieces.OriginPiece.{OriginPiece}
-use Rattle.ft_attrib.specs.Pieces.{AddsCharacters, IsCut, origin_in, spread}
+use Rattle.ft_attrib.specs.Pieces.{AddsCharacters, IsCut, IsPieceAt, origin_in, spread}
 
 -- the place where the last piece ends
 pub length-spread : (from : ℕ) (x : OriginPiece) (xs : List OriginPiece) → from < x.end → from + length (spread from (x ∷ xs)) ≡ x.end + length (spread x.end xs)
@@ -152,9 +153,22 @@ origin_of-drop from p (x ∷ xs) (suc i) d c l h =
     let first : x.end < (get_or xs i d).end = rising x.end xs i d c.2 (omega arith) in
     grind (arith, nat_tests, origin_of-drop x.end p xs i d c.2 (omega arith) h)
 
--- a piece that goes past p has it, if no piece before it does
-pub origin_of-here : (p : ℕ) (x : OriginPiece) (xs : List OriginPiece) → p < x.end → Some x.who ≡ origin_in p (x ∷ xs)
-origin_of-here p x xs h = grind (arith, nat_tests)
+-- the piece at place i has p, if it goes past p and no piece before it does
+pub found-here : (p i : ℕ) (x : OriginPiece) (xs : List OriginPiece) → IsPieceAt xs i x → i < length xs → p < x.end → Some x.who ≡ origin_in p (drop i xs)
+found-here p i x xs at l h =
+    let split : drop i xs ≡ x ∷ drop (i + 1) xs = drop_more xs i x l ∙ ap (λ y. y ∷ drop (i + 1) xs) (sym (at x)) in
+    first x (drop (i + 1) xs) h ∙ ap (origin_in p) (sym split)
+  where
+    first : (y : OriginPiece) (ys : List OriginPiece) → p < y.end → Some y.who ≡ origin_in p (y ∷ ys)
+    first y ys g = grind (arith, nat_tests)
+
+-- it is behind the piece at place i, if that doesn't go past p
+pub found-behind : (p i : ℕ) (x : OriginPiece) (xs : List OriginPiece) → IsCut 0 xs → IsPieceAt xs i x → i < length xs → x.end ≤ p
+    → origin_in p (drop (i + 1) xs) ≡ origin_in p xs
+found-behind p i x xs c at l h =
+    let next : i + 1 ≡ suc i = omega arith in
+    let past : (get_or xs i x).end ≤ p = subst (λ (y : OriginPiece). y.end ≤ p) (at x) h in
+    ap (λ j. origin_in p (drop j xs)) next ∙ origin_of-drop 0 p xs i x c l past
 
 -- a last piece that is longer, or one piece more
 pub appended-last : (xs : List OriginPiece) (i : ℕ) (y d : OriginPiece) → IsCut 0 xs → suc i ≡ length xs → (get_or xs i d).who ≡ y.who → length (spread 0 xs) < y.end
