@@ -13,7 +13,7 @@ ghost use Rattle.ft_interval_store.specs.declared.faults.IntervalFault.TheVarian
 ghost use Rattle.ft_interval_store.specs.Ends.{map_ends, places_of_given, slid_end};
 ghost use Rattle.ft_interval_index.specs.Indexes.{index_of, list_in};
 ghost use Rattle.ft_interval.specs.State.{StandsOn};
-ghost use Rattle.ft_interval_store.specs.Intervals.{NamesRise, interval_of, name_in};
+ghost use Rattle.ft_interval_store.specs.Intervals.{NamesRise, has_label, interval_of, name_in};
 ghost use Rattle.ft_interval_store.specs.Shown.{last, numbers_at, regenerated, settled_end, shown_intervals, shown_record};
 ghost use Rattle.ft_interval_store.specs.State.{IsAboveAll, IsFirst, IsInOrder, IsAsBefore, IsRefusedEdit, KeepsReferences, Pushes, first_stage, is_add, is_at_stage, is_change, is_delete, is_interval_operation, is_shown, operation_at, placed, text_elements, with_effect, with_ends_at, with_first_acked};
 
@@ -288,6 +288,7 @@ impl Collections {
             steps.new ≤ steps.old + 9 * (depth + 1) * (k + length self.now.state.pending + 1) }
         ensures depth { let list = list_in (index_of label.now self.now.indexes) in 4 ^ list.depth ≤ length list.items + 1 }
         ensures few { length (list_in (index_of label.now self.now.indexes)).items ≤ length self.now.state.acked }
+        ensures labelled { length (list_in (index_of label.now self.now.indexes)).items ≤ length (filter (has_label label.now) self.now.state.acked) }
     {
         overlapping(&self.store, &self.indexes, tree, label, a, b, steps)
     }

@@ -1,5 +1,5 @@
 -- The gathered intervals answer what all do, and no more keys are read than there are answers and pending operations.
-use Rattle.std.proofs.Common.{◌≡◌, ℕ, suc, ℤ, pos, ◌+◌, ◌*◌, ◌≤◌, Bool, true, false, ◌||◌, List, [], ◌∷◌, All, Option, Some, is_some, filter, length, map, refl, ◌∙◌, ap, subst, inl, inr, arith}
+use Rattle.std.proofs.Common.{◌≡◌, ℕ, suc, ℤ, pos, ◌+◌, ◌*◌, ◌≤◌, Bool, true, false, cond, ◌||◌, List, [], ◌∷◌, All, Option, Some, None, is_some, filter, length, map, refl, ◌∙◌, ap, subst, inl, inr, arith}
 use Rattle.std.specs.Prelude.{◌⊎◌, IfSome}
 use Rattle.std.specs.Ordering.{is_eq}
 use Rattle.ft_props.specs.Keys.{Characters, text_cmp}
@@ -15,17 +15,18 @@ use Rattle.ft_interval_store.specs.declared.intervals.Interval.{Interval}
 use Rattle.ft_interval_store.specs.declared.pending.Operation.{Operation}
 use Rattle.ft_interval_store.specs.Ends.{References, places_of_ends}
 use Rattle.ft_interval_store.specs.Gathered.{IsPartOf, is_on_any}
-use Rattle.ft_interval_store.specs.Intervals.{NamesRise, interval_of}
+use Rattle.ft_interval_store.specs.Intervals.{Name, NamesRise, has_label, interval_of}
 use Rattle.ft_interval_store.specs.Shown.{last, settled_interval, shown_from, shown_intervals, shown_place, shown_record}
 use Rattle.ft_interval_store.specs.State.{CollectionsState, IsInOrder, ends_of_name, placed_intervals, placed_operations, text_elements, with_mapped_ends}
 use Rattle.ft_interval_store.proofs.Gathered.{gathered-shown}
 use Rattle.ft_interval_store.proofs.OneInterval.{NamesRise-map}
+use Rattle.ft_interval_store.proofs.RisingLists.{found-name, interval_of-filter, kept, rise-filter}
 use Rattle.ft_interval_store.proofs.SettledOperation.{placed-rise}
 use Rattle.ft_interval_index.specs.declared.indexes.LabelIndex.{LabelIndex}
 use Rattle.ft_interval_index.specs.Indexes.{IsItemOf, IsListed, is_met, keys_meeting, list_in}
 use Rattle.ft_interval_index.proofs.CountedItems.{few-counted, few-keys}
-use Rattle.ft_interval_index.proofs.FoundItems.{unwanted}
-use Rattle.ft_interval_index.proofs.StartsOnce.{has-start}
+use Rattle.ft_interval_index.proofs.FoundItems.{text-self, unwanted}
+use Rattle.ft_interval_index.proofs.StartsOnce.{HasStart, has-start}
 use Rattle.ft_interval_index.proofs.GatheringSteps.{count-placed, few-reads, fits-placed, none-read, on-placed}
 
 first-false : (p q : Bool) → p || q ≡ false → p ≡ false
@@ -97,12 +98,31 @@ every-key : (ys : List Item) → length (keys_meeting (λ k. pos 0) 0 0 ys) ≡ 
 every-key [] = refl
 every-key (y ∷ ys) = ap suc (every-key ys)
 
-pub few-items : (n : ℕ) (refs : References) (acked : List (Interval ℕ)) (label : Characters) (x : Option LabelIndex) → NamesRise acked
-    → IsListed n refs (λ id. ends_of_name (label, id) acked) x → length (list_in x).items ≤ length acked
-few-items n refs acked label x names l =
-    let most = few-counted n refs acked label (λ k. pos 0) 0 0 x l acked [] (λ y o own m. inl (named y o)) names in
-    let all = every-key (list_in x).items in
-    omega (arith, most, all)
-  where
-    named : (y : Item) (o : IsItemOf (λ id. ends_of_name (label, id) acked) x y.key y) → is_some (interval_of (label, o.id) acked) ≡ true
-    named y o = ap (λ u. is_some u) (has-start acked (label, o.id) y.key (ap (λ (p : EndPair ℕ). p.start) o.ends)).there
+module _ (n : ℕ) (refs : References) (acked : List (Interval ℕ)) (label : Characters) (x : Option LabelIndex) (names : NamesRise acked)
+    (l : IsListed n refs (λ id. ends_of_name (label, id) acked) x) where
+  has-interval : (y : Item) (o : IsItemOf (λ id. ends_of_name (label, id) acked) x y.key y) → HasStart acked (label, o.id) y.key
+  has-interval y o = has-start acked (label, o.id) y.key (ap (λ (p : EndPair ℕ). p.start) o.ends)
+
+  no-more : (is : List (Interval ℕ)) → NamesRise is
+      → ((y : Item) (o : IsItemOf (λ id. ends_of_name (label, id) acked) x y.key y) → is_some (interval_of (label, o.id) is) ≡ true)
+      → length (list_in x).items ≤ length is
+  no-more is rise named =
+      let most = few-counted n refs acked label (λ k. pos 0) 0 0 x l is [] (λ y o own m. inl (named y o)) rise in
+      let all = every-key (list_in x).items in
+      omega (arith, most, all)
+
+  pub few-items : length (list_in x).items ≤ length acked
+  few-items = no-more acked names (λ y o. ap (λ u. is_some u) (has-interval y o).there)
+
+  -- than those of its label even
+  pub few-labelled : length (list_in x).items ≤ length (filter (has_label label) acked)
+  few-labelled = no-more (filter (has_label label) acked) (rise-filter (has_label label) acked names) named
+    where
+      named : (y : Item) (o : IsItemOf (λ id. ends_of_name (label, id) acked) x y.key y) → is_some (interval_of (label, o.id) (filter (has_label label) acked)) ≡ true
+      named y o =
+          let w = has-interval y o in
+          let own : has_label label w.interval ≡ true =
+          ap (λ (m : Name). is_eq (text_cmp label m.0)) (found-name (label, o.id) acked w.interval w.there) ∙ text-self label
+          in
+          ap (λ u. is_some u) (interval_of-filter (has_label label) (label, o.id) acked names ∙ ap (kept (has_label label)) w.there
+          ∙ ap (λ c. cond c (Some w.interval) None) own)

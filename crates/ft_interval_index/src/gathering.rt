@@ -9,6 +9,7 @@ ghost use Rattle.ft_tree.specs.State.{TreeState};
 ghost use Rattle.ft_tree_leaves.specs.declared.text.TextContent.{TextContent};
 ghost use Rattle.ft_interval_store.specs.declared.intervals.Interval.{Interval};
 ghost use Rattle.ft_interval_store.specs.Gathered.{Gathers, IsPartOf, is_on_any};
+ghost use Rattle.ft_interval_store.specs.Intervals.{has_label};
 ghost use Rattle.ft_interval_store.specs.Shown.{last, settled_interval, shown_intervals, shown_place, shown_record};
 ghost use Rattle.ft_interval_store.specs.Standing.{ShowsAll};
 ghost use Rattle.ft_interval_store.specs.State.{IsLive, ends_of_name, placed, placed_intervals, text_elements};
@@ -117,7 +118,7 @@ fn gathered<G: Ledger>(
     }
 }
 
-// The index of the label, if it has one. It is no deeper than so many intervals make it.
+// The index of the label, if it has one. It is no deeper than so many intervals of the label make it.
 fn index_of_label<'a>(
     store: &Store,
     indexes: &'a [LabelIndex],
@@ -127,6 +128,7 @@ fn index_of_label<'a>(
     ensures index { option_copied result ≡ index_of label.now indexes.now }
     ensures depth { let list = list_in (index_of label.now indexes.now) in 4 ^ list.depth ≤ length list.items + 1 }
     ensures few { length (list_in (index_of label.now indexes.now)).items ≤ length store.now.acked }
+    ensures labelled { length (list_in (index_of label.now indexes.now)).items ≤ length (filter (has_label label.now) store.now.acked) }
 {
     // That names rise is read off its contract.
     let _first = store.first_stage();
@@ -163,6 +165,7 @@ pub fn overlapping<G: Ledger>(
         steps.new ≤ steps.old + 9 * (depth + 1) * (k + length store.now.pending + 1) }
     ensures depth { let list = list_in (index_of label.now indexes.now) in 4 ^ list.depth ≤ length list.items + 1 }
     ensures few { length (list_in (index_of label.now indexes.now)).items ≤ length store.now.acked }
+    ensures labelled { length (list_in (index_of label.now indexes.now)).items ≤ length (filter (has_label label.now) store.now.acked) }
 {
     // That names and stages rise is read off its contract.
     let _first = store.first_stage();

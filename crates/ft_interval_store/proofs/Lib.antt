@@ -6,6 +6,7 @@ pub mod OperationEnds
 pub mod ShownOne
 pub mod KeptEnds
 pub mod BothEnds
+mod FittingEnds
 pub mod SettledEnds
 pub mod Removals
 pub mod TakenEffect

@@ -5,7 +5,7 @@ use Rattle.std.specs.List.{enumerate_from, filter_map, list_any}
 use Rattle.std.proofs.lemmas.Bool.Decides.{nat_tests}
 use Rattle.ft_base.specs.declared.stamps.Stamp.{Stamp}
 use Rattle.ft_base.specs.declared.stamps.Stamp.TheVariants.{Acked, Local}
-use Rattle.ft_base.specs.Scan.{at, one_more_if}
+use Rattle.ft_base.specs.Scan.{at, len, one_more_if}
 use Rattle.ft_base.specs.Visibility.{has_occurred_at_stage}
 use Rattle.ft_block.specs.declared.leaves.LenView.TheVariants.{Stage}
 use Rattle.ft_tree_leaves.specs.Edits.{least_above, lesser, next_removal_above, stage_of}
@@ -214,10 +214,24 @@ module _ {A : Type 0} where
   place-number : (ok : A → Bool) (i : ℕ) (xs : List A) → is_ok_at ok i xs ≡ true → place_at ok (seen_before ok xs i) xs ≡ Some i
   place-number ok i xs h = (let at : 0 + i ≡ i = omega arith in number-from ok i 0 xs h ∙ ap (λ k. Some k) at)
 
-same-number : (p q : ℕ) → Some p ≡ Some q → p ≡ q
+  -- an element that passes has fewer such elements before it than there are
+  pub place-below : (ok : A → Bool) (i : ℕ) (xs : List A) → is_ok_at ok i xs ≡ true → seen_before ok xs i < len ok xs
+  place-below ok i [] h = absurd cc
+  place-below ok zero (x ∷ xs) h = first (ok x) h (len ok xs)
+    where
+      first : (b : Bool) → b ≡ true → (n : ℕ) → 0 < one_more_if b n
+      first true e n = omega arith
+      first false e n = absurd cc
+  place-below ok (suc i) (x ∷ xs) h = next (ok x) (place-below ok i xs h)
+    where
+      next : (b : Bool) {m n : ℕ} → m < n → one_more_if b m < one_more_if b n
+      next true l = omega (arith, l)
+      next false l = l
+
+pub same-number : (p q : ℕ) → Some p ≡ Some q → p ≡ q
 same-number p q h = cc
 
-some-none : (p : ℕ) (o : Option ℕ) → Some p ≡ o → o ≡ None → ⊥
+pub some-none : (p : ℕ) (o : Option ℕ) → Some p ≡ o → o ≡ None → ⊥
 some-none p o h e = (let no : Some p ≡ None = h ∙ e in absurd cc)
 
 none-some : (p : ℕ) (o : Option ℕ) → None ≡ o → o ≡ Some p → ⊥

@@ -1,12 +1,13 @@
 -- Numbers as an operation has them, and new references at such numbers.
-use Rattle.std.proofs.Common.{◌≡◌, ◌≢◌, ℕ, ℤ, ◌-◌, ◌≤◌, Bool, true, false, ◌||◌, List, Option, Some, None, option_and_then, option_map, refl, sym, ◌∙◌, ap, subst, arith, true≢false}
+use Rattle.std.proofs.Common.{◌≡◌, ◌≢◌, ℕ, ℤ, ◌-◌, ◌<◌, ◌≤◌, Bool, true, false, ◌||◌, List, Option, Some, None, option_and_then, option_map, refl, sym, ◌∙◌, ap, subst, arith, true≢false}
 use Rattle.std.proofs.lemmas.Bool.Decides.{nat_tests}
+use Rattle.std.specs.Prelude.{IfSome}
 use Rattle.std.specs.Option.{option_and}
-use Rattle.ft_base.specs.Scan.{one_more_if}
+use Rattle.ft_base.specs.Scan.{len, one_more_if}
 use Rattle.ft_block.specs.declared.leaves.LenView.TheVariants.{Stage}
 use Rattle.ft_tree_leaves.specs.declared.references.Reference.{Reference}
 use Rattle.ft_tree_leaves.specs.Elements.{TreeElement, seen_in}
-use Rattle.ft_tree_leaves.specs.Places.{place_at}
+use Rattle.ft_tree_leaves.specs.Places.{place_at, seen_before}
 use Rattle.ft_tree_leaves.specs.References.{reference_place, reference_at}
 use Rattle.ft_op.specs.declared.operations.Ends.{Ends}
 use Rattle.ft_op.specs.declared.operations.TextOp.TheVariants.{IntervalChange}
@@ -18,7 +19,8 @@ use Rattle.ft_interval_store.specs.Numbers.{AreNumbers, IsNumber, number_of, num
 use Rattle.ft_interval_store.specs.Shown.{carried_end, last, number_at, numbers_at, regenerated, settled_end, shown_end, shown_place}
 use Rattle.ft_interval_store.proofs.AppliedEffect.{there}
 use Rattle.ft_interval_store.proofs.KeptEnds.{live-ends, place-same}
-use Rattle.ft_interval_store.proofs.Removals.{number-none, place-end}
+use Rattle.ft_interval_store.proofs.Removals.{number-none, place-below, place-end, same-number, some-none}
+use Rattle.ft_interval_store.proofs.SettledEnds.{settled-ok}
 
 module _ {U : Type 0} (xs : List (TreeElement U)) (k : ℕ) where
   number-at : (end number : Option ℕ) → IsNumber xs k end number → number_or_none number ≡ number_at xs k end
@@ -48,6 +50,14 @@ module _ {U : Type 0} (xs : List (TreeElement U)) (k : ℕ) where
   pub place-of-number : (end number : Option ℕ) → IsNumber xs k end number → option_and_then (λ p. place_at (seen_in (Stage k)) p xs) number ≡ end
   place-of-number end None n = sym (number-none xs k end n)
   place-of-number end (Some p) n = place-end xs k p end n
+
+  -- a number is one of an element that stage k sees
+  pub number-within : (end number : Option ℕ) → IsNumber xs k end number → IfSome number (λ p. p < len (seen_in (Stage k)) xs)
+  number-within end None n = tt
+  number-within None (Some p) n = absurd (some-none p (number_of xs k None) n.is refl)
+  number-within (Some i) (Some p) n =
+      let seen = seen_in (Stage k) in
+      subst (λ q. q < len seen xs) (sym (same-number p (seen_before seen xs i) n.is)) (place-below seen i xs (settled-ok seen i i xs n.seen))
 
 -- the number that is shown of a reference
 pub shown-number : {U : Type 0} (xs : List (TreeElement U)) (refs : References) (r : ℕ) (p : Option ℕ) (n : ℤ) → n ≡ number_or_none (number_of xs last p)

@@ -40,6 +40,10 @@ module _ {T : Type 0} where
   abbrev pub name_of : Interval T → Name
   name_of i = (i.label, i.id)
 
+  -- whether the interval is of that label
+  abbrev pub has_label : Characters → Interval T → Bool
+  has_label label i = is_eq (text_cmp label i.label)
+
   -- the order of intervals
   abbrev pub interval_cmp : Interval T → Interval T → Ordering
   interval_cmp a b = name_cmp (name_of a) (name_of b)

@@ -1,7 +1,8 @@
 //! The ends of intervals on a tree.
 
-ghost use Rattle.std.specs.Prelude.{◌≡◌, ℕ, None, IsTrue, IfOk, OnErr, OnOk, cond, false, option_map, true};
+ghost use Rattle.std.specs.Prelude.{◌≡◌, ◌<◌, ℕ, None, IsTrue, IfOk, OnErr, OnOk, cond, false, option_map, pos, true};
 ghost use Rattle.ft_block.specs.Leaves.{IsFromFloor};
+ghost use Rattle.ft_base.specs.Scan.{len};
 ghost use Rattle.ft_tree_leaves.specs.Elements.{seen_in};
 ghost use Rattle.ft_tree_leaves.specs.References.{reference_at, slid_reference};
 ghost use Rattle.ft_op.specs.Document.{given_ends_fit};
@@ -49,7 +50,7 @@ fn is_place(length: u64, position: i64) -> bool
 
 // Puts a pending reference on the element at that position of the view, none where the position is below 0.
 //
-// Returns `OutOfMemory` where there is no room for it, or no element, and then the tree may be used no more.
+// Returns `OutOfMemory` where there is no room for it, and then the tree may be used no more.
 fn add_end(
     tree: &mut Tree<TextContent>,
     position: i64,
@@ -57,6 +58,7 @@ fn add_end(
 ) -> Result<Option<RefId>, OutOfMemory>
     requires usable { IsTrue tree.old.usable }
     requires floor { IsFromFloor tree.old.floor view }
+    requires there { (p : ℕ) → position ≡ pos p → p < len (seen_in view) (text_elements tree.old) }
     ensures end { IfOk result (λ end. IsAddedEnd (place_of_position (seen_in view) (text_elements tree.old) position) tree.old.refs tree.new.refs end) }
     ensures rest { OnOk result (tree.new ≡ record tree.old { refs = tree.new.refs }) }
     ensures err { OnErr result (tree.new.usable ≡ false) }
@@ -69,7 +71,7 @@ fn add_end(
 
 /// Puts pending references on the elements at the given ends, if some are given.
 ///
-/// Returns `OutOfMemory` where there is no room for them, or no elements, and then the tree may be used no more.
+/// Returns `OutOfMemory` where there is no room for them, and then the tree may be used no more.
 pub fn add_ends(
     tree: &mut Tree<TextContent>,
     given: Option<Ends>,
@@ -77,6 +79,7 @@ pub fn add_ends(
 ) -> Result<EndPair<RefId>, OutOfMemory>
     requires usable { IsTrue tree.old.usable }
     requires floor { IsFromFloor tree.old.floor view }
+    requires fit { given_ends_fit (len (seen_in view) (text_elements tree.old)) given ≡ true }
     ensures ends { IfOk result (λ ends. AreAddedEnds (places_of_given (seen_in view) (text_elements tree.old) given) tree.old.refs tree.new.refs ends) }
     ensures rest { OnOk result (tree.new ≡ record tree.old { refs = tree.new.refs }) }
     ensures err { OnErr result (tree.new.usable ≡ false) }

@@ -1,6 +1,7 @@
 //! The ends of an operation as numbers among the elements that a stage sees.
 
-ghost use Rattle.std.specs.Prelude.{◌≡◌, ℕ, List, IsTrue, IfOk, OnErr, OnOk, false, option_and_then};
+ghost use Rattle.std.specs.Prelude.{◌≡◌, ◌<◌, ℕ, List, IsTrue, IfOk, IfSome, OnErr, OnOk, false, option_and_then};
+ghost use Rattle.ft_base.specs.Scan.{len};
 ghost use Rattle.ft_block.specs.Leaves.{IsFromFloor};
 ghost use Rattle.ft_tree_leaves.specs.Elements.{TreeElement, seen_in};
 ghost use Rattle.ft_tree_leaves.specs.Places.{place_at};
@@ -16,7 +17,7 @@ use ft_base::{Datum, OutOfMemory};
 use ft_block::LenView;
 use ft_op::{Ends, TextOp};
 use ft_refs::RefId;
-use ft_tree::{TextContent, Tree};
+use ft_tree::{TextContent, Tree, TreeFault};
 
 // The number at the stage of the element at the end, as it is settled there.
 fn settled_number(tree: &Tree<TextContent>, end: Option<RefId>, stage: u64) -> Option<u64>
@@ -111,7 +112,8 @@ pub fn add_numbers(
     numbers: &EndPair<u64>,
     stage: u64,
 ) -> Result<EndPair<RefId>, OutOfMemory>
-    requires { IsTrue tree.old.usable }
+    requires usable { IsTrue tree.old.usable }
+    requires there { (ends : EndPair ℕ) × AreNumbers (text_elements tree.old) stage ends numbers.now }
     ensures ends { (ends : EndPair ℕ) → AreNumbers (text_elements tree.old) stage ends numbers.now → IfOk result (AreAddedEnds ends tree.old.refs tree.new.refs) }
     ensures rest { OnOk result (tree.new ≡ record tree.old { refs = tree.new.refs }) }
     ensures err { OnErr result (tree.new.usable ≡ false) }
@@ -123,9 +125,9 @@ pub fn add_numbers(
     })
 }
 
-/// Puts a pending reference on the element that the view sees at this number, if there is one.
+/// Puts a pending reference on the element that the view sees at this number, if one is given.
 ///
-/// Returns `OutOfMemory` where there is no room for it, or no element, and then the tree may be used no more.
+/// Returns `OutOfMemory` where there is no room for it, and then the tree may be used no more.
 pub(crate) fn add_number(
     tree: &mut Tree<TextContent>,
     number: Option<u64>,
@@ -133,6 +135,7 @@ pub(crate) fn add_number(
 ) -> Result<Option<RefId>, OutOfMemory>
     requires usable { IsTrue tree.old.usable }
     requires floor { IsFromFloor tree.old.floor view }
+    requires there { IfSome number (λ p. p < len (seen_in view) (text_elements tree.old)) }
     ensures end { IfOk result (IsAddedEnd (option_and_then (λ p. place_at (seen_in view) p (text_elements tree.old)) number) tree.old.refs tree.new.refs) }
     ensures rest { OnOk result (tree.new ≡ record tree.old { refs = tree.new.refs }) }
     ensures err { OnErr result (tree.new.usable ≡ false) }
@@ -141,10 +144,8 @@ pub(crate) fn add_number(
         None => Ok(None),
         Some(p) => match tree.add_ref(p, view) {
             Ok(r) => Ok(Some(r)),
-            Err(_) => {
-                tree.spoil();
-                Err(OutOfMemory)
-            }
+            Err(TreeFault::OutOfMemory) => Err(OutOfMemory),
+            Err(TreeFault::OutOfRange { .. }) => unreachable!(),
         },
     }
 }

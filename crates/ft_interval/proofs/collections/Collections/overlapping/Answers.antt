@@ -5,6 +5,7 @@ use Rattle.ft_sumdoc.specs.declared.summary.IntervalRec.{IntervalRec}
 use Rattle.ft_sumdoc.specs.Meeting.{meets}
 use Rattle.ft_tree_leaves.specs.declared.text.TextContent.{TextContent}
 use Rattle.ft_tree.specs.State.{TreeState}
+use Rattle.ft_interval_store.specs.Intervals.{has_label}
 use Rattle.ft_interval_store.specs.Shown.{shown_intervals, shown_record}
 use Rattle.ft_interval_store.specs.State.{CollectionsState, ends_of_name, placed_intervals, placed_operations, text_elements}
 use Rattle.ft_interval_index.specs.declared.indexes.LabelIndex.{LabelIndex}
@@ -55,3 +56,10 @@ returns-clause-few g c =
     let label = c.args.label.now in
     let same = ap (held c.self.inside.store) c.deref.ensures.value ∙ c.self.view_is in
     subst (λ (x : IndexedState). length (list_in (index_of label x.indexes)).items ≤ length x.state.acked) same c.overlapping.ensures.few
+
+pub returns-clause-labelled : goal.returns-clause-labelled
+returns-clause-labelled g c =
+    let label = c.args.label.now in
+    let same = ap (held c.self.inside.store) c.deref.ensures.value ∙ c.self.view_is in
+    subst (λ (x : IndexedState). length (list_in (index_of label x.indexes)).items ≤ length (filter (has_label label) x.state.acked)) same
+    c.overlapping.ensures.labelled

@@ -10,6 +10,10 @@ use Rattle.ft_interval_store.specs.State.{CollectionsState, IsInOrder, IsLive, K
 use Rattle.ft_interval_store.proofs.AppliedEffect.{applied-in_order, applied-kept_once, applied-places, applied-references}
 use Rattle.ft_interval_store.proofs.store.Store.apply.Goals as goal
 
+pub add_ends-requires-clause-fit : goal.add_ends-requires-clause-fit
+add_ends-requires-clause-fit c =
+    sym (ap (λ n. given_ends_fit n c.given_ends-given.result) c.length.ensures) ∙ sym c.given_ends_fit.ensures ∙ c.if-not-given_ends_fit.false
+
 pub take_effect-requires-clause-kept : goal.take_effect-requires-clause-kept
 take_effect-requires-clause-kept c =
     let old : CollectionsState = record { acked = c.self.inside.acked; pending = c.self.inside.pending.items } in

@@ -26,6 +26,10 @@ returns-then-not-given_ends_fit-clause-refused c =
     c.given_ends_fit.ensures ∙ ap (λ n. given_ends_fit n c.given_ends-given.result) c.length-length.ensures ∙ ap (λ g. given_ends_fit (len seen xs) g) c.given_ends-given.ensures in
     (shown, sym fit ∙ c.if-not-given_ends_fit.true, c.length-length.ensures, (refl, refl))
 
+pub add_ends-requires-clause-fit : goal.add_ends-requires-clause-fit
+add_ends-requires-clause-fit c =
+    sym (ap (λ n. given_ends_fit n c.given_ends-given.result) c.length-length.ensures) ∙ sym c.given_ends_fit.ensures ∙ c.if-not-given_ends_fit.false
+
 pub invariant_of-self-2 : goal.invariant_of-self-2
 invariant_of-self-2 c =
     let old : CollectionsState = record { acked = c.self.inside.acked; pending = c.self.inside.pending.items } in

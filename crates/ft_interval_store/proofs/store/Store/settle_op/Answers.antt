@@ -32,6 +32,11 @@ settled_numbers-numbers-requires-clause-live c =
     record { found = found; view = c.self.view_is; order = c.self.invariant; live = c.requires.live } in
     subst (λ (t : Operation). AreLiveEnds c.args.tree.now.refs t.ends) (sym c.index.ensures) (settle-live stands)
 
+pub add_numbers-requires-clause-there : goal.add_numbers-requires-clause-there
+add_numbers-requires-clause-there c =
+    let f = map_ends (settled_end (text_elements c.args.tree.now) c.args.stage) in
+    (f (places_of_ends c.args.tree.now.refs c.index.result.now.ends), c.settled_numbers-numbers.ensures)
+
 pub drop_ends-requires-clause-live : goal.drop_ends-requires-clause-live
 drop_ends-requires-clause-live c =
     let ps = c.self.inside.pending.items in
