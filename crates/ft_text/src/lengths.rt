@@ -1,6 +1,6 @@
 //! Which operations fit, told by lengths alone.
 
-ghost use Rattle.std.specs.Prelude.{◌≡◌, ◌≢◌, ◌+◌, ◌≤◌, ℕ, Err, IfOk, IfErr, IfSome, IsTrue, OnOk, chars, is_ok, length, true};
+ghost use Rattle.std.specs.Prelude.{◌≡◌, ◌≢◌, ◌+◌, ◌<◌, ◌≤◌, ℕ, Err, IfOk, IfErr, IfSome, IsFalse, IsTrue, OnOk, chars, is_ok, length, true};
 ghost use Rattle.ft_base.specs.Scan.{len};
 ghost use Rattle.ft_block.specs.declared.leaves.LenView.TheVariants.{Stage as at_stage};
 ghost use Rattle.ft_interval_store.specs.State.{text_elements};
@@ -96,9 +96,10 @@ pub fn test_all(count: u64, ops: &[BaseOp]) -> Result<(), EditFault>
     Ok(())
 }
 
-/// Whether so many elements more may be made beside these.
+/// Whether so many elements more may be made beside these: exactly where they are at most 2^53 - 1 in all.
 pub fn have_room(made: u64, more: u64) -> bool
-    ensures { IsTrue result → made + more ≤ max_safe_integer }
+    ensures room { IsTrue result → made + more ≤ max_safe_integer }
+    ensures full { IsFalse result → max_safe_integer < made + more }
 {
     match made.checked_add(more) {
         Some(n) => n <= GREATEST_COUNT,
