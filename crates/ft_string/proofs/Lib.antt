@@ -34,6 +34,7 @@ pub mod SavedIntervals
 pub mod Appended
 pub mod ShownTexts
 pub mod CarriedIntervals
+mod FewNodes
 pub mod SoundTexts
 pub mod PutLast
 pub mod GivenProperties

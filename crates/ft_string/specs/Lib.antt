@@ -8,3 +8,4 @@ pub mod Rejoins
 pub mod Calls
 pub mod Inside
 pub mod Loads
+pub mod Sound

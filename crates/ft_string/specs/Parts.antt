@@ -39,6 +39,7 @@ state_of tree c ops given usable = record {
   floor = tree.floor;
   given = given;
   usable = usable;
+  tree = tree;
 }
 
 -- the tree may be used; the references that the intervals keep are live and marked, and there are no others

@@ -19,12 +19,17 @@ use Rattle.ft_tree.specs.State.{TreeState}
 use Rattle.ft_text.specs.Texts.{TextElements}
 use Rattle.ft_string.specs.declared.pending.PendingOp.{PendingOp}
 
+-- from where to where a piece is; an insertion is at one place
+abbrev pub piece_ends : Piece → ℕ × ℕ
+piece_ends (piece.Insert p) = (p, p)
+piece_ends (piece.Remove p q) = (p, q)
+piece_ends (piece.Annotate p q) = (p, q)
+
 -- the operation at the place of its piece
 abbrev pub piece_op : BaseOp → Piece → BaseOp
-piece_op (Insert p seg props) (piece.Insert q) = Insert q seg props
-piece_op (Remove p q) (piece.Remove a b) = Remove a b
-piece_op (Annotate p q changes) (piece.Annotate a b) = Annotate a b changes
-piece_op op _ = op
+piece_op (Insert p seg props) part = Insert (piece_ends part).0 seg props
+piece_op (Remove p q) part = Remove (piece_ends part).0 (piece_ends part).1
+piece_op (Annotate p q changes) part = Annotate (piece_ends part).0 (piece_ends part).1 changes
 
 -- the operations as which a pending one is sent again
 abbrev pub again_of : TextElements → PendingOp → List BaseOp

@@ -1,17 +1,26 @@
 -- What contracts see of a shared text. Its elements have no names: the ends of an interval, and of a pending operation on one,
 -- are places in the list of all elements.
 use Rattle.std.specs.Prelude.{◌≡◌, ℕ, Bool, List, None}
+use Rattle.std.specs.Ordering.{is_eq}
 use Rattle.ft_interval_store.specs.declared.intervals.EndPair.{EndPair}
 use Rattle.ft_interval_store.specs.declared.intervals.Interval.{Interval}
 use Rattle.ft_interval_store.specs.declared.pending.Operation.{Operation}
 use Rattle.ft_msg.specs.Indexed.{IndexedInterval, IndexedStage, PlacePair}
 use Rattle.ft_op.specs.Operation.{OnIntervals, OnText}
 use Rattle.ft_props.specs.Element.{NamelessElement}
+use Rattle.ft_props.specs.Keys.{Characters, text_cmp}
+use Rattle.ft_tree.specs.State.{TreeState}
+use Rattle.ft_tree_leaves.specs.declared.text.TextContent.{TextContent}
 use Rattle.ft_string.specs.declared.pending.PendingOp.{PendingOp}
+
+-- whether an interval is of that label
+abbrev pub has_label : Characters → IndexedInterval → Bool
+has_label label i = is_eq (text_cmp label i.label)
 
 -- the elements, removed ones included; how many were ever made; how deep a search for one goes; the acknowledged intervals; the
 -- pending stages on elements, and those on intervals; the floor; the greatest stage that was given since the last
--- normalisation, 0 where none was; and whether the text may still be used
+-- normalisation, 0 where none was; whether the text may still be used; and the tree that holds it, which tells the node of each leaf
+-- and the element of each reference
 pub record TextState : Type 0 where
   pub elements : List NamelessElement
   pub made : ℕ
@@ -22,6 +31,7 @@ pub record TextState : Type 0 where
   pub floor : ℕ
   pub given : ℕ
   pub usable : Bool
+  pub tree : TreeState TextContent
 
 -- two places as the definitions have them
 abbrev pub pair_of : EndPair ℕ → PlacePair

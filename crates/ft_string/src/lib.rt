@@ -14,6 +14,7 @@ mod moved;
 pub mod pending;
 mod rejoining;
 mod shown;
+pub mod soundness;
 pub mod strings;
 mod summaries;
 

@@ -6,11 +6,14 @@ ghost use Rattle.ft_op.specs.declared.operations.ChannelOp.TheVariants.{Text};
 ghost use Rattle.ft_op.specs.Document.{Document};
 ghost use Rattle.ft_op.specs.Pieces.{op_of, pieces};
 ghost use Rattle.ft_op.specs.Stages.{Stage};
+ghost use Rattle.ft_named.specs.Nodes.{KeepsNodes};
+ghost use Rattle.ft_rebase.specs.Spots.{KeepsSpots};
+ghost use Rattle.ft_tree_leaves.specs.TextLeaves.{text_units};
 ghost use Rattle.ft_interval.specs.State.{StandsOn};
 ghost use Rattle.ft_interval_store.specs.State.{text_elements};
 ghost use Rattle.ft_string.specs.Calls.{AreNext, HoldsAllGiven, HoldsGiven, HoldsRejoined, HoldsSomeGiven};
 ghost use Rattle.ft_string.specs.Holds.{IsTextSound};
-ghost use Rattle.ft_string.specs.Rejoins.{Gives, GivesOps, NextDue, again_of, due, has_any, has_piece, one_of, piece_op};
+ghost use Rattle.ft_string.specs.Rejoins.{Gives, GivesOps, NextDue, again_of, due, has_any, has_piece, one_of, piece_ends, piece_op};
 
 use crate::moved::push_behind_if;
 use crate::pending::PendingOp;
@@ -25,29 +28,34 @@ use ft_tree::{TextContent, Tree};
 use std::collections::VecDeque;
 use std::mem;
 
+// From where to where a piece is. An insertion is at one place.
+fn ends_of(piece: Piece) -> (u64, u64)
+    ensures { result ≡ piece_ends piece }
+{
+    match piece {
+        Piece::Insert { pos } => (pos, pos),
+        Piece::Remove { pos1, pos2 } => (pos1, pos2),
+        Piece::Annotate { pos1, pos2 } => (pos1, pos2),
+    }
+}
+
 // The piece as an operation: the original one at the places of now.
-//
-// Returns `OutOfMemory` where there is no room for it, or the piece is of another kind, as that of no pending operation is.
 fn operation_of(op: &BaseOp, piece: Piece) -> Result<BaseOp, OutOfMemory>
     ensures { IfOk result (λ again. again ≡ piece_op op.now piece) }
 {
-    match (op, piece) {
-        (BaseOp::Insert { seg, props, .. }, Piece::Insert { pos }) => Ok(BaseOp::Insert {
-            pos,
+    let (pos1, pos2) = ends_of(piece);
+    match op {
+        BaseOp::Insert { seg, props, .. } => Ok(BaseOp::Insert {
+            pos: pos1,
             seg: seg.copy()?,
             props: props.copy()?,
         }),
-        (BaseOp::Annotate { changes, .. }, Piece::Annotate { pos1, pos2 }) => {
-            Ok(BaseOp::Annotate {
-                pos1,
-                pos2,
-                changes: changes.copy()?,
-            })
-        }
-        (BaseOp::Remove { .. }, Piece::Remove { pos1, pos2 }) => {
-            Ok(BaseOp::Remove { pos1, pos2 })
-        }
-        _ => Err(OutOfMemory),
+        BaseOp::Remove { .. } => Ok(BaseOp::Remove { pos1, pos2 }),
+        BaseOp::Annotate { changes, .. } => Ok(BaseOp::Annotate {
+            pos1,
+            pos2,
+            changes: changes.copy()?,
+        }),
     }
 }
 
@@ -222,7 +230,8 @@ impl SharedString {
         Ok(op)
     }
 
-    /// Brings the text in order after all pending stages were given: it is as if they had been made afresh.
+    /// Brings the text in order after all pending stages were given: it is as if they had been made afresh. Each leaf whose
+    /// insertion is sequenced keeps its node, in the same order, and each reference its element.
     ///
     /// Returns `OutOfMemory` where there is no room for it, and then the text may be used no more.
     pub fn normalise(&mut self) -> Result<(), OutOfMemory>
@@ -234,6 +243,8 @@ impl SharedString {
         ensures floor { OnOk result (self.new.floor ≡ self.old.floor) }
         ensures usable { OnOk result (IsTrue self.new.usable) }
         ensures err { OnErr result (self.new.usable ≡ false) }
+        ensures nodes { OnOk result (KeepsNodes self.old.tree.leaves self.new.tree.leaves) }
+        ensures refs { OnOk result (KeepsSpots text_units self.old.tree self.new.tree) }
     {
         self.usable = false;
         normalise(&mut self.tree)?;

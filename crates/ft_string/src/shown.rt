@@ -13,6 +13,7 @@ ghost use Rattle.ft_sumdoc.specs.Meeting.{meets};
 ghost use Rattle.ft_text.specs.Shows.{KeepsOthers};
 ghost use Rattle.ft_string.specs.Calls.{ShowsText};
 ghost use Rattle.ft_string.specs.Holds.{HoldsText, IsTextSound};
+ghost use Rattle.ft_string.specs.State.{has_label};
 ghost use Rattle.ft_tree_leaves.specs.declared.text.TextContent.{TextContent};
 
 use crate::strings::SharedString;
@@ -82,6 +83,11 @@ impl SharedString {
         ensures cost { (last : ℕ) → (doc : Document) → (stages : List Stage) → IsTextSound last doc stages → HoldsText self.now doc stages
             → let k = length (filter (meets label.now a b) (map (interval_record last doc.text.items) (shown_intervals doc.text.items doc.intervals stages))) in
             ReadsFewNodes (length self.now.intervals) (k + length self.now.interval_ops) steps.old steps.new }
+
+        // The depth is that of an index of the label's intervals alone.
+        ensures labelled { (last : ℕ) → (doc : Document) → (stages : List Stage) → IsTextSound last doc stages → HoldsText self.now doc stages
+            → let k = length (filter (meets label.now a b) (map (interval_record last doc.text.items) (shown_intervals doc.text.items doc.intervals stages))) in
+            ReadsFewNodes (length (filter (has_label label.now) self.now.intervals)) (k + length self.now.interval_ops) steps.old steps.new }
     {
         // That ends are numbers, and that names rise, is read off these contracts.
         let _made = made_in(&self.tree);

@@ -1,6 +1,6 @@
 //! The shared text as its callers see it.
 
-ghost use Rattle.std.specs.Prelude.{◌≡◌, [], false, true};
+ghost use Rattle.std.specs.Prelude.{◌≡◌, [], None, false, true};
 ghost use Rattle.ft_op.specs.Document.{empty};
 
 use crate::pending::PendingOp;
@@ -42,7 +42,18 @@ impl SharedString {
 
     /// No elements, no intervals, and nothing pending.
     pub fn new(alloc: Global) -> SharedString
-        ensures value { result ≡ record { elements = []; made = 0; depth = 0; intervals = []; ops = []; interval_ops = []; floor = 0; given = 0; usable = true } }
+        ensures value { result ≡ record {
+          elements = [];
+          made = 0;
+          depth = 0;
+          intervals = [];
+          ops = [];
+          interval_ops = [];
+          floor = 0;
+          given = 0;
+          usable = true;
+          tree = record { leaves = []; refs = []; floor = 0; sweep = None; made = 0; depth = 0; usable = true };
+        } }
         ensures holds { HoldsText result empty [] }
     {
         SharedString {
