@@ -52,6 +52,7 @@ impl Intake {
         ensures call { Call (as_reader self.old limit None) (as_reader self.new limit (result_err result))
             (S.remaining src.old) (S.remaining src.new) (S.faults src.old) (S.faults src.new) result }
         ensures steady { OnOk result (S.faults src.new ≡ S.faults src.old) }
+        ensures kept { ¬ IsErrOf result LineFault.Read → S.faults src.new ≡ S.faults src.old }
     {
         let mut line = Line::Full(Bytes::new(alloc));
         loop {
@@ -82,6 +83,7 @@ impl Intake {
         ensures memory { IsErrOf result LineFault.OutOfMemory → ⊥ }
         ensures later { S.faults src.old ≤ S.faults src.new }
         ensures steady { OnOk result (S.faults src.new ≡ S.faults src.old) }
+        ensures kept { ¬ IsErrOf result LineFault.Read → S.faults src.new ≡ S.faults src.old }
     {
         if self.given > INPUT_LIMIT {
             return Err(LineFault::InputLimit);

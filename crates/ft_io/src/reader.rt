@@ -1,6 +1,6 @@
 //! The lines of what a source gives.
 
-ghost use Rattle.std.specs.Prelude.{◌≡◌, IfOk, IfSome, IsTrue, None, Ok, Err, OnOk};
+ghost use Rattle.std.specs.Prelude.{◌≡◌, IfOk, IfSome, IsTrue, None, Ok, Err, IsErrOf, OnOk};
 ghost use Rattle.ft_io.specs.Reader.{Call, new_reader};
 
 use crate::byte_lists::Bytes;
@@ -125,8 +125,7 @@ impl Lines {
     /// where the source gave a byte more than an input may have, both only where every line that was
     /// ended by the bytes given was handed out, and `OutOfMemory` where there is no room for the line.
     /// After any of the three every later call returns the same, and after the end every later call
-    /// returns that: the source is not read again. Where it returns a line or the end, the source's count is
-    /// as it was.
+    /// returns that: the source is not read again. Where it doesn't return `Read`, the source's count is as it was.
     pub fn next<S: Source>(&mut self, src: &mut S) -> Result<Line, LineFault>
         ensures call { self.old.fault ≡ None → Call self.old self.new (S.remaining src.old) (S.remaining src.new)
             (S.faults src.old) (S.faults src.new) result }
@@ -135,6 +134,7 @@ impl Lines {
         ensures ended { self.old.fault ≡ None → IsTrue self.old.ended →
             (result ≡ Ok Line.End) × (self.new ≡ self.old) × (src.new ≡ src.old) }
         ensures steady { OnOk result (S.faults src.new ≡ S.faults src.old) }
+        ensures kept { ¬ IsErrOf result LineFault.Read → S.faults src.new ≡ S.faults src.old }
     {
         if let Some(fault) = self.fault {
             return Err(fault);
