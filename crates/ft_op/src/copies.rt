@@ -175,16 +175,16 @@ fn is_set(op: &CellOp, row: u64, col: u64, value: &ValText) -> bool
     }
 }
 
-// A copy of an insertion.
-fn copy_insertion(pos: u64, seg: &Seg, props: &PropSet) -> Result<BaseOp, OutOfMemory>
+/// An insertion with copies of these parts.
+pub fn copy_insertion(pos: u64, seg: &Seg, props: &PropSet) -> Result<BaseOp, OutOfMemory>
     ensures { IfOk result (λ op. op ≡ BaseOp.Insert pos seg.now props.now) }
 {
     let (seg, props) = both(seg.copy(), props.copy())?;
     Ok(BaseOp::Insert { pos, seg, props })
 }
 
-// A copy of the addition of an interval.
-fn copy_interval_add(
+/// The addition of an interval with copies of these parts.
+pub fn copy_interval_add(
     label: &Text,
     id: &Text,
     ends: Ends,
@@ -201,8 +201,8 @@ fn copy_interval_add(
     })
 }
 
-// A copy of the change of an interval.
-fn copy_interval_change(
+/// The change of an interval with copies of these parts.
+pub fn copy_interval_change(
     label: &Text,
     id: &Text,
     ends: Option<Ends>,

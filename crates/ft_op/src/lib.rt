@@ -4,7 +4,7 @@
 #![tactic(auto)]
 
 mod adjustments;
-mod copies;
+pub mod copies;
 pub mod grid_reading;
 mod groups;
 mod interval_reading;
@@ -17,6 +17,7 @@ pub mod text_reading;
 pub mod well_formed;
 pub mod writing;
 
+pub use copies::{copy_insertion, copy_interval_add, copy_interval_change};
 pub use grid_reading::read_grid_op;
 pub use limits::SPLICE_LIMIT;
 pub use operations::{
@@ -24,5 +25,5 @@ pub use operations::{
 };
 pub use reading::is_object;
 pub use text_reading::read_text_op;
-pub use well_formed::{is_count, is_null, is_well_formed};
+pub use well_formed::{is_count, is_null, is_range, is_well_formed};
 pub use writing::write_op;

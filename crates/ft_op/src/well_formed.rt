@@ -176,8 +176,8 @@ fn are_bounds(min: Option<i64>, max: Option<i64>) -> bool
     }
 }
 
-// Whether the positions are in order, and in range.
-fn is_range(pos1: u64, pos2: u64) -> bool
+/// Whether the positions are in order, and in range.
+pub fn is_range(pos1: u64, pos2: u64) -> bool
     ensures { result ≡ is_range pos1 pos2 }
 {
     pos1 <= pos2 && is_count(pos2)
