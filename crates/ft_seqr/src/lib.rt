@@ -14,6 +14,7 @@ pub mod reading;
 pub mod refusals;
 pub mod same_message;
 pub mod sequencer;
+pub mod well_formed;
 pub mod writing;
 
 pub use answer_texts::{author_texts, origin_run_text, overlap_text};
@@ -24,4 +25,5 @@ pub use nacks::{LeaveFault, Nack, SubmitFault};
 pub use reading::read_event;
 pub use refusals::Refusal;
 pub use sequencer::Sequencer;
+pub use well_formed::is_well_formed_event;
 pub use writing::write_event;
