@@ -93,6 +93,10 @@ cleared_row row table r c = cond (nat_eq r row) empty_cell (table r c)
 abbrev pub cleared_col : ℕ → CellTable → ℕ → ℕ → CellState
 cleared_col col table r c = cond (nat_eq c col) empty_cell (table r c)
 
+-- by row, and then by column
+abbrev pub key_cmp : CellKey → CellKey → Ordering
+key_cmp x y = ordering_then (nat_cmp x.row y.row) (nat_cmp x.col y.col)
+
 -- whether the key names this row and this column
 abbrev pub is_key : ℕ → ℕ → CellKey → Bool
 is_key row col key = nat_eq key.row row && nat_eq key.col col

@@ -1,8 +1,9 @@
 //! Cells by pairs of handles.
 
 ghost use Rattle.std.specs.Prelude.{◌≡◌, ℕ, ◌<◌, All, IfOk, OnOk, OnErr, IsOk, option_copied};
+ghost use Rattle.std.specs.List.Sorted.{IsStrictlySortedBy};
 ghost use Rattle.ft_base.specs.Scan.{len, one_more_if};
-ghost use Rattle.ft_cells.specs.CellTables.{cell_at, changed_cell, cleared_col, cleared_row, empty_cell, holds_value, is_key};
+ghost use Rattle.ft_cells.specs.CellTables.{cell_at, changed_cell, cleared_col, cleared_row, empty_cell, holds_value, is_key, key_cmp};
 
 mod entries;
 
@@ -160,6 +161,7 @@ impl Cells {
     pub fn keys(&self) -> Result<Vec<CellKey>, OutOfMemory>
         ensures each_once { IfOk result (λ keys. (row col : ℕ)
             → len (is_key row col) keys.items ≡ one_more_if (holds_value (cell_at self.now row col)) 0) }
+        ensures rising { IfOk result (λ keys. IsStrictlySortedBy key_cmp keys.items) }
     {
         let mut keys = Vec::new(self.alloc);
         for (place, cell) in &self.cells {
