@@ -1,7 +1,7 @@
 //! The cells of a plain replica.
 
 ghost use Rattle.std.specs.Prelude.{◌≡◌, [], OnOk, OnErr, filter, not};
-ghost use Rattle.ft_op.specs.Cells.{is_cell, is_null, put_cell, write_cell};
+ghost use Rattle.ft_op.specs.Cells.{is_cell, put_cell, write_cell};
 ghost use Rattle.ft_plain_lists.specs.Places.{found_place};
 
 mod building;
@@ -13,6 +13,7 @@ use crate::moved::set_or_insert;
 use crate::names::ElementName;
 use ft_base::{Datum, OutOfMemory};
 use ft_json::ValText;
+use ft_op::is_null;
 use std::alloc::Global;
 use std::marker::Model;
 
@@ -103,13 +104,6 @@ impl PlainCells {
         let place = cell_place(self.items.as_slice(), cell.row, cell.col);
         set_or_insert(&mut self.items, place, cell)
     }
-}
-
-// Whether the value is null.
-fn is_null(value: &ValText) -> bool
-    ensures { result ≡ is_null value.now }
-{
-    value.as_str() == "null"
 }
 
 // The place of the cell of that row and column, or else, as an error, the one behind all.

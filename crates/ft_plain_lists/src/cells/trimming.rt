@@ -5,7 +5,7 @@ ghost use Rattle.ft_props.specs.Element.{has_sequenced_removal};
 ghost use Rattle.ft_op.specs.Cells.{is_null};
 ghost use Rattle.ft_plain_lists.specs.NameTables.{HasAnswers};
 
-use crate::cells::{PlainCell, PlainCells, is_null};
+use crate::cells::{PlainCell, PlainCells};
 use crate::copies::Copied;
 use crate::elements::PlainElement;
 use crate::moved::push_made;
@@ -13,6 +13,7 @@ use crate::name_tables::{NameTable, note_removals};
 use crate::names::ElementName;
 use ft_base::OutOfMemory;
 use ft_base::moved::{after, both};
+use ft_op::is_null;
 use std::alloc::Global;
 
 impl PlainCells {
