@@ -1,11 +1,12 @@
 -- Entries by rising number.
-use Rattle.std.proofs.Common.{◌≡◌, ◌≢◌, ℕ, zero, suc, ◌+◌, ◌-◌, ◌<◌, ◌≤◌, ◌%◌, ◌^◌, Bool, true, false, cond, not, ◌&&◌, nat_le, nat_eq, List, [], ◌∷◌, ◌++◌, take, drop, get_or, set}
+use Rattle.std.proofs.Common.{◌≡◌, ◌≢◌, ℕ, zero, suc, ◌+◌, ◌-◌, ◌<◌, ◌≤◌, ◌%◌, ◌^◌, Bool, true, false, cond, not, ◌&&◌, nat_le, nat_lt, nat_eq, List, [], ◌∷◌, ◌++◌, take, drop, get_or, set}
 use Rattle.std.proofs.Common.{length, filter, refl, sym, ◌∙◌, ap, subst, arith}
 use Rattle.std.specs.Prelude.{insert}
 use Rattle.std.proofs.Math.Seq.{drop-cons}
 use Rattle.std.proofs.lemmas.Bool.Decides.{nat_tests}
+use Rattle.ft_base.specs.Scan.{one_more_if}
 use Rattle.ft_partial.specs.declared.entries.Entry.{Entry}
-use Rattle.ft_partial.specs.Entries.{amount, is_for, counts, share, unseen, AreUpTo, AreFrom, IsRising, last_number, IsPlace, IsAlikeAt, AddsEntry, AddsEntries, DropsOld}
+use Rattle.ft_partial.specs.Entries.{amount, is_for, counts, share, unseen, old_count, AreUpTo, AreFrom, IsRising, last_number, IsPlace, IsAlikeAt, AddsEntry, AddsEntries, DropsOld}
 
 -- a default to read lists with
 abbrev pub no_entry : Entry
@@ -77,6 +78,34 @@ from_drop k (suc i) d (x ∷ xs) r h l = from_drop k i d xs r.1 (omega arith) l
 
 pub from_past : (k i : ℕ) (d : Entry) (xs : List Entry) → IsRising xs → i < length xs → k < (get_or xs i d).seq → AreFrom k (drop i xs)
 from_past k i d xs r h l = from_drop k i d xs r h (omega arith)
+
+-- among rising entries the i-th is up to the floor exactly where more than i are
+none_old : (k n : ℕ) (xs : List Entry) → k < n → AreFrom n xs → old_count k xs ≡ 0
+none_old k n [] h a = refl
+none_old k n (x ∷ xs) h a =
+    let young : nat_le x.seq k ≡ false = grind (arith, nat_tests, h, a.0) in
+    ap (λ b. one_more_if b (old_count k xs)) young ∙ none_old k n xs h a.1
+
+pub old_at : (k i : ℕ) (d : Entry) (xs : List Entry) → IsRising xs → i < length xs → nat_le (get_or xs i d).seq k ≡ nat_lt i (old_count k xs)
+old_at k i d [] r h = absurd (omega arith)
+old_at k i d (x ∷ xs) r h = by_head (λ j in_rest. old_at k j d xs r.1 in_rest) (nat_le x.seq k) refl
+  where
+    later : ((j : ℕ) → j < length xs → nat_le (get_or xs j d).seq k ≡ nat_lt j (old_count k xs)) → (b : Bool) (i : ℕ) → nat_le x.seq k ≡ b → i < suc (length xs)
+        → nat_le (get_or (x ∷ xs) i d).seq k ≡ nat_lt i (one_more_if b (old_count k xs))
+    later rest true zero e h = let some : nat_lt 0 (suc (old_count k xs)) ≡ true = grind (arith, nat_tests) in e ∙ sym some
+    later rest true (suc i) e h =
+        let here : nat_le (get_or xs i d).seq k ≡ nat_lt i (old_count k xs) = rest i (omega arith) in
+        let up : nat_lt (suc i) (suc (old_count k xs)) ≡ nat_lt i (old_count k xs) = grind (arith, nat_tests) in
+        here ∙ sym up
+    later rest false i e h =
+        let young : k < x.seq = grind (arith, nat_tests, e) in
+        let none : old_count k xs ≡ 0 = none_old k x.seq xs young r.0 in
+        let above : x.seq ≤ (get_or (x ∷ xs) i d).seq = from_at x.seq i d (x ∷ xs) (omega arith, r.0) h in
+        grind (arith, nat_tests, none, above, young)
+
+    by_head : ((j : ℕ) → j < length xs → nat_le (get_or xs j d).seq k ≡ nat_lt j (old_count k xs)) → (b : Bool) → nat_le x.seq k ≡ b
+        → nat_le (get_or (x ∷ xs) i d).seq k ≡ nat_lt i (one_more_if (nat_le x.seq k) (old_count k xs))
+    by_head rest b e = later rest b i e h ∙ ap (λ c. nat_lt i (one_more_if c (old_count k xs))) (sym e)
 
 -- nobody who has seen the number k counts entries up to it
 pub unseen_none : (r c : ℕ) (xs : List Entry) → AreUpTo r xs → unseen r c xs ≡ 0

@@ -1,6 +1,7 @@
 -- Entries: what those count besides who haven't seen a sequence number yet.
 --     unseen r c entries      what the perspective (r, c) counts of the entries
 use Rattle.std.specs.Prelude.{◌≡◌, ℕ, ◌+◌, ◌≤◌, ◌%◌, ◌^◌, Bool, not, ◌&&◌, cond, nat_le, nat_eq, List, [], ◌∷◌, take, drop, length, slice_index_or}
+use Rattle.ft_base.specs.Scan.{len}
 use Rattle.ft_partial.specs.declared.entries.Entry.{Entry}
 
 -- n where the test passes, else 0
@@ -23,6 +24,10 @@ share r c x = amount (counts r c x) x.by
 abbrev pub unseen : ℕ → ℕ → List Entry → ℕ
 unseen r c [] = 0
 unseen r c (x ∷ xs) = share r c x + unseen r c xs
+
+-- how many of the entries are up to the floor
+abbrev pub old_count : ℕ → List Entry → ℕ
+old_count floor xs = len (λ x. nat_le x.seq floor) xs
 
 -- no entry's number is above k
 abbrev pub AreUpTo : ℕ → List Entry → Type 0

@@ -2,8 +2,8 @@
 //!
 //! They stand by rising number, so that what is new to a perspective is read from the end back.
 
-ghost use Rattle.std.specs.Prelude.{◌≡◌, ◌+◌, ◌/◌, ◌≤◌, ◌<◌, ◌%◌, ◌^◌, [], ◌∷◌, take, true, IfSome, OnOk, OnErr, length, insert, vec_len, vec_capacity};
-ghost use Rattle.ft_partial.specs.Entries.{counts, share, unseen, last_number, AreUpTo, IsRising, IsPlace, IsAlikeAt, AddsEntry, AddsEntries, DropsOld};
+ghost use Rattle.std.specs.Prelude.{◌≡◌, ◌+◌, ◌/◌, ◌≤◌, ◌<◌, ◌%◌, ◌^◌, [], ◌∷◌, take, true, IfSome, OnOk, OnErr, length, insert, nat_lt, vec_len, vec_capacity};
+ghost use Rattle.ft_partial.specs.Entries.{counts, share, unseen, last_number, old_count, AreUpTo, IsRising, IsPlace, IsAlikeAt, AddsEntry, AddsEntries, DropsOld};
 
 use ft_base::{OutOfMemory, Perspective};
 
@@ -96,6 +96,7 @@ pub fn is_alike(x: &Entry, y: &Entry) -> bool
     ensures number { result ≡ true → x.now.seq ≡ y.now.seq }
     ensures conn { result ≡ true → x.now.conn ≡ y.now.conn }
     ensures own { result ≡ true → x.now.own ≡ y.now.own }
+    ensures all { x.now.seq ≡ y.now.seq → x.now.conn ≡ y.now.conn → x.now.own ≡ y.now.own → result ≡ true }
 {
     x.seq == y.seq && x.conn == y.conn && x.own == y.own
 }
@@ -225,11 +226,12 @@ pub fn add_entries(entries: &mut Vec<Entry>, more: &[Entry])
     }
 }
 
-/// Whether half of the entries or more are up to the floor.
+/// Whether more than half of the entries are up to the floor.
 #[inline]
 pub fn is_half_old(entries: &[Entry], floor: u64) -> bool
     requires { IsRising entries.now }
-    ensures { result ≡ true → AreUpTo floor (take (length entries.now / 2 + 1) entries.now) }
+    ensures old { result ≡ true → AreUpTo floor (take (length entries.now / 2 + 1) entries.now) }
+    ensures exact { result ≡ nat_lt (length entries.now / 2) (old_count floor entries.now) }
 {
     let middle = entries.len() / 2;
     middle < entries.len() && entries[middle].seq <= floor
