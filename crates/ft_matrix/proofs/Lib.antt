@@ -37,3 +37,4 @@ mod LoadedUnits
 mod LoadedCells
 mod LoadedGrids
 mod Depths
+pub mod ClientGrids

@@ -130,4 +130,6 @@ rebuilds-grid old new sound same vr vc rr rc = record {
   sound = rebuilt-sound old new sound same vr vc rr rc;
   floor = rr.floor;
   rebuilt = λ last doc stages numbers h its. rebuilt-held old new sound same vr vc rr rc last doc stages numbers h its;
+  rows_nodes = rr.nodes;
+  cols_nodes = rc.nodes;
 }

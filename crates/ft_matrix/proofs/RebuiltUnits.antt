@@ -22,6 +22,7 @@ use Rattle.ft_rebase.specs.Normalised.{carried_element, without_pending}
 use Rattle.ft_rebase.specs.Normalised.{rebuilt_list as tree_rebuilt}
 use Rattle.ft_rebase.specs.StageLists.{StagesUpTo, StandSideBySide, inserted_by, next_position, seen_by, seen_or_next, sequenced, with_stages}
 use Rattle.ft_rebase.proofs.NamedLists.{AreStagesOf, listed-stages}
+use Rattle.ft_named.specs.Nodes.{KeepsNodes}
 use Rattle.ft_named.proofs.RebuiltSteps.{beside-run, carried-alike, stamps_in}
 use Rattle.ft_matrix.specs.Rebuilt.{RebuildsUnits}
 use Rattle.ft_matrix.specs.Sound.{IsSoundVector, IsStaged, no_properties}
@@ -257,9 +258,9 @@ rebuilt-ok (Err x) old new f s same e u c m = tt
 
 pub rebuilds-ok : {A E : Type 0} (r : Result A E) (old new : VectorState) → new ≡ record old { tree = new.tree }
     → ((last : ℕ) → StagesUpTo stamps_in last (units_of old) → OnOk r (units_of new ≡ tree_rebuilt last (units_of old))) → OnOk r (KeepsRest old.tree new.tree)
-    → OnOk r (RebuildsUnits old new)
-rebuilds-ok (Ok x) old new same e k = record { units = e; used = λ h. ap (λ v. in_use v h) same; floor = k.floor }
-rebuilds-ok (Err x) old new same e k = tt
+    → OnOk r (KeepsNodes old.tree.leaves new.tree.leaves) → OnOk r (RebuildsUnits old new)
+rebuilds-ok (Ok x) old new same e k n = record { units = e; used = λ h. ap (λ v. in_use v h) same; floor = k.floor; nodes = n }
+rebuilds-ok (Err x) old new same e k n = tt
 
 -- ---- beside the document's list
 

@@ -1,5 +1,5 @@
 -- What a reconnection makes of a grid that holds the part of a document: what is sent of an edit, and the stages that go on.
-use Rattle.std.proofs.Common.{◌≡◌, ℕ, ◌≤◌, true, List, [], ◌∷◌, ◌++◌, Option, option_map, refl, sym, ◌∙◌, ap, subst, map, flat_map}
+use Rattle.std.proofs.Common.{◌≡◌, ℕ, true, List, [], ◌∷◌, ◌++◌, Option, option_map, refl, sym, ◌∙◌, ap, subst, map, flat_map}
 use Rattle.std.specs.List.{list_all}
 use Rattle.ft_op.specs.declared.operations.CellOp.{CellOp}
 use Rattle.ft_op.specs.declared.operations.ChannelOp.TheVariants.{Grid as OfGrid}
@@ -22,7 +22,7 @@ use Rattle.ft_matrix.specs.declared.stages.GridStage.{GridStage}
 use Rattle.ft_matrix.specs.Applied.{Holds}
 use Rattle.ft_matrix.specs.GridStates.{grid_state, shown_stage}
 use Rattle.ft_matrix.specs.HoldsGrid.{HoldsGrid}
-use Rattle.ft_matrix.specs.Resubmitted.{Resubmits, SendsAgain, stage_pieces}
+use Rattle.ft_matrix.specs.Resubmitted.{AreDue, Resubmits, SendsAgain, stage_pieces}
 use Rattle.ft_matrix.specs.Sound.{IsSound}
 use Rattle.ft_matrix.specs.Units.{units_of}
 use Rattle.ft_matrix.proofs.CompactedGrids.{grid_content}
@@ -48,10 +48,10 @@ module _ (last : ℕ) (old : Grid) (sound : IsSound old) (doc : Document) (stage
       same-operation : {o p : CellOp} → OnGrid o ≡ OnGrid p → o ≡ p
       same-operation f = cc f
 
-module _ (first count last : ℕ) (old new : Grid) (ops : List CellOp) (sound : IsSound old) (r : Resubmits first count old new ops) (some : 1 ≤ count) (doc : Document)
-    (before mine rest : List Stage) (h : Holds last old doc (before ++ (mine ++ rest))) (numbers : map (λ (t : Stage). t.stage) mine ≡ numbers_from first count) where
+module _ (first count last : ℕ) (old new : Grid) (ops : List CellOp) (sound : IsSound old) (r : Resubmits first count old new ops) (doc : Document)
+    (before mine rest : List Stage) (h : Holds last old doc (before ++ (mine ++ rest))) (due : AreDue first count before mine rest) where
   pub reconnected-held : HoldsGrid (grid_state new 0 true) doc (before ++ (flat_map (carried_stage doc) mine ++ rest))
-  reconnected-held = subst (HoldsGrid (grid_state new 0 true) doc) (edit-after first count last doc before mine rest some h.named.rise numbers)
+  reconnected-held = subst (HoldsGrid (grid_state new 0 true) doc) (edit-after first count doc before mine rest due)
       (resubmitted-held first count old new ops sound r last doc (before ++ (mine ++ rest)) h (same-sent last old sound doc (before ++ (mine ++ rest)) h))
 
   pub reconnected-sent : list_all is_grid_stage mine ≡ true → map (λ p. OnGrid p) ops ≡ flat_map (pieces doc) mine
@@ -59,23 +59,21 @@ module _ (first count last : ℕ) (old new : Grid) (ops : List CellOp) (sound : 
       ap (map (λ p. OnGrid p)) r.sent
       ∙ stages-sent first count doc old.rows old.cols (same-sent last old sound doc (before ++ (mine ++ rest)) h)
       (before ++ (mine ++ rest)) old.stages.items h.named.stages h.holds.stages
-      ∙ edit-sent first count last doc before mine rest some h.named.rise numbers all
+      ∙ edit-sent first count doc before mine rest due all
 
-pub sends-again : (first count : ℕ) (old new : Grid) (ops : List CellOp) (op : Option GridOp) → IsSound old → 1 ≤ count → Resubmits first count old new ops
+pub sends-again : (first count : ℕ) (old new : Grid) (ops : List CellOp) (op : Option GridOp) → IsSound old → Resubmits first count old new ops
     → option_map OfGrid op ≡ op_of (map (λ p. OnGrid p) ops) → SendsAgain first count old new op
-sends-again first count old new ops op sound some r e = record {
+sends-again first count old new ops op sound r e = record {
   sound = resubmitted-sound first count old new ops sound r;
   floor = ap (λ (x : Grid). x.rows.tree.floor) r.rest;
-  answer = λ last doc before mine rest h numbers all. e ∙ ap op_of (reconnected-sent first count last old new ops sound r some doc before mine rest h numbers all);
-  holds = λ last doc before mine rest h numbers. reconnected-held first count last old new ops sound r some doc before mine rest h numbers;
+  answer = λ last doc before mine rest h due all. e ∙ ap op_of (reconnected-sent first count last old new ops sound r doc before mine rest h due all);
+  holds = λ last doc before mine rest h due. reconnected-held first count last old new ops sound r doc before mine rest h due;
 }
 
 -- an edit of no stages changes nothing
-pub none-given : (first : ℕ) (doc : Document) (before mine rest : List Stage) → map (λ (t : Stage). t.stage) mine ≡ numbers_from first 0
-    → before ++ (mine ++ rest) ≡ before ++ (flat_map (carried_stage doc) mine ++ rest)
-none-given first doc before [] rest e = refl
-none-given first doc before (t ∷ mine) rest e = cc e
+pub none-given : (doc : Document) (before mine rest : List Stage) → mine ≡ [] → before ++ (mine ++ rest) ≡ before ++ (flat_map (carried_stage doc) mine ++ rest)
+none-given doc before mine rest e = ap (λ ts. before ++ (ts ++ rest)) e ∙ sym (ap (λ ts. before ++ (flat_map (carried_stage doc) ts ++ rest)) e)
 
-pub none-sent : (first : ℕ) (doc : Document) (mine : List Stage) → map (λ (t : Stage). t.stage) mine ≡ numbers_from first 0 → flat_map (pieces doc) mine ≡ []
-none-sent first doc [] e = refl
-none-sent first doc (t ∷ mine) e = cc e
+pub none-numbered : (first : ℕ) (mine : List Stage) → map (λ (t : Stage). t.stage) mine ≡ numbers_from first 0 → mine ≡ []
+none-numbered first [] e = refl
+none-numbered first (t ∷ mine) e = cc e

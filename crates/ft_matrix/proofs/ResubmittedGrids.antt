@@ -1,8 +1,9 @@
 -- A grid whose due stages were sent again: it stays sound, and holds the document with the stages that go on.
 use Rattle.std.proofs.Common.{◌≡◌, ℕ, zero, suc, ◌+◌, ◌≤◌, ◌<◌, Bool, true, false, cond, ◌&&◌, nat_le, nat_lt, List, [], ◌∷◌, ◌++◌, refl, sym, ◌∙◌, ap, subst, map, flat_map, arith, append_assoc, append-nil}
-use Rattle.std.specs.List.{list_all}
+use Rattle.std.specs.List.{AllByRecursion, list_all}
 use Rattle.ft_base.proofs.Booleans.{both}
 use Rattle.std.proofs.lemmas.Bool.Decides.{nat_tests}
+use Rattle.std.proofs.lemmas.List.Elements.{recursion_from_All}
 use Rattle.ft_base.proofs.ScanLaws.{retain_map-append}
 use Rattle.ft_op.specs.declared.operations.CellOp.{CellOp}
 use Rattle.ft_op.specs.Document.{Document}
@@ -25,9 +26,10 @@ use Rattle.ft_named.proofs.Lists.{map-append}
 use Rattle.ft_matrix.specs.declared.grid.Grid.{Grid}
 use Rattle.ft_matrix.specs.declared.stages.GridStage.{GridStage}
 use Rattle.ft_matrix.specs.Applied.{Holds}
+use Rattle.ft_matrix.specs.Conditions.{AreNext, AreWithin}
 use Rattle.ft_matrix.specs.GridStates.{grid_state, shown_stage}
 use Rattle.ft_matrix.specs.HoldsGrid.{HoldsGrid}
-use Rattle.ft_matrix.specs.Resubmitted.{Resubmits, due_pieces, is_due, kept_stage, stage_pieces, stages_after}
+use Rattle.ft_matrix.specs.Resubmitted.{AreDue, Resubmits, due_pieces, is_due, kept_stage, stage_pieces, stages_after}
 use Rattle.ft_matrix.specs.Sound.{IsSound, IsSoundVector, StagesRise, write_of, writes_to}
 use Rattle.ft_matrix.specs.Units.{acked_value, placed_cells, shown_units, unit_value, units_of}
 use Rattle.ft_matrix.proofs.Effects.{units}
@@ -137,28 +139,30 @@ mine-due first count k a b = rw (low, high) refl
     high : nat_lt k (first + count) ≡ true
     high = grind (arith, nat_tests)
 
-module _ {B : Type 0} (first count : ℕ) (due other : Stage → List B) where
-  -- what is made of a stage by whether it is due
-  abbrev by_due : Stage → List B
-  by_due t = cond (is_due first count t.stage) (due t) (other t)
+module _ (first count : ℕ) where
+  abbrev AreDueStages : List Stage → Type 0
+  AreDueStages ts = AllByRecursion (λ (t : Stage). is_due first count t.stage ≡ true) ts
 
-  flat-same : (low last : ℕ) (rest : List Stage) → first + count ≤ low + 1 → RiseTo low last rest → flat_map by_due rest ≡ flat_map other rest
-  flat-same low last [] l r = refl
-  flat-same low last (t ∷ rest) l r =
-      ap (λ b. cond b (due t) (other t) ++ flat_map by_due rest) (behind-due first count t.stage (let up = r.0 in omega (arith, l, up)))
-      ∙ ap (λ bs. other t ++ bs) (flat-same t.stage last rest (let up = r.0 in omega (arith, l, up)) r.1)
+  abbrev AreOtherStages : List Stage → Type 0
+  AreOtherStages ts = AllByRecursion (λ (t : Stage). is_due first count t.stage ≡ false) ts
 
-  flat-run : (low last f n : ℕ) (mine rest : List Stage) → first ≤ f → f + n ≡ first + count → (n ≡ 0 → f ≤ low + 1) → RiseTo low last (mine ++ rest)
-      → map (λ (t : Stage). t.stage) mine ≡ numbers_from f n → flat_map by_due (mine ++ rest) ≡ flat_map due mine ++ flat_map other rest
-  flat-run low last f zero [] rest a e z r m = flat-same low last rest (let u = z refl in omega (arith, e, u)) r
-  flat-run low last f (suc n) [] rest a e z r m = cc m
-  flat-run low last f zero (t ∷ mine) rest a e z r m = cc m
-  flat-run low last f (suc n) (t ∷ mine) rest a e z r m =
+  -- ---- by the numbers of all stages of the edit
+
+  others-behind : (low last : ℕ) (rest : List Stage) → first + count ≤ low + 1 → RiseTo low last rest → AreOtherStages rest
+  others-behind low last [] l r = tt
+  others-behind low last (t ∷ rest) l r =
+      (behind-due first count t.stage (let up = r.0 in omega (arith, l, up)), others-behind t.stage last rest (let up = r.0 in omega (arith, l, up)) r.1)
+
+  due-run : (low last f n : ℕ) (mine rest : List Stage) → first ≤ f → f + n ≡ first + count → (n ≡ 0 → f ≤ low + 1) → RiseTo low last (mine ++ rest)
+      → map (λ (t : Stage). t.stage) mine ≡ numbers_from f n → AreDueStages mine × AreOtherStages rest
+  due-run low last f zero [] rest a e z r m = (tt, others-behind low last rest (let u = z refl in omega (arith, e, u)) r)
+  due-run low last f (suc n) [] rest a e z r m = cc m
+  due-run low last f zero (t ∷ mine) rest a e z r m = cc m
+  due-run low last f (suc n) (t ∷ mine) rest a e z r m =
       let here : t.stage ≡ f = cc m in
       let others : map (λ (u : Stage). u.stage) mine ≡ numbers_from (f + 1) n = cc m in
-      ap (λ b. cond b (due t) (other t) ++ flat_map by_due (mine ++ rest)) (mine-due first count t.stage (omega (arith, here, a)) (omega (arith, here, e)))
-      ∙ ap (λ bs. due t ++ bs) (flat-run t.stage last (f + 1) n mine rest (omega (arith, a)) (omega (arith, e)) (λ q. omega (arith, here)) r.1 others)
-      ∙ sym (append_assoc (due t) (flat_map due mine) (flat_map other rest))
+      let more = due-run t.stage last (f + 1) n mine rest (omega (arith, a)) (omega (arith, e)) (λ q. omega (arith, here)) r.1 others in
+      ((mine-due first count t.stage (omega (arith, here, a)) (omega (arith, here, e)), more.0), more.1)
 
   -- the first of them is above all before it
   first-above : (low last n : ℕ) (before mine rest : List Stage) → 1 ≤ n → RiseTo low last (before ++ (mine ++ rest))
@@ -169,15 +173,73 @@ module _ {B : Type 0} (first count : ℕ) (due other : Stage → List B) where
   first-above low last (suc n) (t ∷ before) mine rest l r m =
       let up = r.0 in let above = first-above t.stage last (suc n) before mine rest l r.1 m in omega (arith, up, above)
 
-  pub flat-due : (low last : ℕ) (before mine rest : List Stage) → 1 ≤ count → RiseTo low last (before ++ (mine ++ rest))
-      → map (λ (t : Stage). t.stage) mine ≡ numbers_from first count
+  numbers-from : (low last : ℕ) (before mine rest : List Stage) → 1 ≤ count → RiseTo low last (before ++ (mine ++ rest))
+      → map (λ (t : Stage). t.stage) mine ≡ numbers_from first count → AreDue first count before mine rest
+  numbers-from low last [] mine rest l r m =
+      let d = due-run low last first count mine rest (omega arith) refl (λ q. absurd (omega (arith, q, l))) r m in
+      record { front = tt; due = d.0; behind = d.1 }
+  numbers-from low last (t ∷ before) mine rest l r m =
+      let d = numbers-from t.stage last before mine rest l r.1 m in
+      record { front = (before-due first count t.stage (first-above t.stage last count before mine rest l r.1 m), d.front); due = d.due; behind = d.behind }
+
+  pub numbers-due : (last : ℕ) (before mine rest : List Stage) → 1 ≤ count → RiseTo 0 last (before ++ (mine ++ rest))
+      → map (λ (t : Stage). t.stage) mine ≡ numbers_from first count → AreDue first count before mine rest
+  numbers-due last before mine rest l r m = numbers-from 0 last before mine rest l r m
+
+  -- ---- by their range
+
+  weaker : {P Q : Stage → Type 0} → ((t : Stage) → P t → Q t) → (ts : List Stage) → AllByRecursion P ts → AllByRecursion Q ts
+  weaker f [] h = tt
+  weaker f (t ∷ ts) h = (f t h.0, weaker f ts h.1)
+
+  pub next-due : (before mine rest : List Stage) → AreNext first (first + count) before mine rest → AreDue first count before mine rest
+  next-due before mine rest n = record {
+    front = weaker (λ t l. before-due first count t.stage l) before (recursion_from_All (λ (t : Stage). t.stage < first) before n.front);
+    due = weaker (λ t w. mine-due first count t.stage w.0 w.1) mine
+        (recursion_from_All (λ (t : Stage). (first ≤ t.stage) × (t.stage < first + count) × (is_grid_stage t ≡ true)) mine n.within);
+    behind = weaker (λ t l. behind-due first count t.stage l) rest (recursion_from_All (λ (t : Stage). first + count ≤ t.stage) rest n.behind);
+  }
+
+  pub within-grid : (mine : List Stage) → AreWithin first (first + count) mine → list_all is_grid_stage mine ≡ true
+  within-grid mine w = all mine (recursion_from_All (λ (t : Stage). (first ≤ t.stage) × (t.stage < first + count) × (is_grid_stage t ≡ true)) mine w)
+    where
+      all : (ts : List Stage) → AllByRecursion (λ (t : Stage). (first ≤ t.stage) × (t.stage < first + count) × (is_grid_stage t ≡ true)) ts → list_all is_grid_stage ts ≡ true
+      all [] h = refl
+      all (t ∷ ts) h = rw (h.0.2, all ts h.1) refl
+
+  pub none-within : (mine : List Stage) → count ≡ 0 → AreWithin first (first + count) mine → mine ≡ []
+  none-within mine e w = by mine (recursion_from_All (λ (t : Stage). (first ≤ t.stage) × (t.stage < first + count) × (is_grid_stage t ≡ true)) mine w)
+    where
+      by : (ts : List Stage) → AllByRecursion (λ (t : Stage). (first ≤ t.stage) × (t.stage < first + count) × (is_grid_stage t ≡ true)) ts → ts ≡ []
+      by [] h = refl
+      by (t ∷ ts) h = (let low = h.0.0 in let high = h.0.1 in absurd (omega (arith, e, low, high)))
+
+module _ {B : Type 0} (first count : ℕ) (due other : Stage → List B) where
+  -- what is made of a stage by whether it is due
+  abbrev by_due : Stage → List B
+  by_due t = cond (is_due first count t.stage) (due t) (other t)
+
+  flat-behind : (rest : List Stage) → AreOtherStages first count rest → flat_map by_due rest ≡ flat_map other rest
+  flat-behind [] d = refl
+  flat-behind (t ∷ rest) d = ap (λ b. cond b (due t) (other t) ++ flat_map by_due rest) d.0 ∙ ap (λ bs. other t ++ bs) (flat-behind rest d.1)
+
+  flat-mine : (mine rest : List Stage) → AreDueStages first count mine → AreOtherStages first count rest
+      → flat_map by_due (mine ++ rest) ≡ flat_map due mine ++ flat_map other rest
+  flat-mine [] rest d b = flat-behind rest b
+  flat-mine (t ∷ mine) rest d b =
+      ap (λ c. cond c (due t) (other t) ++ flat_map by_due (mine ++ rest)) d.0 ∙ ap (λ bs. due t ++ bs) (flat-mine mine rest d.1 b)
+      ∙ sym (append_assoc (due t) (flat_map due mine) (flat_map other rest))
+
+  flat-parts : (before mine rest : List Stage) → AreOtherStages first count before → AreDueStages first count mine → AreOtherStages first count rest
       → flat_map by_due (before ++ (mine ++ rest)) ≡ flat_map other before ++ (flat_map due mine ++ flat_map other rest)
-  flat-due low last [] mine rest l r m = flat-run low last first count mine rest (omega arith) refl (λ q. absurd (omega (arith, q, l))) r m
-  flat-due low last (t ∷ before) mine rest l r m =
-      ap (λ b. cond b (due t) (other t) ++ flat_map by_due (before ++ (mine ++ rest)))
-      (before-due first count t.stage (first-above t.stage last count before mine rest l r.1 m))
-      ∙ ap (λ bs. other t ++ bs) (flat-due t.stage last before mine rest l r.1 m)
+  flat-parts [] mine rest f d b = flat-mine mine rest d b
+  flat-parts (t ∷ before) mine rest f d b =
+      ap (λ c. cond c (due t) (other t) ++ flat_map by_due (before ++ (mine ++ rest))) f.0 ∙ ap (λ bs. other t ++ bs) (flat-parts before mine rest f.1 d b)
       ∙ sym (append_assoc (other t) (flat_map other before) (flat_map due mine ++ flat_map other rest))
+
+  pub flat-due : (before mine rest : List Stage) → AreDue first count before mine rest
+      → flat_map by_due (before ++ (mine ++ rest)) ≡ flat_map other before ++ (flat_map due mine ++ flat_map other rest)
+  flat-due before mine rest d = flat-parts before mine rest d.front d.due d.behind
 
 flat-itself : (ts : List Stage) → flat_map (λ t. t ∷ []) ts ≡ ts
 flat-itself [] = refl
@@ -192,11 +254,10 @@ flat-nothing [] = refl
 flat-nothing (t ∷ ts) = flat-nothing ts
 
 -- the stages after an edit was given, and what is sent of it
-pub edit-after : (first count last : ℕ) (doc : Document) (before mine rest : List Stage) → 1 ≤ count → RiseTo 0 last (before ++ (mine ++ rest))
-    → map (λ (t : Stage). t.stage) mine ≡ numbers_from first count
+pub edit-after : (first count : ℕ) (doc : Document) (before mine rest : List Stage) → AreDue first count before mine rest
     → flat_map (after_stage first count doc) (before ++ (mine ++ rest)) ≡ before ++ (flat_map (carried_stage doc) mine ++ rest)
-edit-after first count last doc before mine rest l r m =
-    flat-due first count (carried_stage doc) (λ t. t ∷ []) 0 last before mine rest l r m
+edit-after first count doc before mine rest d =
+    flat-due first count (carried_stage doc) (λ t. t ∷ []) before mine rest d
     ∙ ap (λ ts. ts ++ (flat_map (carried_stage doc) mine ++ flat_map (λ t. t ∷ []) rest)) (flat-itself before)
     ∙ ap (λ ts. before ++ (flat_map (carried_stage doc) mine ++ ts)) (flat-itself rest)
 
@@ -341,10 +402,9 @@ grid-all doc (t ∷ mine) h =
     let p = both (is_grid_stage t) (list_all is_grid_stage mine) h in
     ap (λ b. cond b (pieces doc t) [] ++ flat_map (grid_sent doc) mine) p.0 ∙ ap (λ ps. pieces doc t ++ ps) (grid-all doc mine p.1)
 
-pub edit-sent : (first count last : ℕ) (doc : Document) (before mine rest : List Stage) → 1 ≤ count → RiseTo 0 last (before ++ (mine ++ rest))
-    → map (λ (t : Stage). t.stage) mine ≡ numbers_from first count → list_all is_grid_stage mine ≡ true
+pub edit-sent : (first count : ℕ) (doc : Document) (before mine rest : List Stage) → AreDue first count before mine rest → list_all is_grid_stage mine ≡ true
     → flat_map (λ t. cond (is_due first count t.stage) (grid_sent doc t) []) (before ++ (mine ++ rest)) ≡ flat_map (pieces doc) mine
-edit-sent first count last doc before mine rest l r m g =
-    flat-due first count (grid_sent doc) none_of 0 last before mine rest l r m
+edit-sent first count doc before mine rest d g =
+    flat-due first count (grid_sent doc) none_of before mine rest d
     ∙ ap (λ ps. ps ++ (flat_map (grid_sent doc) mine ++ flat_map none_of rest)) (flat-nothing before)
     ∙ ap (λ ps. flat_map (grid_sent doc) mine ++ ps) (flat-nothing rest) ∙ append-nil (flat_map (grid_sent doc) mine) ∙ grid-all doc mine g

@@ -9,6 +9,7 @@ use Rattle.ft_props.specs.Steps.{is_inserted_by}
 use Rattle.ft_op.specs.Document.{Document}
 use Rattle.ft_op.specs.Stages.{Stage}
 use Rattle.ft_msg.specs.Compacted.{stage_holds_col, stage_holds_row}
+use Rattle.ft_laws_agreement.specs.Sequencing.{is_grid_stage}
 use Rattle.ft_laws_names.specs.WellNamed.{AreWellNamed}
 use Rattle.ft_laws_names.specs.GridFacts.{AreFreeFrom, is_unit_below}
 use Rattle.ft_matrix.specs.GridStates.{GridState}
@@ -21,6 +22,16 @@ pub record IsAboveAll (stage : ℕ) (s : GridState) : Type 0 where
   pub rows : All (λ e. is_unit_below stage e ≡ true) s.rows
   pub cols : All (λ e. is_unit_below stage e ≡ true) s.cols
   pub stages : All (λ t. t.stage < stage) s.stages
+
+-- the stages are on the grid, from `first` up to before `end`
+abbrev pub AreWithin : ℕ → ℕ → List Stage → Type 0
+AreWithin first end ts = All (λ t. (first ≤ t.stage) × (t.stage < end) × (is_grid_stage t ≡ true)) ts
+
+-- those that are left of the stages of an edit, `mine`, those in front of them, and those behind
+pub record AreNext (first end : ℕ) (before mine rest : List Stage) : Type 0 where
+  pub front : All (λ t. t.stage < first) before
+  pub within : AreWithin first end mine
+  pub behind : All (λ t. end ≤ t.stage) rest
 
 -- ---- messages
 

@@ -6,15 +6,17 @@ use Rattle.ft_op.specs.declared.operations.Target.TheVariants.{Rows, Cols}
 use Rattle.ft_props.specs.Element.{NamelessElement}
 use Rattle.ft_op.specs.Operation.{OnGrid}
 use Rattle.ft_msg.specs.Indexed.{IndexedStage}
+use Rattle.ft_perm.specs.Handles.{HandleRun}
 use Rattle.ft_perm.specs.Vectors.{VectorState}
+use Rattle.ft_tree.specs.State.{TreeState}
 use Rattle.ft_matrix.specs.declared.grid.Grid.{Grid}
 use Rattle.ft_matrix.specs.declared.stages.GridStage.{GridStage}
 use Rattle.ft_matrix.specs.Units.{place_of_handle, placed_cells, shown_units, unit_value, units_of}
 
 -- the rows and the columns, removed ones included; how many of each were ever sequenced; the acknowledged cells by places in
 -- these lists; the pending stages of the grid; the floor; how deep a search in the rows and in the columns goes; the greatest
--- stage given since the last normalising, 0 where none was; and whether it may still be used: after OutOfMemory in a call
--- that changes it, it may not, for good
+-- stage given since the last normalising, 0 where none was; whether it may still be used: after OutOfMemory in a call that changes
+-- it, it may not, for good; and the trees of rows and columns, which tell the node of each leaf
 pub record GridState : Type 0 where
   pub rows : List NamelessElement
   pub cols : List NamelessElement
@@ -27,6 +29,8 @@ pub record GridState : Type 0 where
   pub cols_depth : ℕ
   pub given : ℕ
   pub usable : Bool
+  pub rows_tree : TreeState HandleRun
+  pub cols_tree : TreeState HandleRun
 
 -- how deep a search goes in the list that a splice is for
 abbrev pub depth_of : Target → GridState → ℕ
@@ -55,4 +59,6 @@ grid_state g given usable = record {
   cols_depth = g.cols.tree.depth;
   given = given;
   usable = usable;
+  rows_tree = g.rows.tree;
+  cols_tree = g.cols.tree;
 }

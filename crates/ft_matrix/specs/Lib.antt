@@ -16,3 +16,4 @@ pub mod Shown
 pub mod Seen
 pub mod SavedUnits
 pub mod Loaded
+pub mod ClientGrids

@@ -3,6 +3,7 @@ use Rattle.std.specs.Prelude.{◌≡◌, ℕ, List, true}
 use Rattle.ft_op.specs.Document.{Document}
 use Rattle.ft_op.specs.Stages.{Stage}
 use Rattle.ft_msg.specs.Reconnection.{rebuilt_document}
+use Rattle.ft_named.specs.Nodes.{KeepsNodes}
 use Rattle.ft_rebase.specs.Normalised.{rebuilt_list}
 use Rattle.ft_rebase.specs.StageLists.{StagesUpTo}
 use Rattle.ft_perm.specs.Vectors.{VectorState, in_use}
@@ -19,6 +20,7 @@ pub record RebuildsUnits (old new : VectorState) : Type 0 where
   pub units : (last : ℕ) → StagesUpTo (λ e. e.stamps) last (units_of old) → units_of new ≡ rebuilt_list last (units_of old)
   pub used : (h : ℕ) → in_use new h ≡ in_use old h
   pub floor : new.tree.floor ≡ old.tree.floor
+  pub nodes : KeepsNodes old.tree.leaves new.tree.leaves
 
 -- those of rows and of columns are
 pub record RebuildsGrid (old new : Grid) : Type 0 where
@@ -26,3 +28,5 @@ pub record RebuildsGrid (old new : Grid) : Type 0 where
   pub floor : new.rows.tree.floor ≡ old.rows.tree.floor
   pub rebuilt : (last : ℕ) (doc : Document) (stages : List Stage) (numbers : List ℕ) → Holds last old doc stages → AreItsStages last numbers doc
       → HoldsGrid (grid_state new 0 true) (rebuilt_document numbers doc) stages
+  pub rows_nodes : KeepsNodes old.rows.tree.leaves new.rows.tree.leaves
+  pub cols_nodes : KeepsNodes old.cols.tree.leaves new.cols.tree.leaves

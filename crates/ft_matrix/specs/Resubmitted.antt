@@ -1,6 +1,6 @@
 -- What is sent again of a pending stage of the grid, told by the units of rows and columns. No public clause cites this module.
 use Rattle.std.specs.Prelude.{◌≡◌, ℕ, ◌+◌, ◌-◌, ◌++◌, Bool, true, false, cond, remove, ◌&&◌, nat_eq, nat_le, nat_lt, List, [], ◌∷◌, Option, Some, None, flat_map, map, option_and_then, slice_get}
-use Rattle.std.specs.List.{list_all, list_any}
+use Rattle.std.specs.List.{AllByRecursion, list_all, list_any}
 use Rattle.std.specs.Option.{option_map}
 use Rattle.ft_base.specs.Scan.{rank}
 use Rattle.ft_block.specs.declared.leaves.LenView.TheVariants.{Stage}
@@ -21,7 +21,6 @@ use Rattle.ft_rebase.specs.Pieces.{is_inserted_by, marked_runs}
 use Rattle.ft_rebase.specs.declared.marks.PendingMark.TheVariants.{Removal}
 use Rattle.ft_rebase.specs.declared.pieces.Piece.{Piece}
 use Rattle.ft_rebase.specs.declared.pieces.Piece.TheVariants.{Insert, Remove}
-use Rattle.ft_perm.specs.Handles.{numbers_from}
 use Rattle.ft_laws_agreement.specs.Sequencing.{is_grid_stage}
 use Rattle.ft_cells.specs.CellTables.{cell_at, without_write}
 use Rattle.ft_matrix.specs.declared.grid.Grid.{Grid}
@@ -133,11 +132,17 @@ pub record Resubmits (first count : ℕ) (old new : Grid) (ops : List CellOp) : 
   pub cells : (r c : ℕ) → cell_at new.cells r c ≡ record (cell_at old.cells r c) { pending = writes_to r c new.stages.items }
   pub rest : new ≡ record old { stages = new.stages; cells = new.cells }
 
+-- of these stages just those in the middle are due
+pub record AreDue (first count : ℕ) (before mine rest : List Named) : Type 0 where
+  pub front : AllByRecursion (λ t. is_due first count t.stage ≡ false) before
+  pub due : AllByRecursion (λ t. is_due first count t.stage ≡ true) mine
+  pub behind : AllByRecursion (λ t. is_due first count t.stage ≡ false) rest
+
 -- an edit is sent again as this operation, where any of it is left, and those of its stages of which nothing is left are gone
 pub record SendsAgain (first count : ℕ) (old new : Grid) (op : Option GridOp) : Type 0 where
   pub sound : IsSound new
   pub floor : new.rows.tree.floor ≡ old.rows.tree.floor
   pub answer : (last : ℕ) (doc : Document) (before mine rest : List Named) → Holds last old doc (before ++ (mine ++ rest))
-      → map (λ t. t.stage) mine ≡ numbers_from first count → list_all is_grid_stage mine ≡ true → option_map OfGrid op ≡ op_of (flat_map (pieces doc) mine)
+      → AreDue first count before mine rest → list_all is_grid_stage mine ≡ true → option_map OfGrid op ≡ op_of (flat_map (pieces doc) mine)
   pub holds : (last : ℕ) (doc : Document) (before mine rest : List Named) → Holds last old doc (before ++ (mine ++ rest))
-      → map (λ t. t.stage) mine ≡ numbers_from first count → HoldsGrid (grid_state new 0 true) doc (before ++ (flat_map (carried_stage doc) mine ++ rest))
+      → AreDue first count before mine rest → HoldsGrid (grid_state new 0 true) doc (before ++ (flat_map (carried_stage doc) mine ++ rest))

@@ -14,6 +14,7 @@ mod own_edits;
 mod reconnection;
 mod saved;
 mod seen;
+pub mod soundness;
 mod splices;
 mod stages;
 mod summaries;

@@ -5,7 +5,7 @@ ghost use Rattle.std.specs.List.{list_all};
 ghost use Rattle.ft_laws_agreement.specs.Sequencing.{is_grid_stage};
 ghost use Rattle.ft_laws_names.specs.GridFacts.{AreCounted};
 ghost use Rattle.ft_laws_names.specs.WellNamed.{AreWellNamed};
-ghost use Rattle.ft_matrix.specs.Conditions.{AnswersEdit, AreFreeUnits, AreItsStages, HasNoTombstone, HoldsKept, IsAboveAll, KeepsRest, TakesOp};
+ghost use Rattle.ft_matrix.specs.Conditions.{AnswersEdit, AreFreeUnits, AreItsStages, AreNext, HasNoTombstone, HoldsKept, IsAboveAll, KeepsRest, TakesOp};
 ghost use Rattle.ft_matrix.specs.GridStates.{depth_of};
 ghost use Rattle.ft_matrix.specs.HoldsGrid.{HoldsGrid};
 ghost use Rattle.ft_matrix.specs.Shown.{HasNoUnits, with_grid, with_units};
@@ -22,6 +22,7 @@ ghost use Rattle.ft_op.specs.declared.operations.CellOp.{CellOp};
 ghost use Rattle.ft_op.specs.declared.operations.ChannelOp.{ChannelOp};
 ghost use Rattle.ft_op.specs.declared.operations.GridOp.{GridOp};
 ghost use Rattle.ft_op.specs.declared.operations.Target.{Target};
+ghost use Rattle.ft_named.specs.Nodes.{KeepsNodes};
 ghost use Rattle.ft_perm.specs.Handles.{numbers_from};
 ghost use Rattle.ft_rebase.specs.StageLists.{StandSideBySide};
 ghost use Rattle.ft_sumdoc.specs.Valid.{IsValidSummary};
@@ -259,6 +260,14 @@ impl SharedMatrix {
         ensures floor { OnOk result (self.new.floor ≡ self.old.floor) }
         ensures usable { OnOk result (self.new.usable ≡ self.old.usable) }
         ensures err { OnErr result (self.new.usable ≡ false) }
+
+        // The same where the edit lost some of its stages in an earlier reconnection.
+        ensures answer_within { (last : ℕ) (doc : Document) (before mine rest : List Stage) → AreWellNamed last doc (before ++ (mine ++ rest))
+            → HoldsGrid self.old doc (before ++ (mine ++ rest)) → AreNext first (first + count) before mine rest
+            → IfOk result (λ op. option_map ChannelOp.Grid op ≡ op_of (flat_map (pieces doc) mine)) }
+        ensures holds_within { (last : ℕ) (doc : Document) (before mine rest : List Stage) → AreWellNamed last doc (before ++ (mine ++ rest))
+            → HoldsGrid self.old doc (before ++ (mine ++ rest)) → AreNext first (first + count) before mine rest
+            → OnOk result (HoldsGrid self.new doc (before ++ (flat_map (carried_stage doc) mine ++ rest))) }
     {
         if count == 0 {
             return Ok(None);
@@ -280,7 +289,8 @@ impl SharedMatrix {
     }
 
     /// Brings the rows and the columns in order after all pending edits were given to `reconnect`: as if the pending ones had been
-    /// put in afresh. The rows of each stage stand side by side in its view, and so do the columns.
+    /// put in afresh. The rows of each stage stand side by side in its view, and so do the columns. Each leaf whose insertion is
+    /// sequenced keeps its node, in the same order.
     ///
     /// Returns `OutOfMemory` where there is no room for it, and then the table may be used no more.
     pub fn normalise(&mut self) -> Result<(), OutOfMemory>
@@ -293,6 +303,8 @@ impl SharedMatrix {
         ensures floor { OnOk result (self.new.floor ≡ self.old.floor) }
         ensures usable { OnOk result (self.new.usable ≡ self.old.usable) }
         ensures err { OnErr result (self.new.usable ≡ false) }
+        ensures rows_nodes { OnOk result (KeepsNodes self.old.rows_tree.leaves self.new.rows_tree.leaves) }
+        ensures cols_nodes { OnOk result (KeepsNodes self.old.cols_tree.leaves self.new.cols_tree.leaves) }
     {
         match self.grid.normalise() {
             Ok(()) => {

@@ -72,8 +72,7 @@ impl Grid {
         first: u64,
         count: u64,
     ) -> Result<Option<GridOp>, OutOfMemory>
-        requires sound { IsSound self.old }
-        requires some { 1 ≤ count }
+        requires { IsSound self.old }
         ensures { IfOk result (λ op. SendsAgain first count self.old self.new op) }
     {
         let pieces = self.resubmit(alloc, first, count)?;

@@ -22,4 +22,4 @@ returns-clause-sound g =
 
 pub returns-clause-rebuilds : goal.returns-clause-rebuilds
 returns-clause-rebuilds g = subst (λ v. OnOk g.normalise.result (RebuildsUnits v (record (the_view g.units.inside) { tree = g.normalise.new.tree }))) g.units.view_is
-    (rebuilds-ok g.normalise.result (the_view g.units.inside) _ refl g.normalise.ensures.elements g.normalise.ensures.rest)
+    (rebuilds-ok g.normalise.result (the_view g.units.inside) _ refl g.normalise.ensures.elements g.normalise.ensures.rest g.normalise.ensures.nodes)
