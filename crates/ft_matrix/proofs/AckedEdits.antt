@@ -139,7 +139,7 @@ none-left (t ∷ acked) first (suc count) (suc i) e l =
     none-left acked (first + 1) count i rest (omega arith)
 
 module _ (last s c : ℕ) (doc : Document) (acked rest : List Stage) where
-  pub none-acked-yet : (g : Grid) → Holds last g doc (acked ++ rest) → AreCounted doc acked → AcksSome last s c g doc acked (drop 0 acked) rest
+  unfoldable pub none-acked-yet : (g : Grid) → Holds last g doc (acked ++ rest) → AreCounted doc acked → AcksSome last s c g doc acked (drop 0 acked) rest
   none-acked-yet g h n = record {
     between = doc;
     rename = λ i. i;
@@ -148,7 +148,7 @@ module _ (last s c : ℕ) (doc : Document) (acked rest : List Stage) where
     counted = recursion_from_All (λ (t : Stage). IsCounted doc t.stage t.sub_operation) acked n;
   }
 
-  with-next : (k : ℕ) (old new : Grid) (left : List Stage) (t : Stage) (ts : List Stage) → left ≡ t ∷ ts → t.stage ≡ k → IsSound old
+  unfoldable pub with-next : (k : ℕ) (old new : Grid) (left : List Stage) (t : Stage) (ts : List Stage) → left ≡ t ∷ ts → t.stage ≡ k → IsSound old
       → AllByRecursion (λ (u : GridStage). k ≤ u.stage) old.stages.items
       → AcksStage k s c old new → AcksSome last s c old doc acked left rest → AcksSome last s c new doc acked ts rest
   with-next k old new left t ts e m sound lowest acks p =

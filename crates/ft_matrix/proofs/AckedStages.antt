@@ -104,7 +104,7 @@ higher-stage : (n m k low : ℕ) → n ≡ m → k ≤ low → low < m → nat_e
 higher-stage n m k low e l g = let h : k < n = omega arith in grind (arith, nat_tests)
 
 -- the stages of the grid are all above k
-later-front : (last k low : ℕ) (doc : Document) (rows cols : VectorState) (us : List Stage) → k ≤ low → RiseTo low last us → (items : List GridStage)
+pub later-front : (last k low : ℕ) (doc : Document) (rows cols : VectorState) (us : List Stage) → k ≤ low → RiseTo low last us → (items : List GridStage)
     → grid_stages doc us ≡ map (shown_stage rows cols) items → (acked_stage k items ≡ None) × (after_stage k items ≡ items)
 later-front last k low doc rows cols [] l r [] e = (refl, refl)
 later-front last k low doc rows cols [] l r (v ∷ vs) e = (cc)
@@ -228,7 +228,7 @@ written_op h g row col (Set i j value) = cond (is_handle h row && is_handle g co
 written_op h g row col _ = None
 
 -- what a stage writes to a cell, if there is one
-abbrev written_by : ℕ → ℕ → Option GridStage → Option ValueBytes
+abbrev pub written_by : ℕ → ℕ → Option GridStage → Option ValueBytes
 written_by h g None = None
 written_by h g (Some t) = written_op h g t.row t.col t.op
 
@@ -256,7 +256,7 @@ module _ (h g k : ℕ) where
   later-lookup low (t ∷ stages) l r =
       other-lookup t (writes_to h g stages) (higher-stage t.stage t.stage k low refl l r.0) ∙ later-lookup t.stage stages (omega arith) r.1
 
-  front-lookup : (stages : List GridStage) → AllByRecursion (λ (t : GridStage). k ≤ t.stage) stages → StagesRise 0 stages
+  pub front-lookup : (stages : List GridStage) → AllByRecursion (λ (t : GridStage). k ≤ t.stage) stages → StagesRise 0 stages
       → lookup (λ j. nat_eq j k) (writes_to h g stages) ≡ written_by h g (acked_stage k stages)
   front-lookup [] a r = refl
   front-lookup (t ∷ stages) a r = step (nat_eq t.stage k) refl

@@ -38,3 +38,4 @@ mod LoadedCells
 mod LoadedGrids
 mod Depths
 pub mod ClientGrids
+mod AckedWithin

@@ -1,5 +1,5 @@
 -- What the acknowledgement of a pending stage makes of a grid. No public clause cites this module.
-use Rattle.std.specs.Prelude.{◌≡◌, ℕ, ◌+◌, true, cond, nat_eq, List, [], ◌∷◌, ◌++◌, Option, Some, None, map}
+use Rattle.std.specs.Prelude.{◌≡◌, ◌<◌, ◌≤◌, ℕ, ◌+◌, true, cond, nat_eq, List, [], ◌∷◌, ◌++◌, Option, Some, None, map}
 use Rattle.std.specs.List.{AllByRecursion}
 use Rattle.ft_op.specs.declared.operations.CellOp.{CellOp}
 use Rattle.ft_op.specs.declared.operations.CellOp.TheVariants.{SpliceIn}
@@ -14,6 +14,7 @@ use Rattle.ft_laws_names.specs.GridFacts.{AreCounted, IsCounted}
 use Rattle.ft_matrix.specs.declared.grid.Grid.{Grid}
 use Rattle.ft_matrix.specs.declared.stages.GridStage.{GridStage}
 use Rattle.ft_matrix.specs.Applied.{Holds}
+use Rattle.ft_matrix.specs.Conditions.{AreOldest, HasItsMarks}
 use Rattle.ft_matrix.specs.GridStates.{grid_state}
 use Rattle.ft_matrix.specs.HoldsGrid.{HoldsGrid}
 use Rattle.ft_matrix.specs.Sound.{IsSound}
@@ -73,10 +74,22 @@ pub record AcksSome (last s c : ℕ) (g : Grid) (doc : Document) (acked left res
   pub same : ack_stages s c rename left between ≡ ack_stages s c (λ i. i) acked doc
   pub counted : AllByRecursion (λ t. IsCounted between t.stage t.sub_operation) left
 
+-- the numbers below k were taken: these stages of the edit are left, all from k on up to before `end`
+pub record AcksWithin (last s c : ℕ) (g : Grid) (doc : Document) (acked rest : List Stage) (k end : ℕ) : Type 0 where
+  pub left : List Stage
+  pub some : AcksSome last s c g doc acked left rest
+  pub marks : HasItsMarks (left ++ rest) some.between
+  pub from : AllByRecursion (λ t. k ≤ t.stage) left
+  pub below : AllByRecursion (λ t. t.stage < end) left
+  pub behind : AllByRecursion (λ t. end ≤ t.stage) rest
+
 -- all stages of an edit are
 pub record AcksStages (first count s c : ℕ) (old new : Grid) : Type 0 where
   pub sound : IsSound new
   pub floor : new.rows.tree.floor ≡ old.rows.tree.floor
   pub acked : (last : ℕ) (doc : Document) (acked rest : List Stage) → Holds last old doc (acked ++ rest)
       → map (λ t. t.stage) acked ≡ numbers_from first count → AreCounted doc acked
+      → HoldsGrid (grid_state new 0 true) (ack_stages s c (λ i. i) acked doc).0 (map (renamed_stage (ack_stages s c (λ i. i) acked doc).1) rest)
+  pub within : (last : ℕ) (doc : Document) (acked rest : List Stage) → Holds last old doc (acked ++ rest) → AreOldest first (first + count) acked rest
+      → HasItsMarks (acked ++ rest) doc → AreCounted doc acked
       → HoldsGrid (grid_state new 0 true) (ack_stages s c (λ i. i) acked doc).0 (map (renamed_stage (ack_stages s c (λ i. i) acked doc).1) rest)

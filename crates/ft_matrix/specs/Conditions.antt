@@ -1,6 +1,6 @@
 -- What the calls ask of a grid, and what they answer.
 use Rattle.std.specs.Prelude.{◌≡◌, ◌<◌, ◌≤◌, ℕ, ◌+◌, true, false, nat_eq, All, List, [], ◌∷◌, ◌++◌, Result, Ok, Err, length, map}
-use Rattle.std.specs.List.{list_any}
+use Rattle.std.specs.List.{list_all, list_any}
 use Rattle.ft_base.specs.Scan.{len}
 use Rattle.ft_msg.specs.declared.faults.EditFault.{EditFault}
 use Rattle.ft_msg.specs.declared.faults.EditFault.TheVariants.{OutOfRange, OutOfMemory}
@@ -9,7 +9,9 @@ use Rattle.ft_props.specs.Steps.{is_inserted_by}
 use Rattle.ft_op.specs.Document.{Document}
 use Rattle.ft_op.specs.Stages.{Stage}
 use Rattle.ft_msg.specs.Compacted.{stage_holds_col, stage_holds_row}
-use Rattle.ft_laws_agreement.specs.Sequencing.{is_grid_stage}
+use Rattle.ft_op.specs.declared.operations.Target.TheVariants.{Rows, Cols}
+use Rattle.ft_laws_agreement.specs.Reconnecting.{has_marks_of}
+use Rattle.ft_laws_agreement.specs.Sequencing.{inserts_in, is_grid_stage, removes_in}
 use Rattle.ft_laws_names.specs.WellNamed.{AreWellNamed}
 use Rattle.ft_laws_names.specs.GridFacts.{AreFreeFrom, is_unit_below}
 use Rattle.ft_matrix.specs.GridStates.{GridState}
@@ -32,6 +34,16 @@ pub record AreNext (first end : ℕ) (before mine rest : List Stage) : Type 0 wh
   pub front : All (λ t. t.stage < first) before
   pub within : AreWithin first end mine
   pub behind : All (λ t. end ≤ t.stage) rest
+
+-- those that are left of the stages of the oldest edit, `acked`, and those behind
+pub record AreOldest (first end : ℕ) (acked rest : List Stage) : Type 0 where
+  pub within : AreWithin first end acked
+  pub behind : All (λ t. end ≤ t.stage) rest
+
+-- what is pending on rows and columns is of these stages
+pub record HasItsMarks (stages : List Stage) (doc : Document) : Type 0 where
+  pub rows : list_all (has_marks_of (inserts_in Rows) (removes_in Rows) stages) doc.rows.items ≡ true
+  pub cols : list_all (has_marks_of (inserts_in Cols) (removes_in Cols) stages) doc.cols.items ≡ true
 
 -- ---- messages
 

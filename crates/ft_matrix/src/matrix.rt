@@ -5,7 +5,7 @@ ghost use Rattle.std.specs.List.{list_all};
 ghost use Rattle.ft_laws_agreement.specs.Sequencing.{is_grid_stage};
 ghost use Rattle.ft_laws_names.specs.GridFacts.{AreCounted};
 ghost use Rattle.ft_laws_names.specs.WellNamed.{AreWellNamed};
-ghost use Rattle.ft_matrix.specs.Conditions.{AnswersEdit, AreFreeUnits, AreItsStages, AreNext, HasNoTombstone, HoldsKept, IsAboveAll, KeepsRest, TakesOp};
+ghost use Rattle.ft_matrix.specs.Conditions.{AnswersEdit, AreFreeUnits, AreItsStages, AreNext, AreOldest, HasItsMarks, HasNoTombstone, HoldsKept, IsAboveAll, KeepsRest, TakesOp};
 ghost use Rattle.ft_matrix.specs.GridStates.{depth_of};
 ghost use Rattle.ft_matrix.specs.HoldsGrid.{HoldsGrid};
 ghost use Rattle.ft_matrix.specs.Shown.{HasNoUnits, with_grid, with_units};
@@ -182,6 +182,11 @@ impl SharedMatrix {
             → OnOk result (HoldsGrid self.new (ack_stages seq conn (λ i. i) acked doc).0 (map (renamed_stage (ack_stages seq conn (λ i. i) acked doc).1) rest)) }
         ensures rest { OnOk result (KeepsRest self.old self.new) }
         ensures err { OnErr result (self.new.usable ≡ false) }
+
+        // The same where the edit lost some of its stages in a reconnection.
+        ensures acked_within { (last : ℕ) (doc : Document) (acked rest : List Stage) → AreWellNamed last doc (acked ++ rest) → HoldsGrid self.old doc (acked ++ rest)
+            → AreOldest first (first + count) acked rest → HasItsMarks (acked ++ rest) doc → AreCounted doc acked
+            → OnOk result (HoldsGrid self.new (ack_stages seq conn (λ i. i) acked doc).0 (map (renamed_stage (ack_stages seq conn (λ i. i) acked doc).1) rest)) }
     {
         match self.grid.ack_stages(first, count, seq, conn) {
             Ok(()) => Ok(()),

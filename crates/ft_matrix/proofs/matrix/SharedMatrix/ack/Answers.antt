@@ -15,3 +15,10 @@ returns-in-Ok-clause-acked c = λ last doc acked rest n h numbers counted. resta
       named = n;
       holds = restate c.self.inside.grid c.self.inside.given 0 c.self.inside.usable true doc (acked ++ rest) (subst (λ s. HoldsGrid s doc (acked ++ rest)) (sym c.self.view_is) h);
     }) numbers counted)
+
+pub returns-in-Ok-clause-acked_within : goal.returns-in-Ok-clause-acked_within
+returns-in-Ok-clause-acked_within c = λ last doc acked rest n h oldest marks counted. restate c.ack_stages.new.self 0 c.self.inside.given true c.self.inside.usable _ _
+    (c.in-Ok.ensures.within last doc acked rest (record {
+      named = n;
+      holds = restate c.self.inside.grid c.self.inside.given 0 c.self.inside.usable true doc (acked ++ rest) (subst (λ s. HoldsGrid s doc (acked ++ rest)) (sym c.self.view_is) h);
+    }) oldest marks counted)
