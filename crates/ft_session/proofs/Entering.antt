@@ -1,5 +1,5 @@
 -- Clients and guests come into a session.
-use Rattle.std.proofs.Common.{◌≡◌, ◌≤◌, ℕ, zero, suc, ◌+◌, List, [], ◌∷◌, ◌++◌, length, get_or, Option, Some, None, Ok, Err, find, refl, sym, ◌∙◌, ap, subst, arith}
+use Rattle.std.proofs.Common.{◌≡◌, ◌≤◌, ℕ, ◌+◌, List, [], ◌∷◌, ◌++◌, length, Option, Some, None, Ok, Err, find, refl, sym, ◌∙◌, ap, subst, arith}
 use Rattle.std.proofs.lemmas.List.{length-take-le, nil_from_length}
 use Rattle.std.specs.Prelude.{⊤, slice_get}
 use Rattle.std.specs.List.{position}
@@ -207,19 +207,14 @@ module _ (s : SessionState) (name : Characters) (w : NaiveWorld) (made : IsMade 
   pub none-at : position (has_name name) s.members ≡ None → find (is_client name) w.clients ≡ None
   none-at h = not_found w.log name 0 s.members w.clients stands.members (sym (position_from-zero (has_name name) s.members) ∙ h)
 
-  pub one-at : (i : ℕ) (m : MemberState) → position (has_name name) s.members ≡ Some i → m ≡ get_or s.members i m → StandsAt w name m
+  pub one-at : (i : ℕ) (m : MemberState) → position (has_name name) s.members ≡ Some i → slice_get s.members i ≡ Some m → StandsAt w name m
   one-at i m place at =
       let (j, q, f) = found w.log name 0 i s.members w.clients stands.members (made-distinct w made) (sym (position_from-zero (has_name name) s.members) ∙ place) in
       let k : j ≡ i = omega (arith, q) in
-      let same : f.state ≡ m = sym (got s.members j f.state m f.at) ∙ (ap (λ l. get_or s.members l m) k ∙ sym at) in
+      let same : f.state ≡ m = some-same f.state m (sym f.at ∙ ap (slice_get s.members) k ∙ at) in
       record { client = f.member; named = f.named; found = f.found; stands = subst (λ a. MemberStands w.log a f.member) same f.stands }
-    where
-      got : (ms : List MemberState) (j : ℕ) (a d : MemberState) → slice_get ms j ≡ Some a → get_or ms j d ≡ a
-      got [] j a d h = (cc)
-      got (m ∷ ms) zero a d h = some-same m a h
-      got (m ∷ ms) (suc j) a d h = got ms j a d h
 
-  pub meets-at : (i : ℕ) (m : MemberState) → position (has_name name) s.members ≡ Some i → m ≡ get_or s.members i m → MeetsSome m s.service
+  pub meets-at : (i : ℕ) (m : MemberState) → position (has_name name) s.members ≡ Some i → slice_get s.members i ≡ Some m → MeetsSome m s.service
   meets-at i m place at =
       let a = one-at i m place at in
       record {
@@ -241,7 +236,7 @@ module _ (s : SessionState) (name : Characters) (w : NaiveWorld) (made : IsMade 
   pub copy-unknown : (n : Characters) → position (has_name name) s.members ≡ None → start_client w n (Some name) ≡ Err UnknownClient
   copy-unknown n h = from-found n None (none-at h)
 
-  pub copy-refused : (i : ℕ) (m : MemberState) (fault : SummaryFault) → position (has_name name) s.members ≡ Some i → m ≡ get_or s.members i m
+  pub copy-refused : (i : ℕ) (m : MemberState) (fault : SummaryFault) → position (has_name name) s.members ≡ Some i → slice_get s.members i ≡ Some m
       → AnswersSummary s.service.names m.replica (Err fault) → (n : Characters)
       → MeansOf (refusal_kind (refusal_of_summary fault)) ⊤ (start_client w n (Some name) ≡ Err (refusal_of_summary fault))
   copy-refused i m fault place at answers n =
@@ -249,7 +244,7 @@ module _ (s : SessionState) (name : Characters) (w : NaiveWorld) (made : IsMade 
       means-weaker (refusal_kind (refusal_of_summary fault)) (λ e. from-found n (Some a.client) a.found ∙ e)
       (summary-refused s.service.names m.replica a.client.client (quietly (started w n a.client.client.doc)) fault a.stands.replica answers)
 
-  pub copy-taken : (i : ℕ) (m : MemberState) (sum : SumDoc) (new : ReplicaState) → position (has_name name) s.members ≡ Some i → m ≡ get_or s.members i m
+  pub copy-taken : (i : ℕ) (m : MemberState) (sum : SumDoc) (new : ReplicaState) → position (has_name name) s.members ≡ Some i → slice_get s.members i ≡ Some m
       → AnswersSummary s.service.names m.replica (Ok sum) → StartsOver new (doc_of sum) (length sum.conns)
       → ((whole : Document) → IsReached (client_over whole) → GivesDocument sum whole → RunsFor new (client_over whole))
       → (n : Characters) → name_fault w n ≡ None → IsCopyOf w n name new
@@ -261,7 +256,7 @@ module _ (s : SessionState) (name : Characters) (w : NaiveWorld) (made : IsMade 
       summary-copies w made name n a.client m sum new a.found a.stands reached known over runs free
 
   -- it keeps what a summary keeps of that document
-  pub copy-trimmed : (i : ℕ) (m : MemberState) (sum : SumDoc) (new : ReplicaState) → position (has_name name) s.members ≡ Some i → m ≡ get_or s.members i m
+  pub copy-trimmed : (i : ℕ) (m : MemberState) (sum : SumDoc) (new : ReplicaState) → position (has_name name) s.members ≡ Some i → slice_get s.members i ≡ Some m
       → AnswersSummary s.service.names m.replica (Ok sum) → StartsOver new (doc_of sum) (length sum.conns)
       → (c : NamedClient) → find (is_client name) w.clients ≡ Some c → KeepsTrimmed new c.client.doc
   copy-trimmed i m sum new place at answers over c h =

@@ -1,11 +1,9 @@
 -- What one client answers to its event, its session answers.
-use Rattle.std.proofs.Common.{◌≡◌, ℕ, zero, suc, ◌+◌, Bool, true, false, cond, List, [], ◌∷◌, ◌++◌, Option, Some, None, Result, Ok, Err, find, length, map, refl, sym, ◌∙◌, ap, subst, arith, append-nil, slice_get}
+use Rattle.std.proofs.Common.{◌≡◌, ℕ, zero, suc, ◌+◌, Bool, true, false, cond, List, [], ◌∷◌, ◌++◌, Option, Some, None, Result, Ok, Err, find, map, refl, sym, ◌∙◌, ap, subst, arith, append-nil, slice_get}
 use Rattle.std.proofs.lemmas.Iterator.Adapters.{position_from-zero}
 use Rattle.std.specs.List.{position, position_from}
 use Rattle.std.specs.Prelude.{IfOk}
-use Rattle.std.proofs.Math.ListN.{get_or, set}
-use Rattle.std.proofs.lemmas.List.Quantifiers.{position-Some}
-use Rattle.std.proofs.lemmas.Option.{slice_get_read}
+use Rattle.std.proofs.Math.ListN.{set}
 use Rattle.std.proofs.lemmas.Slice.Eq.{bytes_eq-Decides}
 use Rattle.ft_base.proofs.Options.{some-same}
 use Rattle.ft_props.specs.Properties.{Characters}
@@ -166,11 +164,6 @@ module _ (step : NaiveWorld → NamedClient → Stepped) (name : Characters) (ms
             found = set-found name i ms new place ((bytes_eq-Decides name new.name).1 (sym (l.member.name ∙ (l.name ∙ f.named))));
             effect = h;
           }
-
--- the member at the place of a name has it
-module _ (name : Characters) (i : ℕ) (ms : List MemberState) (m : MemberState) (h : position (has_name name) ms ≡ Some i) (k : m ≡ get_or ms i m) where
-  pub at-place : slice_get ms i ≡ Some m
-  at-place = slice_get_read ms (length ms) i m refl (position-Some (has_name name) ms i m h).0 k
 
 pub stands-session : {s old : SessionState} → s ≡ old → SessionStandsForSome old → SessionStandsForSome s
 stands-session {s} {old} e h = subst SessionStandsForSome (sym e) h

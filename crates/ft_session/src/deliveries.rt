@@ -21,7 +21,8 @@ pub(crate) fn deliver<R: Replica>(
     count: HowMany,
 ) -> Result<BoxedOut, Refusal>
     requires { MeetsSome member.old service.now }
-    ensures { AnswersClient (λ w c. deliver_client w c count) member.old member.new service.now service.now result }
+    ensures answers { AnswersClient (λ w c. deliver_client w c count) member.old member.new service.now service.now result }
+    ensures name { member.new.name ≡ member.old.name }
 {
     let numbers = member.replica.numbers();
     if conn_of(numbers.link).is_none() {
@@ -44,7 +45,8 @@ pub(crate) fn offer<R: Replica>(
     read: &Result<Message, Cause>,
 ) -> Result<BoxedOut, Refusal>
     requires { MeetsSome member.old service.now }
-    ensures { AnswersClient (λ w c. offered_client w c read.now) member.old member.new service.now service.now result }
+    ensures answers { AnswersClient (λ w c. offered_client w c read.now) member.old member.new service.now service.now result }
+    ensures name { member.new.name ≡ member.old.name }
 {
     if conn_of(member.replica.numbers().link).is_none() {
         return Err(Refusal::NotConnected);
@@ -63,7 +65,8 @@ fn offer_message<R: Replica>(
 ) -> Result<BoxedOut, Refusal>
     requires meets { MeetsSome member.old service.now }
     requires linked { HasConnection member.old }
-    ensures { AnswersClient (λ w c. offer_message w c message.now) member.old member.new service.now service.now result }
+    ensures answers { AnswersClient (λ w c. offer_message w c message.now) member.old member.new service.now service.now result }
+    ensures name { member.new.name ≡ member.old.name }
 {
     let number = member.replica.numbers().seq;
     let expected = next_count(number)?;

@@ -22,7 +22,8 @@ pub(crate) fn edit<R: Replica>(
 ) -> Result<BoxedOut, Refusal>
     requires formed { IsWellFormed op.now }
     requires meets { MeetsSome member.old service.now }
-    ensures { AnswersClient (λ w c. edit_client w c op.now) member.old member.new service.now service.now result }
+    ensures answers { AnswersClient (λ w c. edit_client w c op.now) member.old member.new service.now service.now result }
+    ensures name { member.new.name ≡ member.old.name }
 {
     member.replica.edit(op)?;
     Ok(BoxedOut::nothing())
@@ -35,7 +36,8 @@ pub(crate) fn ticket<R: Replica>(
     count: HowMany,
 ) -> Result<BoxedOut, Refusal>
     requires { MeetsSome member.old service.old }
-    ensures { AnswersClient (λ w c. ticket_client w c count) member.old member.new service.old service.new result }
+    ensures answers { AnswersClient (λ w c. ticket_client w c count) member.old member.new service.old service.new result }
+    ensures name { member.new.name ≡ member.old.name }
 {
     let Some(conn) = conn_of(member.replica.numbers().link) else {
         return Err(Refusal::NotConnected);
@@ -56,6 +58,7 @@ pub(crate) fn compact<R: Replica>(
     requires { MeetsSome member.old service.now }
     ensures answers { AnswersClient (λ w c. quietly w) member.old member.new service.now service.now result }
     ensures full { IsTrue R.COMPACTS → OnOk result (IsFullyCompacted member.new.replica.client) }
+    ensures name { member.new.name ≡ member.old.name }
 {
     member.replica.compact()?;
     Ok(BoxedOut::nothing())

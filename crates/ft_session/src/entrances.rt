@@ -1,6 +1,7 @@
 //! How clients come into a session.
 
-ghost use Rattle.std.specs.Prelude.{◌≡◌, ◌∷◌, ◌++◌, [], None, Some, Err, ⊤, IfOk, IfErr, OnOk, find};
+ghost use Rattle.std.specs.Prelude.{◌≡◌, ◌∷◌, ◌++◌, [], None, Some, Err, ⊤, false, IfOk, IfErr, OnOk, find};
+ghost use Rattle.std.specs.List.{list_any};
 ghost use Rattle.ft_props.specs.Properties.{Characters};
 ghost use Rattle.ft_sumdoc.specs.Valid.{IsValidSummary};
 ghost use Rattle.ft_seqr.specs.World.{NaiveWorld, NamedClient, happen, is_client, name_fault, start_client};
@@ -9,15 +10,15 @@ ghost use Rattle.ft_laws_sessions.specs.MadeWorlds.{IsMade};
 ghost use Rattle.ft_session.specs.Effects.{KeepsTrimmed, SessionEffect, StartsTrimmed};
 ghost use Rattle.ft_session.specs.Entrances.{AnswersName, IsCopyOf, StartsFrom, new_member};
 ghost use Rattle.ft_seqr.specs.RefusalKinds.{MeansOf, refusal_kind};
-ghost use Rattle.ft_session.specs.Worlds.{AnswersHappening, SessionStands, SessionStandsForSome};
+ghost use Rattle.ft_session.specs.Worlds.{AnswersHappening, SessionStands, SessionStandsForSome, has_name};
 
 use crate::asked::summary_of;
 use crate::guests::has_guest;
-use crate::members::{Member, has_member, member_place};
+use crate::members::Member;
 use crate::outputs::BoxedOut;
 use crate::session::Session;
-use ft_base::moved::push;
 use ft_base::{Datum, OutOfMemory, Text};
+use ft_delivery::{keep, place_of};
 use ft_msg::Replica;
 use ft_seqr::{NAME_LIMIT, Refusal};
 use ft_sumdoc::SumDoc;
@@ -64,9 +65,10 @@ impl<R: Replica + Drop> Session<R> {
     /// Returns `NameInUse` exactly where a client or a guest has it, and `ClientLimit` exactly where there
     /// are 16 of these.
     pub(crate) fn free_name(&self, name: &Text) -> Result<(), Refusal>
-        ensures { (w : NaiveWorld) → SessionStands self.now w → AnswersName (name_fault w name.now) result }
+        ensures fault { (w : NaiveWorld) → SessionStands self.now w → AnswersName (name_fault w name.now) result }
+        ensures free { OnOk result (list_any (has_name name.now) self.now.members ≡ false) }
     {
-        if has_member(self.members.as_slice(), name) || has_guest(self.guests.as_slice(), name) {
+        if place_of(&self.members, name).is_some() || has_guest(self.guests.as_slice(), name) {
             return Err(Refusal::NameInUse);
         }
         if NAME_LIMIT <= self.members.len() + self.guests.len() {
@@ -82,7 +84,7 @@ impl<R: Replica + Drop> Session<R> {
         ensures err { IfErr result (λ why. (w : NaiveWorld) → IsMade w → SessionStands self.now w → (name : Characters) → MeansOf (refusal_kind why) ⊤ (start_client w name (Some from.now) ≡ Err why)) }
         ensures trimmed { IfOk result (λ r. (w : NaiveWorld) → IsMade w → SessionStands self.now w → (c : NamedClient) → find (is_client from.now) w.clients ≡ Some c → KeepsTrimmed (R.state r) c.client.doc) }
     {
-        let Some(place) = member_place(self.members.as_slice(), from) else {
+        let Some(place) = place_of(&self.members, from) else {
             return Err(Refusal::UnknownClient);
         };
         let summary = summary_of(&self.members[place], &self.service)?;
@@ -91,15 +93,15 @@ impl<R: Replica + Drop> Session<R> {
 
     // A replica comes in under a new name.
     fn admit(&mut self, name: &Text, replica: R) -> Result<(), OutOfMemory>
+        requires { list_any (has_name name.now) self.old.members ≡ false }
         ensures { OnOk result (self.new ≡ record self.old { members = self.old.members ++ new_member name.now (R.state replica) ∷ [] }) }
     {
-        let name = name.copy()?;
         let member = Member {
-            name,
+            name: name.copy()?,
             replica,
             connects: 0,
         };
-        push(&mut self.members, member)
+        keep(&mut self.members, name, member)
     }
 }
 

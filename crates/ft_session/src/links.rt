@@ -18,7 +18,8 @@ pub(crate) fn connect<R: Replica>(
     service: &mut Service,
 ) -> Result<BoxedOut, Refusal>
     requires { MeetsSome member.old service.old }
-    ensures { AnswersClient connect_client member.old member.new service.old service.new result }
+    ensures answers { AnswersClient connect_client member.old member.new service.old service.new result }
+    ensures name { member.new.name ≡ member.old.name }
 {
     let conn = service.next_conn()?;
     let connects = next_count(member.connects)?;
@@ -39,7 +40,8 @@ fn connect_as<R: Replica>(
     requires few { length service.old.names < 2 ^ 32 - 1 }
     requires connects { connects ≡ member.old.connects + 1 }
     requires name { name.now ≡ connection_name member.old.name connects }
-    ensures { AnswersClient connect_client member.old member.new service.old service.new result }
+    ensures answers { AnswersClient connect_client member.old member.new service.old service.new result }
+    ensures name { member.new.name ≡ member.old.name }
 {
     member.replica.connect(conn)?;
     service.join(name)?;
@@ -53,7 +55,8 @@ pub(crate) fn drop_link<R: Replica>(
     service: &mut Service,
 ) -> Result<BoxedOut, Refusal>
     requires { MeetsSome member.old service.old }
-    ensures { AnswersClient drop_client member.old member.new service.old service.new result }
+    ensures answers { AnswersClient drop_client member.old member.new service.old service.new result }
+    ensures name { member.new.name ≡ member.old.name }
 {
     let Some(conn) = conn_of(member.replica.numbers().link) else {
         return Err(Refusal::NotConnected);
@@ -69,7 +72,8 @@ pub(crate) fn noop<R: Replica>(
     service: &Service,
 ) -> Result<BoxedOut, Refusal>
     requires { MeetsSome member.old service.now }
-    ensures { AnswersClient noop_client member.old member.new service.now service.now result }
+    ensures answers { AnswersClient noop_client member.old member.new service.now service.now result }
+    ensures name { member.new.name ≡ member.old.name }
 {
     member.replica.noop()?;
     Ok(BoxedOut::nothing())

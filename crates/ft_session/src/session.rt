@@ -12,29 +12,36 @@ use crate::deliveries::{deliver, offer};
 use crate::edits::{compact, edit, ticket};
 use crate::guests::Guest;
 use crate::links::{connect, drop_link, noop};
-use crate::members::{Member, member_place};
+use crate::members::Member;
 use crate::outputs::BoxedOut;
 use crate::service::Service;
 use ft_base::Text;
+use ft_delivery::place_of;
 use ft_msg::Replica;
 use ft_seqr::Refusal;
+use indexmap::IndexMap;
 use std::alloc::Global;
 use std::marker::Model;
 
 /// A session: its replicas, its guests, and what orders their messages.
 #[derive(Drop)]
 pub(crate) struct Session<R: Replica> {
-    pub(crate) members: Vec<Member<R>>,
+    /// In the order in which they came, each under its name.
+    pub(crate) members: IndexMap<String, Member<R>>,
     pub(crate) guests: Vec<Guest>,
     pub(crate) service: Service,
 }
 
 impl<R: Replica> Model for Session<R> {
-    ghost use Rattle.ft_session.specs.Worlds.{SessionState};
+    ghost use Rattle.indexmap.specs.IndexMap.{values};
+    ghost use Rattle.ft_delivery.specs.Kept.{AreUnderNames};
+    ghost use Rattle.ft_session.specs.Worlds.{MemberState, SessionState};
 
     ghost Value = { SessionState };
 
-    ghost view = { λ s. record { members = s.members.items; guests = s.guests.items; service = s.service } };
+    ghost view = { λ s. record { members = values s.members; guests = s.guests.items; service = s.service } };
+
+    ghost invariant = { λ s. AreUnderNames (λ (m : MemberState). m.name) s.members.entries };
 }
 
 impl<R: Replica + Drop> Session<R> {
@@ -43,7 +50,7 @@ impl<R: Replica + Drop> Session<R> {
         ensures { result ≡ record { members = []; guests = []; service = record { sequencer = new_sequencer; names = []; log = [] } } }
     {
         Session {
-            members: Vec::new(alloc),
+            members: IndexMap::new(alloc),
             guests: Vec::new(alloc),
             service: Service::new(alloc),
         }
@@ -84,7 +91,7 @@ impl<R: Replica + Drop> Session<R> {
         ensures answers { AnswersHappening (λ w. of_client w name.now (client_step act.now w)) self.old self.new result }
         ensures effect { IfOk result (λ out. NamedActEffect R.COMPACTS act.now name.now self.new out) }
     {
-        let Some(place) = member_place(self.members.as_slice(), name) else {
+        let Some(place) = place_of(&self.members, name) else {
             return Err(Refusal::UnknownClient);
         };
         happen_to_member(&mut self.members[place], &mut self.service, act)
@@ -101,6 +108,7 @@ fn happen_to_member<R: Replica>(
     requires meets { MeetsSome member.old service.old }
     ensures answers { AnswersClient (client_step act.now) member.old member.new service.old service.new result }
     ensures effect { IfOk result (λ out. ClientActEffect R.COMPACTS act.now member.new out) }
+    ensures name { member.new.name ≡ member.old.name }
 {
     match act {
         ClientAct::Connect => connect(member, service),

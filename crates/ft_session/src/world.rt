@@ -1,6 +1,7 @@
 //! Worlds.
 
-ghost use Rattle.std.specs.Prelude.{◌≡◌, ◌+◌, ◌≤◌, ◌^◌, IfOk};
+ghost use Rattle.std.specs.Prelude.{◌≡◌, ◌+◌, ◌<◌, ◌≤◌, ◌^◌, IfOk, OnErr};
+ghost use Rattle.indexmap.specs.IndexMap.{values};
 ghost use Rattle.ft_seqr.specs.WellFormedEvent.{IsWellFormedEvent};
 ghost use Rattle.ft_seqr.specs.World.{NaiveWorld, new_world};
 ghost use Rattle.ft_seqr.specs.declared.events.Event.{Event};
@@ -19,6 +20,7 @@ use ft_base::OutOfMemory;
 use ft_base::moved::beside;
 use ft_msg::{Numbers, Replica};
 use ft_seqr::{Event, Refusal};
+use indexmap::IndexMap;
 use std::alloc::Global;
 use std::marker::Model;
 
@@ -113,8 +115,8 @@ impl<R: Replica + Drop> World<R> {
 }
 
 // The counts of the client with the greatest number, 0 without clients.
-fn furthest_counts<R: Replica>(members: &[Member<R>]) -> Counts
-    ensures { (w : NaiveWorld) → MembersStand w.log members.now w.clients → result ≡ counts_of w }
+fn furthest_counts<R: Replica>(members: &IndexMap<String, Member<R>>) -> Counts
+    ensures { (w : NaiveWorld) → MembersStand w.log (values members.now) w.clients → result ≡ counts_of w }
 {
     let mut furthest = Furthest {
         seq: 0,
@@ -123,7 +125,7 @@ fn furthest_counts<R: Replica>(members: &[Member<R>]) -> Counts
             other: 0,
         },
     };
-    for member in members {
+    for member in members.values() {
         furthest = furthest_of(furthest, member.replica.numbers());
     }
     furthest.counts
@@ -182,7 +184,7 @@ fn take_act<R: Replica + Drop>(
     let raised = load_after(load, &act);
     let (load, act) = beside(raised, act)?;
     let out = session.happen(act)?;
-    let counts = furthest_counts(session.members.as_slice());
+    let counts = furthest_counts(&session.members);
     Ok(Taken { out, load, counts })
 }
 
@@ -199,10 +201,11 @@ fn load_after(load: u64, act: &Act<'_>) -> Result<u64, OutOfMemory>
 
 // A load with so much more.
 //
-// Returns `OutOfMemory` where it would pass the greatest one.
+// Returns `OutOfMemory` exactly where it would pass the greatest one.
 fn raised(load: u64, more: u64) -> Result<u64, OutOfMemory>
     ensures sum { IfOk result (λ sum. sum ≡ load + more) }
     ensures low { IfOk result (λ sum. sum ≤ 2 ^ 52) }
+    ensures high { OnErr result (2 ^ 52 < load + more) }
 {
     match load.checked_add(more) {
         Some(sum) if sum <= LOAD_LIMIT => Ok(sum),

@@ -7,17 +7,17 @@ use Rattle.ft_session.specs.Worlds.{AnswersClient, MemberState}
 use Rattle.ft_session.proofs.Processed.{has-conn, has-none, its-link, offer-offline, offer-read, offer-unread}
 use Rattle.ft_session.proofs.deliveries.offer.Goals as goal
 
-pub returns-then-is_none : goal.returns-then-is_none
-returns-then-is_none g c = offer-offline c.args.member.now c.args.service.now c.args.read.now
+pub returns-then-is_none-clause-answers : goal.returns-then-is_none-clause-answers
+returns-then-is_none-clause-answers g c = offer-offline c.args.member.now c.args.service.now c.args.read.now
     (its-link c.args.member.now c.args.service.now c.numbers.result (c.numbers.ensures.numbers ∙ ap (λ (m : MemberState). numbers_of m.replica) c.member.view_is) c.conn_of.result c.conn_of.ensures ∙ has-none c.conn_of.result c.is_none.result c.is_none.ensures c.if-is_none.true)
 
-pub returns-in-Err : goal.returns-in-Err
-returns-in-Err g c =
+pub returns-in-Err-clause-answers : goal.returns-in-Err-clause-answers
+returns-in-Err-clause-answers g c =
     subst (λ (why : Refusal). AnswersClient (λ w d. offered_client w d c.args.read.now) c.args.member.now c.args.member.now c.args.service.now c.args.service.now (Err why)) (sym c.of_cause.ensures)
     (offer-unread c.args.member.now c.args.service.now c.args.read.now (has-conn c.conn_of.result c.is_none.result c.is_none.ensures c.if-is_none.false).0 (its-link c.args.member.now c.args.service.now c.numbers.result (c.numbers.ensures.numbers ∙ ap (λ (m : MemberState). numbers_of m.replica) c.member.view_is) c.conn_of.result c.conn_of.ensures ∙ (has-conn c.conn_of.result c.is_none.result c.is_none.ensures c.if-is_none.false).1) c.in-Err.cause c.in-Err.is)
 
 pub offer_message-requires-clause-linked : goal.offer_message-requires-clause-linked
 offer_message-requires-clause-linked g c = record { conn = (has-conn c.conn_of.result c.is_none.result c.is_none.ensures c.if-is_none.false).0; of = (its-link c.args.member.now c.args.service.now c.numbers.result (c.numbers.ensures.numbers ∙ ap (λ (m : MemberState). numbers_of m.replica) c.member.view_is) c.conn_of.result c.conn_of.ensures ∙ (has-conn c.conn_of.result c.is_none.result c.is_none.ensures c.if-is_none.false).1) }
 
-pub returns-in-Ok : goal.returns-in-Ok
-returns-in-Ok g c = offer-read c.args.member.now c.args.service.now c.args.read.now (has-conn c.conn_of.result c.is_none.result c.is_none.ensures c.if-is_none.false).0 (its-link c.args.member.now c.args.service.now c.numbers.result (c.numbers.ensures.numbers ∙ ap (λ (m : MemberState). numbers_of m.replica) c.member.view_is) c.conn_of.result c.conn_of.ensures ∙ (has-conn c.conn_of.result c.is_none.result c.is_none.ensures c.if-is_none.false).1) c.in-Ok.message c.in-Ok.is _ c.offer_message.result c.offer_message.ensures
+pub returns-in-Ok-clause-answers : goal.returns-in-Ok-clause-answers
+returns-in-Ok-clause-answers g c = offer-read c.args.member.now c.args.service.now c.args.read.now (has-conn c.conn_of.result c.is_none.result c.is_none.ensures c.if-is_none.false).0 (its-link c.args.member.now c.args.service.now c.numbers.result (c.numbers.ensures.numbers ∙ ap (λ (m : MemberState). numbers_of m.replica) c.member.view_is) c.conn_of.result c.conn_of.ensures ∙ (has-conn c.conn_of.result c.is_none.result c.is_none.ensures c.if-is_none.false).1) c.in-Ok.message c.in-Ok.is _ c.offer_message.result c.offer_message.ensures.answers

@@ -7,10 +7,10 @@ use Rattle.ft_session.proofs.OwnEvents.{by-view, own-refused-as, own-taken}
 use Rattle.ft_session.proofs.RefusalKinds.{edit-alike}
 use Rattle.ft_session.proofs.edits.edit.Goals as goal
 
-pub returns-in_err-edit : goal.returns-in_err-edit
-returns-in_err-edit g c = by-view c.member.view_is
+pub returns-in_err-edit-clause-answers : goal.returns-in_err-edit-clause-answers
+returns-in_err-edit-clause-answers g c = by-view c.member.view_is
     (own-refused-as edit_fault_kind refusal_of_edit (λ x. local_edit x c.args.op.now) _ c.args.service.now _ c.in_err-edit.field-0.0 c.from_residual.result (edit-alike _) c.in_err-edit.ensures c.from_residual.ensures)
 
-pub returns : goal.returns
-returns g c = rw c.nothing.ensures (by-view c.member.view_is
+pub returns-clause-answers : goal.returns-clause-answers
+returns-clause-answers g c = rw c.nothing.ensures (by-view c.member.view_is
     (own-taken edit_fault_kind refusal_of_edit (λ x. local_edit x c.args.op.now) _ c.args.service.now _ (edit-number c.args.op.now) c.in_ok-edit.ensures))

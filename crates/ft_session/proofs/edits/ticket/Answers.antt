@@ -6,12 +6,12 @@ use Rattle.ft_session.proofs.OwnEvents.{by-view, client-wants, meets-view, uncha
 use Rattle.ft_session.proofs.Submissions.{can-send, ticket-none, ticket-offline, ticket-taken}
 use Rattle.ft_session.proofs.edits.ticket.Goals as goal
 
-pub returns-in_default : goal.returns-in_default
-returns-in_default g c = unchanged c.member.view_is
+pub returns-in_default-clause-answers : goal.returns-in_default-clause-answers
+returns-in_default-clause-answers g c = unchanged c.member.view_is
     (ticket-offline _ c.args.service.now c.args.count (ap (λ (n : Numbers). conn_of n.link) (sym c.numbers.ensures.numbers) ∙ sym c.conn_of.ensures ∙ c.in_default.is))
 
-pub returns-in_default-wanted_count : goal.returns-in_default-wanted_count
-returns-in_default-wanted_count g c = unchanged c.member.view_is
+pub returns-in_default-wanted_count-clause-answers : goal.returns-in_default-wanted_count-clause-answers
+returns-in_default-wanted_count-clause-answers g c = unchanged c.member.view_is
     (ticket-none _ c.args.service.now c.args.count c.in-Some.conn (ap (λ (n : Numbers). conn_of n.link) (sym c.numbers.ensures.numbers) ∙ sym c.conn_of.ensures ∙ c.in-Some.is)
     c.queued-have.result c.queued-have.ensures (sym c.wanted_count.ensures ∙ c.in_default-wanted_count.is))
 
@@ -20,12 +20,12 @@ submit_oldest-requires g c = can-send _ c.args.service.now c.args.count c.in-Som
     (ap (λ (n : Numbers). conn_of n.link) (sym c.numbers.ensures.numbers) ∙ sym c.conn_of.ensures ∙ c.in-Some.is) c.queued-have.result c.in-Some-wanted_count.wanted
     c.queued-have.ensures (sym c.wanted_count.ensures ∙ c.in-Some-wanted_count.is) (meets-view c.member.view_is c.requires)
 
-pub returns-in_err-submit_oldest : goal.returns-in_err-submit_oldest
-returns-in_err-submit_oldest g c = client-wants c.in_err-submit_oldest.field-0.0 c.from_residual.result c.from_residual.ensures c.submit_oldest.result (c.in_err-submit_oldest.was)
+pub returns-in_err-submit_oldest-clause-answers : goal.returns-in_err-submit_oldest-clause-answers
+returns-in_err-submit_oldest-clause-answers g c = client-wants c.in_err-submit_oldest.field-0.0 c.from_residual.result c.from_residual.ensures c.submit_oldest.result (c.in_err-submit_oldest.was)
     (c.in_err-submit_oldest.was ∙ c.in_err-submit_oldest.ensures.memory)
 
-pub returns : goal.returns
-returns g c = rw c.nothing.ensures (by-view c.member.view_is
+pub returns-clause-answers : goal.returns-clause-answers
+returns-clause-answers g c = rw c.nothing.ensures (by-view c.member.view_is
     (ticket-taken _ c.args.service.now c.args.count c.in-Some.conn (ap (λ (n : Numbers). conn_of n.link) (sym c.numbers.ensures.numbers) ∙ sym c.conn_of.ensures ∙ c.in-Some.is)
     c.queued-have.result c.in-Some-wanted_count.wanted c.queued-have.ensures (sym c.wanted_count.ensures ∙ c.in-Some-wanted_count.is) c.submit_oldest.new.service _
     (λ w v h k. c.in_ok-submit_oldest.ensures.service w v h k) c.in_ok-submit_oldest.ensures.replica))

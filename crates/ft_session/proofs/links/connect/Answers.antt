@@ -20,5 +20,5 @@ pub connect_as-requires-clause-name : goal.connect_as-requires-clause-name
 connect_as-requires-clause-name g c = c.in_ok-name.ensures ∙ ap (λ (m : MemberState). connection_name m.name c.in_ok-connects.connects)
     c.member.view_is
 
-pub returns : goal.returns
-returns g c = c.connect_as.ensures
+pub returns-clause-answers : goal.returns-clause-answers
+returns-clause-answers g c = c.connect_as.ensures.answers

@@ -6,22 +6,22 @@ use Rattle.ft_session.proofs.ActSteps.{as-asked, as-client, without-effect}
 use Rattle.ft_session.proofs.session.happen_to_member.Goals as goal
 
 pub returns-in-Connect-clause-answers : goal.returns-in-Connect-clause-answers
-returns-in-Connect-clause-answers g c = as-client c.in-Connect.is c.connect.ensures
+returns-in-Connect-clause-answers g c = as-client c.in-Connect.is c.connect.ensures.answers
 
 pub returns-in-Drop-clause-answers : goal.returns-in-Drop-clause-answers
-returns-in-Drop-clause-answers g c = as-client c.in-Drop.is c.drop_link.ensures
+returns-in-Drop-clause-answers g c = as-client c.in-Drop.is c.drop_link.ensures.answers
 
 pub returns-in-Edit-clause-answers : goal.returns-in-Edit-clause-answers
-returns-in-Edit-clause-answers g c = as-client c.in-Edit.is c.edit.ensures
+returns-in-Edit-clause-answers g c = as-client c.in-Edit.is c.edit.ensures.answers
 
 pub returns-in-Ticket-clause-answers : goal.returns-in-Ticket-clause-answers
-returns-in-Ticket-clause-answers g c = as-client c.in-Ticket.is c.ticket.ensures
+returns-in-Ticket-clause-answers g c = as-client c.in-Ticket.is c.ticket.ensures.answers
 
 pub returns-in-Deliver-clause-answers : goal.returns-in-Deliver-clause-answers
-returns-in-Deliver-clause-answers g c = as-client c.in-Deliver.is c.deliver.ensures
+returns-in-Deliver-clause-answers g c = as-client c.in-Deliver.is c.deliver.ensures.answers
 
 pub returns-in-Noop-clause-answers : goal.returns-in-Noop-clause-answers
-returns-in-Noop-clause-answers g c = as-client c.in-Noop.is c.noop.ensures
+returns-in-Noop-clause-answers g c = as-client c.in-Noop.is c.noop.ensures.answers
 
 pub returns-in-Show-clause-answers : goal.returns-in-Show-clause-answers
 returns-in-Show-clause-answers g c = as-asked c.in-Show.is c.show.ensures.answers
@@ -38,7 +38,7 @@ returns-in-Summary-clause-answers g c = as-asked c.in-Summary.is c.summarize.ens
 pub returns-in-Offer-clause-answers : goal.returns-in-Offer-clause-answers
 returns-in-Offer-clause-answers g c = as-client c.in-Offer.is (subst
     (λ read. AnswersClient (λ w member. offered_client w member read) c.args.member.now c.offer.new.member c.args.service.now c.args.service.now c.offer.result)
-    c.deref.ensures c.offer.ensures)
+    c.deref.ensures c.offer.ensures.answers)
 
 pub returns-in-Overlap-clause-answers : goal.returns-in-Overlap-clause-answers
 returns-in-Overlap-clause-answers g c = as-asked c.in-Overlap.is c.overlap.ensures

@@ -1,25 +1,29 @@
 -- One client more, and those of all at the end.
-use Rattle.std.proofs.Common.{◌+◌, ◌∙◌, ap, drop, subst, sym}
-use Rattle.std.proofs.lemmas.List.{drop_all}
+use Rattle.std.proofs.Common.{◌∙◌, ap, subst, sym}
+use Rattle.indexmap.specs.IndexMap.{values}
 use Rattle.ft_msg.specs.Answers.{numbers_of}
 use Rattle.ft_session.specs.Steps.{further_numbers}
 use Rattle.ft_session.specs.Worlds.{MemberState}
 use Rattle.ft_session.proofs.Counting.{StillCounts, counts-first, counts-last, counts-next}
-use Rattle.ft_delivery.proofs.Rests.{rest-at}
 use Rattle.ft_session.proofs.world.furthest_counts.Goals as goal
 
 pub loop-member-init : goal.loop-member-init
-loop-member-init g c = counts-first _
+loop-member-init g c = (
+  (tt, tt),
+  subst (λ ms. StillCounts (values c.args.members.now) ms _) (sym (c.into_iter-member-iterator.ensures.into_iter_gives ∙ c.values-member-items.ensures.rest))
+      (counts-first (values c.args.members.now)),
+)
 
 pub loop-member-preserved : goal.loop-member-preserved
-loop-member-preserved g c = subst (StillCounts c.args.members.now (drop (c.loop-member.member-index + 1) c.args.members.now))
-    (sym (c.furthest_of-furthest.ensures ∙ ap (further_numbers c.loop-member.furthest) (c.numbers.ensures.numbers ∙ ap (λ (m : MemberState). numbers_of m.replica) c.member.view_is)))
-    (counts-next c.args.members.now c.member-item.result (drop (c.loop-member.member-index + 1) c.args.members.now) c.loop-member.furthest
-    (subst (λ ms. StillCounts c.args.members.now ms c.loop-member.furthest)
-    (rest-at c.args.members.now c.loop-member.member-index c.member-item.result c.loop-member-test.true c.member-item.is) c.loop-member.invariant))
+loop-member-preserved g c =
+    let all = values c.args.members.now in
+    let left = c.next.new.self in (
+      (tt, tt),
+      subst (StillCounts all left)
+          (sym (c.furthest_of-furthest.ensures ∙ ap (further_numbers c.loop-member.furthest) (c.numbers.ensures.numbers ∙ ap (λ (m : MemberState). numbers_of m.replica) c.member.view_is)))
+          (counts-next all c.in-Some.member.now left c.loop-member.furthest (subst (λ ms. StillCounts all ms c.loop-member.furthest) c.in-Some.ensures.steps c.loop-member.invariant.1)),
+    )
 
 pub returns : goal.returns
-returns g c w s = counts-last c.args.members.now c.loop-member.furthest
-    (subst (λ ms. StillCounts c.args.members.now ms c.loop-member.furthest)
-    (drop_all c.loop-member.member-index c.args.members.now c.loop-member-test.false) c.loop-member.invariant)
-    w s
+returns g c w s = counts-last (values c.args.members.now) c.loop-member.furthest
+    (subst (λ ms. StillCounts (values c.args.members.now) ms c.loop-member.furthest) c.in-None.ensures.steps.0 c.loop-member.invariant.1) w s

@@ -30,4 +30,4 @@ returns-clause-answers g c = λ e formed is. step-taken e formed c.args.session.
     (IfOk-at_ok (λ n. n ≡ c.args.load + (1 + act_load c.args.act)) c.in_ok-load.ensures.made c.load_after-raised.ensures.sum
     ∙ ap (λ n. c.args.load + (1 + n)) (act-loads c.args.act e is))
     (IfOk-at_ok (λ n. n ≤ 2 ^ 52) c.in_ok-load.ensures.made c.load_after-raised.ensures.low)
-    (λ w t. c.furthest_counts-counts.ensures w (subst (λ ms. MembersStand w.log ms w.clients) (sym (c.as_slice.ensures.value ∙ ap (λ (s : SessionState). s.members) c.session.view_is)) t))
+    (λ w t. c.furthest_counts-counts.ensures w (subst (λ ms. MembersStand w.log ms w.clients) (sym (ap (λ (s : SessionState). s.members) c.session.view_is)) t))

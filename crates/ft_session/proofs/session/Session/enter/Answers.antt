@@ -7,7 +7,7 @@ pub enter_as-requires-clause-stands : goal.enter_as-requires-clause-stands
 enter_as-requires-clause-stands g c = c.requires
 
 pub enter_as-requires-clause-free : goal.enter_as-requires-clause-free
-enter_as-requires-clause-free g c = c.in_ok-free_name.ensures
+enter_as-requires-clause-free g c = c.in_ok-free_name.ensures.fault
 
 pub enter_as-requires-clause-few : goal.enter_as-requires-clause-few
 enter_as-requires-clause-few g c = subst (λ (s : SessionState). length s.service.names < 2 ^ 32 - 1) c.self.view_is c.in_ok-conn.ensures.few

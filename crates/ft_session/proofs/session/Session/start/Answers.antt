@@ -10,4 +10,4 @@ use Rattle.ft_session.proofs.session.Session.start.Goals as goal
 pub returns : goal.returns
 returns g c = rw c.nothing.ensures
     (subst (λ (s : SessionState). AnswersHappening (λ w. happen w (event.Start c.args.name.now None)) c.args.self.now s (Ok out.Nothing)) (sym c.in_ok-admit.ensures)
-    (start-taken c.args.self.now c.args.name.now c.in_ok-free_name.ensures _ c.in_ok-replica.ensures))
+    (start-taken c.args.self.now c.args.name.now c.in_ok-free_name.ensures.fault _ c.in_ok-replica.ensures))

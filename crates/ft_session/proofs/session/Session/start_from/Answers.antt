@@ -13,12 +13,12 @@ use Rattle.ft_session.proofs.session.Session.start_from.Goals as goal
 pub returns-in_err-replica-clause-answers : goal.returns-in_err-replica-clause-answers
 returns-in_err-replica-clause-answers g c =
     handed-on (λ (r : Result Out Refusal). AnswersHappening (λ w. happen w (event.Start c.args.name.now (Some c.args.from.now))) c.args.self.now c.args.self.now r) c.in_err-replica.field-0.0 c.from_residual-in_err-replica.result c.from_residual-in_err-replica.ensures
-    (start_from-refused c.args.self.now c.args.name.now c.in_ok-free_name.ensures c.args.from.now c.in_err-replica.field-0.0 c.in_err-replica.ensures.err)
+    (start_from-refused c.args.self.now c.args.name.now c.in_ok-free_name.ensures.fault c.args.from.now c.in_err-replica.field-0.0 c.in_err-replica.ensures.err)
 
 pub returns-clause-answers : goal.returns-clause-answers
 returns-clause-answers g c = rw c.nothing.ensures
     (subst (λ (s : SessionState). AnswersHappening (λ w. happen w (event.Start c.args.name.now (Some c.args.from.now))) c.args.self.now s (Ok out.Nothing)) (sym c.in_ok-admit.ensures)
-    (start_from-taken c.args.self.now c.args.name.now c.in_ok-free_name.ensures c.args.from.now _ c.in_ok-replica.ensures.ok))
+    (start_from-taken c.args.self.now c.args.name.now c.in_ok-free_name.ensures.fault c.args.from.now _ c.in_ok-replica.ensures.ok))
 
 pub returns-clause-trimmed : goal.returns-clause-trimmed
 returns-clause-trimmed g c = record { replica = _; members = ap (λ (s : SessionState). s.members) c.in_ok-admit.ensures; keeps = c.in_ok-replica.ensures.trimmed }
