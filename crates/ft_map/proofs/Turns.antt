@@ -1,14 +1,14 @@
 -- The client of an event among the clients of a map session, and names.
-use Rattle.std.proofs.Common.{◌≡◌, ℕ, zero, suc, ◌+◌, ◌<◌, Bool, true, false, cond, ◌||◌, List, [], ◌∷◌, ◌++◌, length, slice_index_or, Option, Some, None, refl, sym, ◌∙◌, ap, subst, arith}
+use Rattle.std.proofs.Common.{◌≡◌, ℕ, zero, suc, ◌+◌, ◌<◌, ◌≤◌, le-leb, nat_le, Bool, true, false, cond, ◌||◌, List, [], ◌∷◌, ◌++◌, length, Option, Some, None, refl, sym, ◌∙◌, ap, subst, arith}
 use Rattle.std.proofs.Math.ListN.{set}
+use Rattle.std.proofs.lemmas.Bool.Decides.{nat_tests}
 use Rattle.std.specs.Result.{IsErr, IsErrAnd}
 use Rattle.std.specs.Prelude.{Result, Ok, Err, is_some}
 use Rattle.std.specs.List.{find, list_any, position, position_from, slice_get}
 use Rattle.std.proofs.lemmas.Iterator.Adapters.{position_from-zero}
-use Rattle.std.proofs.lemmas.List.Quantifiers.{position-Some}
-use Rattle.std.proofs.lemmas.Option.{slice_get_read}
 use Rattle.ft_seqr.specs.declared.refusals.Refusal.{Refusal}
-use Rattle.ft_seqr.specs.declared.refusals.Refusal.TheVariants.{Pending, UnknownClient}
+use Rattle.ft_seqr.specs.declared.refusals.Refusal.TheVariants.{ClientLimit, NameInUse, Pending, UnknownClient}
+use Rattle.ft_seqr.specs.World.{name_limit}
 use Rattle.ft_map.specs.declared.events.MapEvent.TheVariants as event
 use Rattle.ft_map.specs.declared.events.MapEvent.{MapEvent}
 use Rattle.ft_map.specs.declared.events.MapOut.{MapOut}
@@ -78,9 +78,22 @@ any_from name k (c ∷ cs) = step (is_client name c) (any_from name (k + 1) cs)
 pub any_found : (name : Characters) (cs : List NamedMapClient) → is_some (position (is_client name) cs) ≡ list_any (is_client name) cs
 any_found name cs = ap (λ (o : Option ℕ). is_some o) (position_from-zero (is_client name) cs) ∙ any_from name 0 cs
 
--- what is lent at the place that was found
-pub at_place : (name : Characters) (cs : List NamedMapClient) (i : ℕ) (c : NamedMapClient) → position (is_client name) cs ≡ Some i → c ≡ slice_index_or cs i c → slice_get cs i ≡ Some c
-at_place name cs i c h k = slice_get_read cs (length cs) i c refl (position-Some (is_client name) cs i c h).0 k
+-- ---- whether a name can be given
+
+module _ (w : MapSession) (name : Characters) where
+  abbrev fault_by : Bool → Bool → Option Refusal
+  fault_by used full = cond used (Some NameInUse) (cond full (Some ClientLimit) None)
+
+  pub fault-named : list_any (is_client name) w.clients ≡ true → name_fault w name ≡ Some NameInUse
+  fault-named h = ap (λ b. fault_by b (nat_le name_limit (length w.clients))) h
+
+  pub fault-full : list_any (is_client name) w.clients ≡ false → 16 ≤ length w.clients → name_fault w name ≡ Some ClientLimit
+  fault-full h many = ap (λ b. fault_by b (nat_le name_limit (length w.clients))) h ∙ ap (fault_by false) (le-leb 16 (length w.clients) many)
+
+  pub fault-none : list_any (is_client name) w.clients ≡ false → length w.clients < 16 → name_fault w name ≡ None
+  fault-none h few =
+      let under : nat_le name_limit (length w.clients) ≡ false = grind (arith, nat_tests) in
+      ap (λ b. fault_by b (nat_le name_limit (length w.clients))) h ∙ ap (fault_by false) under
 
 -- what holds of a refusal holds of the answer by which `?` hands it on
 pub handed-on : {A E : Type 0} (P : Result A E → Type 0) (e : E) (result : Result A E) → IsErr result × IsErrAnd result (λ why. why ≡ e) → P (Err e) → P result
@@ -167,11 +180,11 @@ module _ (w : MapSession) (from : Characters) where
   pub begin-unknown : position (is_client from) w.clients ≡ None → AnswersStart w (Some from) (Err UnknownClient)
   begin-unknown p = λ name. ap (begins name) (not_found from w.clients p)
 
-  module _ (i : ℕ) (c : NamedMapClient) (at : position (is_client from) w.clients ≡ Some i) (is : c ≡ slice_index_or w.clients i c) where
+  module _ (i : ℕ) (c : NamedMapClient) (at : position (is_client from) w.clients ≡ Some i) (is : slice_get w.clients i ≡ Some c) where
     there : find (is_client from) w.clients ≡ Some c
     there =
         let f = found from i w.clients at in
-        let same : Some f.client ≡ Some c = sym f.at ∙ at_place from w.clients i c at is in
+        let same : Some f.client ≡ Some c = sym f.at ∙ is in
         f.found ∙ same
 
     pub begin-pending : (why : Refusal) → AnswersPending c.client.state.pending (Err why) → AnswersStart w (Some from) (Err why)

@@ -1,10 +1,9 @@
 //! The clients of a map session, and their events.
 
 ghost use Rattle.std.specs.Prelude.{◌≡◌, ◌+◌, Ok, OnOk, drop, take};
-ghost use Rattle.std.specs.List.{list_any, position};
 ghost use Rattle.ft_seqr.specs.World.{connection_name};
 ghost use Rattle.ft_map.specs.MapClient.{after_entries, joining};
-ghost use Rattle.ft_map.specs.MapSession.{connect_client, deliver_client, drop_client, edit_client, is_client, joined, next_conn, show_client, submit_all, summary_client, ticket_client};
+ghost use Rattle.ft_map.specs.MapSession.{connect_client, deliver_client, drop_client, edit_client, joined, next_conn, show_client, submit_all, summary_client, ticket_client};
 ghost use Rattle.ft_map.specs.MapWorlds.{AnswersTurn, HasNoNack};
 
 use crate::events::MapOut;
@@ -35,27 +34,14 @@ impl Model for Member {
     ghost view = { λ m. record { name = m.name; connects = m.connects; client = m.client } };
 }
 
-/// Whether a client has the name.
-pub(crate) fn has_member(members: &[Member], name: &Text) -> bool
-    ensures { result ≡ list_any (is_client name.now) members.now }
-{
-    member_place(members, name).is_some()
-}
-
-/// The place of the client of that name.
-pub(crate) fn member_place(members: &[Member], name: &Text) -> Option<usize>
-    ensures { result ≡ position (is_client name.now) members.now }
-{
-    members.iter().position(|member| name.same(&member.name))
-}
-
 /// The client gets a connection, which joins.
 pub(crate) fn connect(
     alloc: Global,
     member: &mut Member,
     service: &mut Service,
 ) -> Result<MapOut, Refusal>
-    ensures { AnswersTurn member.old member.new service.old service.new (connect_client service.old member.old) result }
+    ensures answers { AnswersTurn member.old member.new service.old service.new (connect_client service.old member.old) result }
+    ensures name { member.new.name ≡ member.old.name }
 {
     let Link::Offline = member.client.link() else {
         return Err(Refusal::AlreadyConnected);
@@ -68,6 +54,7 @@ pub(crate) fn connect(
 fn join(alloc: Global, member: &mut Member, service: &mut Service) -> Result<(), OutOfMemory>
     ensures service { OnOk result (service.new ≡ joined (connection_name member.old.name (member.old.connects + 1)) service.old) }
     ensures member { OnOk result (member.new ≡ record { name = member.old.name; connects = member.old.connects + 1; client = joining (next_conn service.old) member.old.client }) }
+    ensures name { member.new.name ≡ member.old.name }
 {
     let connects = member.connects.checked_add(1).ok_or(OutOfMemory)?;
     let name = connection_name(alloc, &member.name, connects)?;
@@ -79,7 +66,8 @@ fn join(alloc: Global, member: &mut Member, service: &mut Service) -> Result<(),
 
 /// The client's connection leaves, and its unsent messages are gone.
 pub(crate) fn drop_link(member: &mut Member, service: &mut Service) -> Result<MapOut, Refusal>
-    ensures { AnswersTurn member.old member.new service.old service.new (drop_client service.old member.old) result }
+    ensures answers { AnswersTurn member.old member.new service.old service.new (drop_client service.old member.old) result }
+    ensures name { member.new.name ≡ member.old.name }
 {
     let Some(conn) = conn_of(member.client.link()) else {
         return Err(Refusal::NotConnected);
@@ -91,7 +79,8 @@ pub(crate) fn drop_link(member: &mut Member, service: &mut Service) -> Result<Ma
 
 /// An edit of the client's own.
 pub(crate) fn edit(member: &mut Member, service: &Service, op: &MapOp) -> Result<MapOut, Refusal>
-    ensures { AnswersTurn member.old member.new service.now service.now (edit_client op.now service.now member.old) result }
+    ensures answers { AnswersTurn member.old member.new service.now service.now (edit_client op.now service.now member.old) result }
+    ensures name { member.new.name ≡ member.old.name }
 {
     member.client.edit(op)?;
     Ok(MapOut::Nothing)
@@ -104,7 +93,8 @@ pub(crate) fn ticket(
     count: HowMany,
 ) -> Result<MapOut, Refusal>
     requires { HasNoNack (ticket_client count service.old member.old) }
-    ensures { AnswersTurn member.old member.new service.old service.new (ticket_client count service.old member.old) result }
+    ensures answers { AnswersTurn member.old member.new service.old service.new (ticket_client count service.old member.old) result }
+    ensures name { member.new.name ≡ member.old.name }
 {
     let Some(conn) = conn_of(member.client.link()) else {
         return Err(Refusal::NotConnected);
@@ -156,7 +146,8 @@ pub(crate) fn deliver(
     service: &Service,
     count: HowMany,
 ) -> Result<MapOut, Refusal>
-    ensures { AnswersTurn member.old member.new service.now service.now (deliver_client count service.now member.old) result }
+    ensures answers { AnswersTurn member.old member.new service.now service.now (deliver_client count service.now member.old) result }
+    ensures name { member.new.name ≡ member.old.name }
 {
     if conn_of(member.client.link()).is_none() {
         return Err(Refusal::NotConnected);

@@ -1,21 +1,21 @@
 //! Worlds of maps.
 
 ghost use Rattle.std.specs.Prelude.{◌≡◌, [], ◌∷◌, ◌++◌, Some, OnOk, false};
+ghost use Rattle.std.specs.List.{list_any};
 ghost use Rattle.ft_map.specs.MapViews.{IsReached};
-ghost use Rattle.ft_map.specs.MapSession.{name_fault, new_session, of_client, step};
+ghost use Rattle.ft_map.specs.MapSession.{is_client, name_fault, new_session, of_client, step};
 ghost use Rattle.ft_map.specs.MapActs.{turn_of};
 ghost use Rattle.ft_map.specs.MapWorlds.{AnswersMapEvent, AnswersName, AnswersSession, AnswersStart, AnswersTurn, HasNoNack};
 
 use crate::events::{MapEvent, MapOut};
-use crate::members::{
-    Member, connect, deliver, drop_link, edit, has_member, member_place, show, summarize, ticket,
-};
+use crate::members::{Member, connect, deliver, drop_link, edit, show, summarize, ticket};
 use crate::replica::MapReplica;
 use crate::service::Service;
-use ft_base::moved::push;
 use ft_base::{Datum, OutOfMemory, Text};
+use ft_delivery::{keep, place_of};
 use ft_seqr::{HowMany, NAME_LIMIT, Refusal};
 use ft_shared_map::{MapOp, SharedMap};
+use indexmap::IndexMap;
 use std::alloc::Global;
 use std::marker::Model;
 
@@ -47,7 +47,7 @@ impl MapWorld {
         MapWorld {
             session: Session {
                 alloc,
-                members: Vec::new(alloc),
+                members: IndexMap::new(alloc),
                 service: Service::new(alloc),
             },
             stopped: false,
@@ -81,16 +81,21 @@ impl MapWorld {
 #[derive(Drop)]
 struct Session {
     alloc: Global,
-    members: Vec<Member>,
+    // In the order in which they came, each under its name.
+    members: IndexMap<String, Member>,
     service: Service,
 }
 
 impl Model for Session {
-    ghost use Rattle.ft_map.specs.MapSession.{MapSession};
+    ghost use Rattle.indexmap.specs.IndexMap.{values};
+    ghost use Rattle.ft_delivery.specs.Kept.{AreUnderNames};
+    ghost use Rattle.ft_map.specs.MapSession.{MapSession, NamedMapClient};
 
     ghost Value = { MapSession };
 
-    ghost view = { λ s. record { clients = s.members.items; service = s.service } };
+    ghost view = { λ s. record { clients = values s.members; service = s.service } };
+
+    ghost invariant = { λ s. AreUnderNames (λ (c : NamedMapClient). c.name) s.members.entries };
 }
 
 impl Session {
@@ -116,7 +121,7 @@ impl Session {
         requires { HasNoNack (of_client self.old name.now (turn_of act)) }
         ensures { AnswersSession self.old self.new (of_client self.old name.now (turn_of act.entry)) result }
     {
-        let Some(place) = member_place(self.members.as_slice(), name) else {
+        let Some(place) = place_of(&self.members, name) else {
             return Err(Refusal::UnknownClient);
         };
         happen_to_member(self.alloc, &mut self.members[place], &mut self.service, act)
@@ -127,7 +132,6 @@ impl Session {
         ensures { AnswersSession self.old self.new (step self.old (MapEvent.Start name.now from.now)) result }
     {
         self.free_name(name)?;
-        let name = name.copy()?;
         let client = self.begun(from)?;
         self.admit(name, client)?;
         Ok(MapOut::Nothing)
@@ -137,9 +141,10 @@ impl Session {
     //
     // Returns `NameInUse` exactly where a client has it, and `ClientLimit` exactly where there are 16 of these.
     fn free_name(&self, name: &Text) -> Result<(), Refusal>
-        ensures { AnswersName (name_fault self.now name.now) result }
+        ensures fault { AnswersName (name_fault self.now name.now) result }
+        ensures free { OnOk result (list_any (is_client name.now) self.now.clients ≡ false) }
     {
-        if has_member(self.members.as_slice(), name) {
+        if place_of(&self.members, name).is_some() {
             return Err(Refusal::NameInUse);
         }
         if NAME_LIMIT <= self.members.len() {
@@ -162,7 +167,7 @@ impl Session {
     fn copied(&self, from: &Text) -> Result<MapReplica, Refusal>
         ensures { AnswersStart self.now (Some from.now) result }
     {
-        let Some(place) = member_place(self.members.as_slice(), from) else {
+        let Some(place) = place_of(&self.members, from) else {
             return Err(Refusal::UnknownClient);
         };
         let client = &self.members[place].client;
@@ -171,15 +176,16 @@ impl Session {
     }
 
     // A client comes in under a new name.
-    fn admit(&mut self, name: Text, client: MapReplica) -> Result<(), OutOfMemory>
-        ensures { OnOk result (self.new ≡ record self.old { clients = self.old.clients ++ record { name = name; connects = 0; client = client } ∷ [] }) }
+    fn admit(&mut self, name: &Text, client: MapReplica) -> Result<(), OutOfMemory>
+        requires { list_any (is_client name.now) self.old.clients ≡ false }
+        ensures { OnOk result (self.new ≡ record self.old { clients = self.old.clients ++ record { name = name.now; connects = 0; client = client } ∷ [] }) }
     {
         let member = Member {
-            name,
+            name: name.copy()?,
             connects: 0,
             client,
         };
-        push(&mut self.members, member)
+        keep(&mut self.members, name, member)
     }
 }
 
@@ -203,7 +209,8 @@ fn happen_to_member(
     act: MapAct<'_>,
 ) -> Result<MapOut, Refusal>
     requires { HasNoNack (turn_of act service.old member.old) }
-    ensures { AnswersTurn member.old member.new service.old service.new (turn_of act.entry service.old member.old) result }
+    ensures answers { AnswersTurn member.old member.new service.old service.new (turn_of act.entry service.old member.old) result }
+    ensures name { member.new.name ≡ member.old.name }
 {
     match act {
         MapAct::Connect => connect(alloc, member, service),
