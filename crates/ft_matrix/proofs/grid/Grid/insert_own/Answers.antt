@@ -28,7 +28,7 @@ returns-clause-sound g c =
     let v = c.insert_own_units.new.units in
     let op = SpliceIn c.args.target c.args.pos c.args.count in
     stage-sound c.args.self.now (record c.args.self.now { stages = c.push_behind.new.items }) c.args.stage op c.requires.sound c.requires.above
-    (behind-side c.args.target c.args.self.now v c.push_behind.new.items.items (splice_stage c.args.stage op) c.in_ok-push_behind.ensures)
+    (behind-side c.args.target c.args.self.now v c.push_behind.new.items.items (splice_stage c.args.stage op) c.in_ok-push_behind.ensures.items)
     (λ row col. refl) c.requires.some
     c.args.target v c.in_ok-insert_own_units.ensures.sound (puts-used last_stage no_run (Local c.args.stage) c.args.pos c.args.count (units_at c.args.target c.args.self.now) v i) i.1.floor
 
@@ -39,7 +39,7 @@ returns-clause-above g c = λ none.
     let v = c.insert_own_units.new.units in
     let u = splice_stage c.args.stage (SpliceIn c.args.target c.args.pos c.args.count) in
     splice-above c.args.target c.args.self.now v (record c.args.self.now { stages = c.push_behind.new.items }) c.args.stage u c.requires.above refl
-    (behind-side c.args.target c.args.self.now v c.push_behind.new.items.items u c.in_ok-push_behind.ensures)
+    (behind-side c.args.target c.args.self.now v c.push_behind.new.items.items u c.in_ok-push_behind.ensures.items)
     (put-below c.args.pos c.args.count c.args.stage (units_at c.args.target c.args.self.now) v i)
 
 pub returns-clause-edited : goal.returns-clause-edited
@@ -50,7 +50,7 @@ returns-clause-edited g c = λ last doc stages e h.
     let u = splice_stage c.args.stage (SpliceIn c.args.target c.args.pos c.args.count) in
     own-insert-taken last c.args.stage e (omega (arith, c.ranges.stage.fits)) c.args.self.now doc stages c.requires.sound h c.requires.above c.args.target c.args.pos c.args.count
     v (record c.args.self.now { stages = c.push_behind.new.items }) i (behind-side c.args.target c.args.self.now v c.push_behind.new.items.items
-    u c.in_ok-push_behind.ensures)
+    u c.in_ok-push_behind.ensures.items)
 
 pub returns-then-not-branch-clause-counts : goal.returns-then-not-branch-clause-counts
 returns-then-not-branch-clause-counts g c =

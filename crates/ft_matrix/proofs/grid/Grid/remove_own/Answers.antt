@@ -27,7 +27,7 @@ returns-clause-sound g c =
     let v = c.remove_own_units.new.units in
     let op = SpliceOut c.args.target c.args.pos1 c.args.pos2 in
     stage-sound c.args.self.now (record c.args.self.now { stages = c.push_behind.new.items }) c.args.stage op c.requires.sound c.requires.above
-    (behind-side c.args.target c.args.self.now v c.push_behind.new.items.items (splice_stage c.args.stage op) c.in_ok-push_behind.ensures)
+    (behind-side c.args.target c.args.self.now v c.push_behind.new.items.items (splice_stage c.args.stage op) c.in_ok-push_behind.ensures.items)
     (λ row col. refl) c.requires.some
     c.args.target v c.in_ok-remove_own_units.ensures.sound (marks-used last_stage (Local c.args.stage) c.args.pos1 c.args.pos2 (units_at c.args.target c.args.self.now) v i) i.1.floor
 
@@ -38,7 +38,7 @@ returns-clause-above g c = λ none.
     let v = c.remove_own_units.new.units in
     let u = splice_stage c.args.stage (SpliceOut c.args.target c.args.pos1 c.args.pos2) in
     splice-above c.args.target c.args.self.now v (record c.args.self.now { stages = c.push_behind.new.items }) c.args.stage u c.requires.above refl
-    (behind-side c.args.target c.args.self.now v c.push_behind.new.items.items u c.in_ok-push_behind.ensures)
+    (behind-side c.args.target c.args.self.now v c.push_behind.new.items.items u c.in_ok-push_behind.ensures.items)
     (range-below c.args.pos1 c.args.pos2 c.args.stage (units_at c.args.target c.args.self.now) v i)
 
 pub returns-clause-edited : goal.returns-clause-edited
@@ -49,7 +49,7 @@ returns-clause-edited g c = λ last doc stages e h.
     let u = splice_stage c.args.stage (SpliceOut c.args.target c.args.pos1 c.args.pos2) in
     own-remove-taken last c.args.stage e (omega (arith, c.ranges.stage.fits)) c.args.self.now doc stages c.requires.sound h c.requires.above c.args.target c.args.pos1 c.args.pos2
     v (record c.args.self.now { stages = c.push_behind.new.items }) i (behind-side c.args.target c.args.self.now v c.push_behind.new.items.items
-    u c.in_ok-push_behind.ensures)
+    u c.in_ok-push_behind.ensures.items)
 
 pub returns-then-not-branch-clause-counts : goal.returns-then-not-branch-clause-counts
 returns-then-not-branch-clause-counts g c =
