@@ -11,10 +11,13 @@ ghost use Rattle.ft_plain_document.specs.SubOperations.{sub_operation_of};
 use crate::documents::PlainDocument;
 use crate::moved::queue_of;
 use crate::stages::{PlainStage, SubOp};
-use ft_base::moved::{all_three, both, push_behind};
-use ft_base::{Datum, OutOfMemory, Text};
+use ft_base::moved::push_behind;
+use ft_base::{Datum, OutOfMemory};
 use ft_json::ValText;
-use ft_op::{BaseOp, CellOp, Ends, Seg, Target, TextOp};
+use ft_op::{
+    BaseOp, CellOp, Ends, Seg, Target, TextOp, copy_insertion, copy_interval_add,
+    copy_interval_change,
+};
 use ft_plain_lists::{
     AnnotatedBy, Before, ElementName, ElementNames, PlainElement, RemovedBy, end_number,
     lowered_runs, marked_runs, rank, stage_position,
@@ -119,16 +122,8 @@ fn segment_piece(
     if is_empty(seg) {
         return Ok(VecDeque::new(alloc));
     }
-    let insertion = insertion_of(stage_position(items, stage), seg, props)?;
+    let insertion = copy_insertion(stage_position(items, stage), seg, props)?;
     queue_of(alloc, SubOp::Text(insertion))
-}
-
-// The insertion of the segment with these properties after `pos` elements.
-fn insertion_of(pos: u64, seg: &Seg, props: &PropSet) -> Result<BaseOp, OutOfMemory>
-    ensures { IfOk result (λ op. op ≡ BaseOp.Insert pos seg.now props.now) }
-{
-    let (seg, props) = both(seg.copy(), props.copy())?;
-    Ok(BaseOp::Insert { pos, seg, props })
 }
 
 // Whether the segment puts nothing in.
@@ -276,54 +271,18 @@ fn interval_piece(
             id,
             props,
             ..
-        } => interval_addition(label, id, ends_in(items, stage, names), props),
+        } => copy_interval_add(label, id, ends_in(items, stage, names), props),
         TextOp::IntervalChange {
             label,
             id,
             ends: Some(_),
             props,
-        } => interval_change(label, id, ends_in(items, stage, names), props),
+        } => { copy_interval_change(label, id, Some(ends_in(items, stage, names)), props) },
         TextOp::IntervalChange { ends: None, .. }
         | TextOp::IntervalDelete { .. }
         | TextOp::One(_)
         | TextOp::Group(_) => op.copy(),
     }
-}
-
-// The operation that adds an interval with these parts.
-fn interval_addition(
-    label: &Text,
-    id: &Text,
-    ends: Ends,
-    props: &PropSet,
-) -> Result<TextOp, OutOfMemory>
-    ensures { IfOk result (λ op. op ≡ TextOp.IntervalAdd label.now id.now ends props.now) }
-{
-    let (label, id, props) = all_three(label.copy(), id.copy(), props.copy())?;
-    Ok(TextOp::IntervalAdd {
-        label,
-        id,
-        ends,
-        props,
-    })
-}
-
-// The operation that gives an interval these ends, and sets properties of it.
-fn interval_change(
-    label: &Text,
-    id: &Text,
-    ends: Ends,
-    props: &PropSet,
-) -> Result<TextOp, OutOfMemory>
-    ensures { IfOk result (λ op. op ≡ TextOp.IntervalChange label.now id.now (Some ends) props.now) }
-{
-    let (label, id, props) = all_three(label.copy(), id.copy(), props.copy())?;
-    Ok(TextOp::IntervalChange {
-        label,
-        id,
-        ends: Some(ends),
-        props,
-    })
 }
 
 // The elements as numbers at the stage.

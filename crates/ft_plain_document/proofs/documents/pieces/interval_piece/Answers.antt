@@ -8,6 +8,6 @@ pub returns-in-IntervalAdd : goal.returns-in-IntervalAdd
 returns-in-IntervalAdd c =
     let of = interval_piece c.args.stage c.args.items.now c.args.names.now in
     let op = c.in-IntervalAdd in
-    IfOk-weaker c.interval_addition.result (λ piece. piece ≡ IntervalAdd op.label op.id c.ends_in.result op.props)
+    IfOk-weaker c.copy_interval_add.result (λ piece. piece ≡ IntervalAdd op.label op.id c.ends_in.result op.props)
     (λ piece. piece ≡ of c.args.op.now)
-    (λ piece e. e ∙ ap (λ ends. IntervalAdd op.label op.id ends op.props) c.ends_in.ensures ∙ sym (ap of op.is)) c.interval_addition.ensures
+    (λ piece e. e ∙ ap (λ ends. IntervalAdd op.label op.id ends op.props) c.ends_in.ensures ∙ sym (ap of op.is)) c.copy_interval_add.ensures
