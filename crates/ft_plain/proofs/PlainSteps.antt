@@ -1,5 +1,5 @@
 -- What a document over plain lists makes of a step it makes of each document that it holds.
-use Rattle.std.proofs.Common.{◌≡◌, ℕ, ◌+◌, List, [], ◌∷◌, ◌++◌, Result, Ok, Err, drop, length, map, refl, sym, ◌∙◌, ap, subst, arith}
+use Rattle.std.proofs.Common.{◌≡◌, ◌≤◌, ℕ, ◌+◌, List, [], ◌∷◌, ◌++◌, Result, Ok, Err, drop, length, length-append, map, refl, sym, ◌∙◌, ap, subst, arith}
 use Rattle.std.specs.Prelude.{OnOk, flat_map}
 use Rattle.std.proofs.lemmas.Grind.{flat_map-append}
 use Rattle.std.proofs.lemmas.List.{drop_at, take_at}
@@ -9,14 +9,14 @@ use Rattle.ft_op.specs.Stages.{Stage}
 use Rattle.ft_msg.specs.declared.faults.EditFault.{EditFault}
 use Rattle.ft_msg.specs.declared.messages.Entry.{Entry}
 use Rattle.ft_msg.specs.Agreed.{with_numbers}
-use Rattle.ft_msg.specs.Client.{NaiveClient, local_sub_operations}
+use Rattle.ft_msg.specs.Client.{NaiveClient, PendingEdit, local_sub_operations}
 use Rattle.ft_msg.specs.Reconnection.{carried_stage, rebuilt_document}
 use Rattle.ft_msg.proofs.ReplicaStarts.{keeps-itself}
 use Rattle.ft_laws_summaries.specs.Summaries.{IsSmall}
 use Rattle.ft_laws_summaries.proofs.ValidSegments.{trimmed-length}
 use Rattle.ft_replica.specs.declared.document.Resent.{Resent}
 use Rattle.ft_replica.specs.Own.{AnswersStages, Compacts, HeldDocument, MeansRefused, held_by, rejoined, resent}
-use Rattle.ft_plain.specs.Cut.{cut}
+use Rattle.ft_plain.specs.Cut.{cut, cut_length}
 use Rattle.ft_plain.specs.Own.{HasSmallLists, HoldsExactly, PlainState}
 use Rattle.ft_plain.proofs.RefusedEdits.{steps-refusal}
 
@@ -48,6 +48,17 @@ carried-all : (doc : Document) (edits : List (List Stage)) → flat_map (λ ss. 
 carried-all doc [] = refl
 carried-all doc (e ∷ edits) =
     ap (λ ss. flat_map (carried_stage doc) e ++ ss) (carried-all doc edits) ∙ sym (flat_map-append (carried_stage doc) e (flat_map (λ (ss : List Stage). ss) edits))
+
+-- the edits of a client have all its stages
+pub edits-cut : (d : PlainState) (low : ℕ) (p : NaiveClient) (counts : List ℕ) → HoldsExactly d (held_by low p) → map (λ e. length e.stages) p.pending ≡ counts
+    → cut_length counts ≤ length d.stages
+edits-cut d low p counts h e =
+    let all = ap cut_length (sym e) ∙ by p.pending ∙ ap length (sym h.pending) in
+    omega (arith, all)
+  where
+    by : (es : List PendingEdit) → cut_length (map (λ e. length e.stages) es) ≡ length (flat_map (λ e. e.stages) es)
+    by [] = refl
+    by (e ∷ es) = ap (λ n. length e.stages + n) (by es) ∙ sym (length-append e.stages (flat_map (λ (e : PendingEdit). e.stages) es))
 
 pub rejoin-held : (old new : PlainState) (entry : Entry) (counts : List ℕ) (again : List Resent)
     → again ≡ map (resent (with_numbers entry old.doc)) (cut counts old.stages)

@@ -1,12 +1,12 @@
 //! Pending stages as they are sent again after a reconnection.
 
-ghost use Rattle.std.specs.Prelude.{◌≡◌, ◌↔◌, ◌+◌, ◌∷◌, ◌++◌, [], IfOk, IsTrue, OnOk, Some, flat_map, map, option_to_list};
+ghost use Rattle.std.specs.Prelude.{◌≡◌, ◌≤◌, ◌↔◌, ◌+◌, ◌∷◌, ◌++◌, [], IfOk, IsTrue, OnOk, Some, flat_map, length, map, option_to_list};
 ghost use Rattle.ft_op.specs.declared.operations.ChannelOp.TheVariants.{Grid, Text};
 ghost use Rattle.ft_op.specs.Operation.{OnGrid, OnText};
 ghost use Rattle.ft_op.specs.Pieces.{base_op_of, cell_op_of, op_of, pieces};
 ghost use Rattle.ft_msg.specs.Reconnection.{carried_stage};
 ghost use Rattle.ft_plain_document.specs.SubOperations.{sub_operation_of};
-ghost use Rattle.ft_plain.specs.Cut.{cut};
+ghost use Rattle.ft_plain.specs.Cut.{cut, cut_length};
 ghost use Rattle.ft_replica.specs.Own.{resent};
 
 use ft_base::OutOfMemory;
@@ -18,23 +18,19 @@ use std::collections::VecDeque;
 
 /// The edits as they are sent again, of which each has so many of the stages; the stages that go on are
 /// added to `carried`.
-///
-/// Returns `OutOfMemory` where there is no room for them, or there are fewer stages.
 pub fn resend(
     doc: &PlainDocument,
     counts: &[usize],
     stages: &[PlainStage],
     carried: &mut PlainStages,
 ) -> Result<VecDeque<Resent>, OutOfMemory>
+    requires { cut_length counts.now ≤ length stages.now }
     ensures again { IfOk result (λ v. v.items ≡ map (resent doc.now) (cut counts.now stages.now)) }
     ensures carried { OnOk result (carried.new ≡ carried.old ++ flat_map (λ ss. flat_map (carried_stage doc.now) ss) (cut counts.now stages.now)) }
 {
     let mut again = VecDeque::new(doc.alloc());
     let mut rest = stages;
     for count in counts {
-        if *count > rest.len() {
-            return Err(OutOfMemory);
-        }
         let (edit, later) = rest.split_at(*count);
         again.push_back(resend_edit(doc, edit, carried)?)?;
         rest = later;

@@ -1,13 +1,21 @@
-use Rattle.std.proofs.Common.{◌++◌, List, map, ap, subst, sym, ◌∙◌}
+use Rattle.std.proofs.Common.{◌≤◌, ◌++◌, List, length, map, ap, subst, sym, ◌∙◌}
 use Rattle.std.specs.Prelude.{flat_map}
 use Rattle.ft_op.specs.Document.{Document}
 use Rattle.ft_op.specs.Stages.{Stage}
 use Rattle.ft_msg.specs.Reconnection.{carried_stage, rebuilt_document}
-use Rattle.ft_replica.specs.Own.{resent}
-use Rattle.ft_plain.specs.Cut.{cut}
+use Rattle.ft_replica.specs.Own.{held_by, resent}
+use Rattle.ft_plain.specs.Cut.{cut, cut_length}
 use Rattle.ft_plain.specs.Own.{HoldsExactly, PlainState}
-use Rattle.ft_plain.proofs.PlainSteps.{rejoin-held}
+use Rattle.ft_plain.proofs.PlainSteps.{edits-cut, rejoin-held}
 use Rattle.ft_plain.proofs.own.PlainOwnOwnDocument.rejoin.Goals as goal
+
+pub resend-requires : goal.resend-requires
+resend-requires c =
+    let i = c.self.inside in
+    let known = c.requires.known in
+    subst (λ (ss : List Stage). cut_length c.args.counts.now ≤ length ss) (sym c.as_slice-2.ensures)
+    (edits-cut (record { doc = i.doc; stages = i.stages }) known.low known.client c.args.counts.now
+    (subst (λ (d : PlainState). HoldsExactly d (held_by known.low known.client)) (sym c.self.view_is) known.document) known.fits.1)
 
 pub returns : goal.returns
 returns c = λ held edits named e n h.
