@@ -36,7 +36,7 @@ pub enum Fault {
     /// A client without a connection sends, or leaves.
     #[error("no connection")]
     Offline,
-    /// A message is none that these editors send.
-    #[error("a foreign message")]
-    Foreign,
+    /// A message isn't well formed, so no client may be given it.
+    #[error("an ill-formed message")]
+    IllFormed,
 }

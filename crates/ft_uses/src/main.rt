@@ -3,7 +3,6 @@
 
 mod edits;
 mod faults;
-mod messages;
 mod server;
 mod showing;
 mod story;

@@ -1,9 +1,8 @@
 //! The server.
 
 use crate::faults::Fault;
-use crate::messages::is_expected;
 use ft_base::Text;
-use ft_msg::{Draft, Entry, Replica};
+use ft_msg::{Draft, Entry, Replica, is_well_formed_message};
 use ft_seqr::{Sequencer, conn_of};
 use std::alloc::Global;
 
@@ -78,8 +77,8 @@ impl Server {
 
 // Gives the client a message.
 fn give<R: Replica>(client: &mut R, entry: &Entry) -> Result<(), Fault> {
-    if !is_expected(&entry.msg) {
-        return Err(Fault::Foreign);
+    if !is_well_formed_message(&entry.msg) {
+        return Err(Fault::IllFormed);
     }
     client.process(entry)?;
     Ok(())
