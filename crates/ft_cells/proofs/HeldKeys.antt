@@ -19,7 +19,8 @@ abbrev pub held_keys : CellList → List CellKey
 held_keys cells = retain_map (λ e. holds_value e.1) (λ e. key_of e.0) cells
 
 -- the keys of the entries so far are those of all where none is left
-pub all_keys : (keys : List CellKey) (rest first entries : CellList) → rest ≡ [] → keys ++ held_keys rest ≡ held_keys first → first ≡ entries → keys ≡ held_keys entries
+pub all_keys : (keys : List CellKey) (rest first entries : CellList)
+    → rest ≡ [] → keys ++ held_keys rest ≡ held_keys first → first ≡ entries → keys ≡ held_keys entries
 all_keys keys rest first entries none so_far started =
     sym (append-nil keys) ∙ ap (λ (es : CellList). keys ++ held_keys es) (sym none) ∙ so_far ∙ ap held_keys started
 
@@ -72,7 +73,8 @@ each_once r c (e ∷ es) h = counts r c e es ∙ step (is_key r c (key_of e.0)) 
         rw i (first (holds_value e.1) (len (is_key r c) (held_keys es)) (none_behind r c es behind))
     step false i rest = rw i (later (holds_value e.1) (len (is_key r c) (held_keys es)) _ rest)
 
-behind_all : (x : Crossing) (es : CellList) → AllByRecursion (λ y. crossing_cmp x y ≡ Less) (keys_of es) → AllByRecursion (λ k. key_cmp (key_of x) k ≡ Less) (held_keys es)
+behind_all : (x : Crossing) (es : CellList) → AllByRecursion (λ y. crossing_cmp x y ≡ Less) (keys_of es)
+    → AllByRecursion (λ k. key_cmp (key_of x) k ≡ Less) (held_keys es)
 behind_all x [] h = tt
 behind_all x (e ∷ es) h = step (holds_value e.1) (behind_all x es h.1)
   where

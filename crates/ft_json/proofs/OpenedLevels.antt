@@ -25,7 +25,8 @@ stays Escaped [] = false
 stays Inside (x ∷ xs) = not (nat_eq x 34) && stays (next_place Inside x) xs
 stays Escaped (x ∷ xs) = stays Inside xs
 
-passes : (left : ℕ) (place : Place) (xs rest : List ℕ) → stays place xs ≡ true → opens_at_most left place (xs ++ rest) ≡ opens_at_most left Inside rest
+passes : (left : ℕ) (place : Place) (xs rest : List ℕ) → stays place xs ≡ true
+    → opens_at_most left place (xs ++ rest) ≡ opens_at_most left Inside rest
 passes left Outside xs rest e = absurd (false≢true e)
 passes left Inside [] rest e = refl
 passes left Escaped [] rest e = absurd (false≢true e)
@@ -94,7 +95,8 @@ digits_pass left (c ∷ cs) rest digits =
 decimal_passes : (left n : ℕ) (rest : List ℕ) → n < 2 ^ 64 → opens_at_most left Outside (decimal n ++ rest) ≡ opens_at_most left Outside rest
 decimal_passes left n rest small = digits_pass left (decimal n) rest (decimal_is_IsNumeral n small).0.1
 
-number_passes : (left : ℕ) (n : Num) (rest : List ℕ) → is_whole n ≡ true → opens_at_most left Outside (number_text n ++ rest) ≡ opens_at_most left Outside rest
+number_passes : (left : ℕ) (n : Num) (rest : List ℕ) → is_whole n ≡ true
+    → opens_at_most left Outside (number_text n ++ rest) ≡ opens_at_most left Outside rest
 number_passes left (unsigned n) rest h = decimal_passes left n rest (ltb-true _ _ h)
 number_passes left (negative (pos n)) rest h = absurd (false≢true h)
 number_passes left (negative (negsuc n)) rest h =
@@ -136,9 +138,11 @@ mutual
   opens_levels (number n) left rest h = number_passes left n rest h ∙ none_fit left _
   opens_levels (string s) left rest h = quoted_passes left s rest ∙ none_fit left _
   opens_levels (array ds) zero rest h = none_left (items_depth ds) _
-  opens_levels (array ds) (suc left) rest h = items_open_levels ds false left rest h ∙ ap (λ b. b && opens_at_most (suc left) Outside rest) (one_deeper (items_depth ds) left)
+  opens_levels (array ds) (suc left) rest h =
+      items_open_levels ds false left rest h ∙ ap (λ b. b && opens_at_most (suc left) Outside rest) (one_deeper (items_depth ds) left)
   opens_levels (object ms) zero rest h = none_left (members_depth ms) _
-  opens_levels (object ms) (suc left) rest h = members_open_levels ms false left rest h ∙ ap (λ b. b && opens_at_most (suc left) Outside rest) (one_deeper (members_depth ms) left)
+  opens_levels (object ms) (suc left) rest h =
+      members_open_levels ms false left rest h ∙ ap (λ b. b && opens_at_most (suc left) Outside rest) (one_deeper (members_depth ms) left)
 
   items_open_levels : (ds : Items) (later : Bool) (left : ℕ) (rest : List ℕ) → ItemsAreCanonical ds
       → opens_at_most left Outside (items_text later ds ++ rest) ≡ (nat_le (items_depth ds) left && opens_at_most (suc left) Outside rest)

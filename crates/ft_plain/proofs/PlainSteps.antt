@@ -50,7 +50,8 @@ carried-all doc (e ∷ edits) =
     ap (λ ss. flat_map (carried_stage doc) e ++ ss) (carried-all doc edits) ∙ sym (flat_map-append (carried_stage doc) e (flat_map (λ (ss : List Stage). ss) edits))
 
 -- the edits of a client have all its stages
-pub edits-cut : (d : PlainState) (low : ℕ) (p : NaiveClient) (counts : List ℕ) → HoldsExactly d (held_by low p) → map (λ e. length e.stages) p.pending ≡ counts
+pub edits-cut : (d : PlainState) (low : ℕ) (p : NaiveClient) (counts : List ℕ) → HoldsExactly d (held_by low p)
+    → map (λ e. length e.stages) p.pending ≡ counts
     → cut_length counts ≤ length d.stages
 edits-cut d low p counts h e =
     let all = ap cut_length (sym e) ∙ by p.pending ∙ ap length (sym h.pending) in

@@ -99,7 +99,8 @@ one_alone before (x ∷ []) h = refl
 one_alone before (x ∷ y ∷ xs) h = absurd (omega arith)
 
 -- those from one on rise as those from the one before do, where that comes before it
-pub next_rises : {A : Type 0} (before : A → A → Bool) (xs : List A) (i : ℕ) (a b : A) → i < length xs → a ≡ get_or xs (i - 1) a → b ≡ get_or xs i b → before a b ≡ true
+pub next_rises : {A : Type 0} (before : A → A → Bool) (xs : List A) (i : ℕ) (a b : A)
+    → i < length xs → a ≡ get_or xs (i - 1) a → b ≡ get_or xs i b → before a b ≡ true
     → rises before (drop (i + 1 - 1) xs) ≡ rises before (drop (i - 1) xs)
 next_rises before xs zero a b within first second h = let none : 0 + 1 - 1 ≡ 0 - 1 = omega arith in ap (λ (k : ℕ). rises before (drop k xs)) none
 next_rises before xs (suc i) a b within first second h =

@@ -6,4 +6,5 @@ use Rattle.ft_sumdoc.proofs.valid.are_valid_segments.Given as goal
 
 -- the segments that are left decide
 abbrev pub invariant-loop-seg : goal.invariant-loop-seg
-invariant-loop-seg l = AllByRecursion (IsSegment (bounds_in l.limits)) (drop l.seg-index l.segs) ↔ AllByRecursion (IsSegment (bounds_in l.limits)) l.segs
+invariant-loop-seg l =
+    AllByRecursion (IsSegment (bounds_in l.limits)) (drop l.seg-index l.segs) ↔ AllByRecursion (IsSegment (bounds_in l.limits)) l.segs

@@ -11,7 +11,9 @@ pub returns : goal.returns
 returns c =
     let text = c.args.self.now in
     let (d, canonical, spells) : IsCanonicalText text = subst IsCanonicalText c.self.view_is c.self.invariant in
-    let read : c.opens_few.result ≡ opens_at_most 100 Outside text = c.opens_few.ensures ∙ ap (opens_at_most 100 Outside) (c.as_bytes.ensures.value ∙ c.as_str.ensures ∙ c.self.view_is) in (
-      λ few. (d, canonical, leb-true (depth d) 100 (sym (read ∙ ap (opens_at_most 100 Outside) spells ∙ opens_its_levels d canonical) ∙ few), spells),
+    let read : c.opens_few.result ≡ opens_at_most 100 Outside text =
+    c.opens_few.ensures ∙ ap (opens_at_most 100 Outside) (c.as_bytes.ensures.value ∙ c.as_str.ensures ∙ c.self.view_is) in (
+      λ few.
+          (d, canonical, leb-true (depth d) 100 (sym (read ∙ ap (opens_at_most 100 Outside) spells ∙ opens_its_levels d canonical) ∙ few), spells),
       λ kept. read ∙ ap (opens_at_most 100 Outside) kept.3 ∙ opens_its_levels kept.0 kept.1 ∙ le-leb (depth kept.0) 100 kept.2,
     )
