@@ -1,5 +1,5 @@
 -- What nodes and the links beside them show as slots.
-use Rattle.std.proofs.Common.{◌≡◌, ◌≢◌, ℕ, zero, suc, ◌<◌, ◌≤◌, List, [], ◌∷◌, ◌+◌, length, get_or, set, Option}
+use Rattle.std.proofs.Common.{◌≡◌, ◌≢◌, ℕ, zero, suc, ◌<◌, ◌≤◌, List, [], ◌∷◌, ◌+◌, length, drop, get_or, set, Option}
 use Rattle.std.proofs.Common.{Some, None, IsSome, refl, sym, ap, subst, ◌∙◌, inl, inr, arith, length-set, cond, is_some, true≢false}
 use Rattle.std.specs.Prelude.{count_by, max}
 use Rattle.std.proofs.lemmas.Bool.{cases_eq}
@@ -50,7 +50,7 @@ numbered_still {T} s s' key n u h id there = elim (cases_eq id key) [
 ]
 
 module _ {T : Type 0} (s s' : Slab T) where
-  pub same_numbered : (n n' : ℕ) → s'.slots ≡ s.slots → n' ≡ n → AreNumbered s n → AreNumbered s' n'
+  pub same_numbered : (n n' : ℕ) → s'.slots ≡ s.slots → n ≤ n' → AreNumbered s n → AreNumbered s' n'
   same_numbered n n' e k h id there = omega (arith, k, h id (subst (λ (os : List (Option T)). IsSome (get_or os id None)) e there))
 
   -- what keeps all values keeps all places
@@ -84,51 +84,70 @@ module _ {T : Type 0} (s : Slab T) (id : ℕ) (old new : T) (found : get s id �
       omega (arith, e, f)
 
 module _ {L B : Type 0} where
-  pub less_room : (s : Slab (Node L B)) (n capacity spare less : ℕ) → less ≤ spare → HaveRoom s n capacity spare → HaveRoom s n capacity less
-  less_room s n capacity spare less le h =
+  pub less_room : (s : Slab (Node L B)) (n spare less : ℕ) → less ≤ spare → HaveRoom s n spare → HaveRoom s n less
+  less_room s n spare less le h =
       record { numbered = h.numbered; nodes_fit = omega (arith, h.nodes_fit, le); links_fit = λ one. h.links_fit (omega (arith, one, le)) }
 
   -- as many nodes are spare after a write of one
-  pub room_written : (s : Slab (Node L B)) (n n' capacity spare id : ℕ) (old new : Node L B) → get s id ≡ Some old → n' ≡ n → HaveRoom s n capacity spare
-      → HaveRoom (with_value s id new) n' capacity spare
-  room_written s n n' capacity spare id old new found same h =
+  pub room_written : (s : Slab (Node L B)) (n n' spare id : ℕ) (old new : Node L B) → get s id ≡ Some old → n' ≡ n → HaveRoom s n spare
+      → HaveRoom (with_value s id new) n' spare
+  room_written s n n' spare id old new found same h =
       record {
         numbered = λ x there. omega (arith, same, h.numbered x (was_there s id old new found x there));
         nodes_fit = omega (arith, h.nodes_fit, len_kept s id old new found);
-        links_fit = h.links_fit;
+        links_fit = λ one. omega (arith, same, h.links_fit one);
       }
 
-  -- as many links, and as much room for them
-  pub kept_room : (s : Slab (Node L B)) (n n' capacity capacity' spare : ℕ) → n' ≡ n → capacity' ≡ capacity → HaveRoom s n capacity spare
-      → HaveRoom s n' capacity' spare
-  kept_room s n n' capacity capacity' spare e k h = rw (e, k) h
+  -- as many links
+  pub kept_room : (s : Slab (Node L B)) (n n' spare : ℕ) → n' ≡ n → HaveRoom s n spare → HaveRoom s n' spare
+  kept_room s n n' spare e h = rw e h
 
   -- a node fewer
-  pub room_freed : (s s' : Slab (Node L B)) (key n n' capacity capacity' spare : ℕ) → Updates s s' key None → slab_len s' + 1 ≡ slab_len s → s'.capacity ≡ s.capacity
-      → n' ≡ n → capacity' ≡ capacity → HaveRoom s n capacity spare → HaveRoom s' n' capacity' spare
-  room_freed s s' key n n' capacity capacity' spare gone len room links kept h =
+  pub room_freed : (s s' : Slab (Node L B)) (key n n' spare : ℕ) → Updates s s' key None → slab_len s' + 1 ≡ slab_len s → s'.capacity ≡ s.capacity → n' ≡ n
+      → HaveRoom s n spare → HaveRoom s' n' spare
+  room_freed s s' key n n' spare gone len room links h =
       record {
         numbered = numbered_as s' n n' links (numbered_still s s' key n gone h.numbered);
         nodes_fit = omega (arith, len, room, h.nodes_fit);
-        links_fit = λ one. omega (arith, room, kept, h.links_fit one);
+        links_fit = λ one. omega (arith, room, links, h.links_fit one);
       }
 
   -- none spare
-  pub none_spare : (s s' : Slab (Node L B)) (n n' capacity capacity' spare : ℕ) → s'.slots ≡ s.slots → n' ≡ n → HaveRoom s n capacity spare
-      → HaveRoom s' n' capacity' 0
-  none_spare s s' n n' capacity capacity' spare e same h =
-      record { numbered = same_numbered s s' n n' e same h.numbered; nodes_fit = omega arith; links_fit = λ one. absurd (omega (arith, one)) }
+  pub none_spare : (s s' : Slab (Node L B)) (n n' spare : ℕ) → s'.slots ≡ s.slots → n' ≡ n → HaveRoom s n spare → HaveRoom s' n' 0
+  none_spare s s' n n' spare e same h =
+      record { numbered = same_numbered s s' n n' e (omega (arith, same)) h.numbered; nodes_fit = omega arith; links_fit = λ one. absurd (omega (arith, one)) }
 
   -- room for so many nodes more, and for those that there was room for
-  pub room_made : (s s' : Slab (Node L B)) (numbers numbers' capacity capacity' spare n : ℕ) → s'.slots ≡ s.slots → numbers' ≡ numbers → s.capacity ≤ s'.capacity
-      → HasRoomFor s' n → s'.capacity ≤ capacity' → HaveRoom s numbers capacity spare → HaveRoom s' numbers' capacity' (max spare n)
-  room_made s s' numbers numbers' capacity capacity' spare n e same grown room fits h =
+  pub room_made : (s s' : Slab (Node L B)) (numbers numbers' spare n : ℕ) → s'.slots ≡ s.slots → s.capacity ≤ s'.capacity → HasRoomFor s' n
+      → numbers' ≡ max numbers s'.capacity → HaveRoom s numbers spare → HaveRoom s' numbers' (max spare n)
+  room_made s s' numbers numbers' spare n e grown room made h =
       let len : slab_len s' ≡ slab_len s = ap (λ (os : List (Option (Node L B))). count_by is_some os) e in
       record {
-        numbered = same_numbered s s' numbers numbers' e same h.numbered;
+        numbered = same_numbered s s' numbers numbers' e (omega (arith, made)) h.numbered;
         nodes_fit = omega (arith, h.nodes_fit, len, grown, room);
-        links_fit = λ one. fits;
+        links_fit = λ one. omega (arith, made);
       }
+
+  -- the same nodes, and links that are the same at each number
+  pub zipped-same : (ns : List (Option (Node L B))) (ls ls' : List Links) → ((id : ℕ) → links_under ls' id ≡ links_under ls id) → zipped ns ls' ≡ zipped ns ls
+  zipped-same [] ls ls' same = refl
+  zipped-same (n ∷ ns) ls ls' same =
+      zipped-step n ns ls' ∙ ap (λ l. slot_at n l ∷ zipped ns (drop 1 ls')) (same 0)
+      ∙ ap (λ zs. slot_at n (links_under ls 0) ∷ zs) (zipped-same ns (drop 1 ls) (drop 1 ls') (λ id. rest ls' id ∙ same (suc id) ∙ sym (rest ls id)))
+      ∙ sym (zipped-step n ns ls)
+    where
+      zipped-step : (n : Option (Node L B)) (ns : List (Option (Node L B))) (ls : List Links)
+          → zipped (n ∷ ns) ls ≡ slot_at n (links_under ls 0) ∷ zipped ns (drop 1 ls)
+      zipped-step n ns [] = refl
+      zipped-step n ns (l ∷ ls) = refl
+
+      rest : (ls : List Links) (id : ℕ) → links_under (drop 1 ls) id ≡ links_under ls (suc id)
+      rest [] id = refl
+      rest (l ∷ ls) id = refl
+
+  pub grown_slots : (s s' : Slab (Node L B)) (ls ls' : List Links) → s'.slots ≡ s.slots → ((id : ℕ) → links_under ls' id ≡ links_under ls id)
+      → (slots_of s' ls').slots ≡ (slots_of s ls).slots
+  grown_slots s s' ls ls' e same = ap (λ ns. zipped ns ls') e ∙ zipped-same s.slots ls ls' same
 
   -- the same nodes and links, whatever room there is
   pub same_slots : (s s' : Slab (Node L B)) (ls ls' : List Links) → s'.slots ≡ s.slots → ls' ≡ ls → (slots_of s' ls').slots ≡ (slots_of s ls).slots

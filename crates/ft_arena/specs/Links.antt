@@ -1,6 +1,6 @@
 -- How an `Arena` keeps its nodes, their links and its list of leaves. No public clause cites this module.
-use Rattle.std.specs.Prelude.{◌≡◌, ◌≢◌, ℕ, zero, suc, ◌+◌, ◌-◌, ◌<◌, ◌≤◌, List, []}
-use Rattle.std.specs.Prelude.{◌∷◌, map, length, max, Option, Some, None, option_map, slice_index_or, slice_set, vec_capacity}
+use Rattle.std.specs.Prelude.{◌≡◌, ◌≢◌, ℕ, zero, suc, ◌-◌, ◌<◌, ◌≤◌, List, []}
+use Rattle.std.specs.Prelude.{◌∷◌, map, length, Option, Some, None, option_map, slice_index_or, slice_set}
 use Rattle.slab.specs.Slab.{Slab, get, slab_len, ContainsKey}
 use Rattle.ft_arena.specs.declared.nodes.Node.{Node}
 use Rattle.ft_arena.specs.declared.links.Links.{Links}
@@ -19,7 +19,7 @@ links_under ls id = slice_index_or ls id no_links
 pub record PutsLinks (old new : List Links) (id : ℕ) (to : Links) : Type 0 where
   pub changed : links_under new id ≡ to
   pub others : (other : ℕ) → other ≢ id → links_under new other ≡ links_under old other
-  pub grown : length new ≡ max (length old) (id + 1)
+  pub long : length new ≡ length old
 
 abbrev pub next_changed : Links → Option ℕ → Links
 next_changed l to = record { parent = l.parent; prev = l.prev; next = to }
@@ -166,13 +166,12 @@ module _ {L B : Type 0} where
   abbrev pub view_of : Inside L B → Forest L B
   view_of a = forest_of (chain_of a) a.spare
 
-  -- each node has links, where there are links at so many numbers, and there is room for so many nodes more and for the links at
-  -- each number that one of them may get
-  pub record HaveRoom (nodes : Slab (Node L B)) (numbers capacity spare : ℕ) : Type 0 where
+  -- there are links at so many numbers: at each that a node has, and at each that one of so many nodes more may get
+  pub record HaveRoom (nodes : Slab (Node L B)) (numbers spare : ℕ) : Type 0 where
     pub numbered : AreNumbered nodes numbers
     pub nodes_fit : spare ≤ nodes.capacity - slab_len nodes
-    pub links_fit : 1 ≤ spare → nodes.capacity ≤ capacity
+    pub links_fit : 1 ≤ spare → nodes.capacity ≤ numbers
 
   -- the leaves are a chain, and there is room for as many nodes as are spare
   abbrev pub IsSound : Inside L B → Type 0
-  IsSound a = IsChain (chain_of a) × HaveRoom a.nodes (length a.links.items) (vec_capacity a.links) a.spare
+  IsSound a = IsChain (chain_of a) × HaveRoom a.nodes (length a.links.items) a.spare

@@ -1,13 +1,13 @@
 //! The arena itself: leaves in one list, and blocks with children, each node under a number.
 
-ghost use Rattle.std.specs.Prelude.{◌≡◌, ◌≢◌, ℕ, ◌+◌, ◌^◌, ◌<◌, ◌≤◌, [], length, Some, None, OnOk, OnErr, IsSome, MatchOption, slice_get, vec_capacity};
+ghost use Rattle.std.specs.Prelude.{◌≡◌, ◌≢◌, ℕ, ◌+◌, ◌^◌, ◌<◌, ◌≤◌, [], length, Some, None, OnOk, OnErr, IsSome, MatchOption, slice_get};
 ghost use Rattle.std.specs.Borrow.{sem};
 ghost use Rattle.ft_arena.specs.Forest.{Forest, IsForest, Changes, IsPlace, entry, leaf_value, block_value, parent_of, kids_of, PutsChild, TakesChild};
 ghost use Rattle.slab.specs.Slab.{get, ContainsKey, Updates};
 ghost use Rattle.ft_arena.specs.Links.{HaveRoom, slots_of, slot_of};
 ghost use Rattle.ft_arena.specs.Ids.{put_after, without, first, after};
 
-use crate::links::{Links, next_at, put_links, raw, set_next, set_prev, wrap};
+use crate::links::{Links, lengthen, next_at, put_links, raw, set_next, set_prev, wrap};
 use crate::nodes::Node;
 use crate::numbers::{Kids, Link, NodeId};
 use crate::slots::Slots;
@@ -78,6 +78,7 @@ impl<L, B> Arena<L, B> {
         let numbers = self.nodes.capacity();
         self.links
             .reserve(numbers.saturating_sub(self.links.len()))?;
+        lengthen(&mut self.links, numbers);
         self.spare = spare.max(n);
         Ok(())
     }
@@ -292,12 +293,12 @@ fn insert<L, B>(
     node: Node<L, B>,
     to: Links,
 ) -> usize
-    requires { HaveRoom nodes.old (length links.old.items) (vec_capacity links.old) 1 }
+    requires { HaveRoom nodes.old (length links.old.items) 1 }
     ensures was_vacant { get nodes.old result ≡ None }
     ensures updates { Updates (slots_of nodes.old links.old.items) (slots_of nodes.new links.new.items) result (Some (slot_of node to)) }
     ensures there { ContainsKey nodes.new result }
     ensures others { (other : ℕ) → ContainsKey nodes.old other → ContainsKey nodes.new other }
-    ensures room { (n : ℕ) → HaveRoom nodes.old (length links.old.items) (vec_capacity links.old) (n + 1) → HaveRoom nodes.new (length links.new.items) (vec_capacity links.new) n }
+    ensures room { (n : ℕ) → HaveRoom nodes.old (length links.old.items) (n + 1) → HaveRoom nodes.new (length links.new.items) n }
 {
     let id = nodes.insert_reserved(node);
     put_links(links, id, to);

@@ -2,8 +2,8 @@
 //! or from leaf to leaf, reads twelve bytes of each node that it passes. In the functions on leaves `None`
 //! is the place before the first leaf and after the last, and `head` and `tail` are what that place leads to.
 
-ghost use Rattle.std.specs.Prelude.{◌≡◌, ◌<◌, length, vec_capacity};
-ghost use Rattle.ft_arena.specs.Links.{HasPlace, IsWithin, PutsLinks, with_next, with_prev, end_with, next_in};
+ghost use Rattle.std.specs.Prelude.{◌≡◌, ℕ, ◌<◌, ◌≤◌, length, max, vec_capacity};
+ghost use Rattle.ft_arena.specs.Links.{HasPlace, IsWithin, PutsLinks, links_under, with_next, with_prev, end_with, next_in};
 
 use crate::nodes::Node;
 use crate::numbers::{Link, NodeId};
@@ -50,16 +50,22 @@ pub(crate) fn raw<L, B>(nodes: &Slots<Node<L, B>>, at: Option<NodeId>) -> Link
     }
 }
 
-// Writes the links of a number, for which there is room. Where the numbers before it have none yet, they get
-// links to nothing.
-pub(crate) fn put_links(links: &mut Vec<Links>, id: usize, to: Links)
-    requires { id < vec_capacity links.old }
-    ensures puts { PutsLinks links.old.items links.new.items id to }
-    ensures capacity { vec_capacity links.new ≡ vec_capacity links.old }
+// Puts links to nothing behind, up to so many numbers, for which there is room.
+pub(crate) fn lengthen(links: &mut Vec<Links>, numbers: usize)
+    requires { numbers ≤ vec_capacity links.old }
+    ensures same { (id : ℕ) → links_under links.new.items id ≡ links_under links.old.items id }
+    ensures grown { length links.new.items ≡ max (length links.old.items) numbers }
 {
-    while links.len() <= id {
+    while links.len() < numbers {
         links.push_reserved(Links::NONE);
     }
+}
+
+// Writes the links of a number.
+pub(crate) fn put_links(links: &mut Vec<Links>, id: usize, to: Links)
+    requires { id < length links.old.items }
+    ensures { PutsLinks links.old.items links.new.items id to }
+{
     links[id] = to;
 }
 
@@ -79,7 +85,6 @@ pub(crate) fn set_next(links: &mut Vec<Links>, head: &mut Link, at: Link, to: Li
     requires { IsWithin (length links.old.items) at }
     ensures links { links.new.items ≡ with_next links.old.items at to }
     ensures head { head.new ≡ end_with head.old at to }
-    ensures capacity { vec_capacity links.new ≡ vec_capacity links.old }
 {
     match at.get() {
         Some(id) => links[id].next = to,
@@ -92,7 +97,6 @@ pub(crate) fn set_prev(links: &mut Vec<Links>, tail: &mut Link, at: Link, to: Li
     requires { IsWithin (length links.old.items) at }
     ensures links { links.new.items ≡ with_prev links.old.items at to }
     ensures tail { tail.new ≡ end_with tail.old at to }
-    ensures capacity { vec_capacity links.new ≡ vec_capacity links.old }
 {
     match at.get() {
         Some(id) => links[id].prev = to,

@@ -1,6 +1,8 @@
 -- What the blocks of a tree keep of each view. No public clause cites this module.
-use Rattle.std.specs.Prelude.{◌≡◌, ◌≢◌, ℕ, ◌+◌, ◌-◌, ◌%◌, ◌^◌, ◌<◌, ◌≤◌, List, [], Option, Some, Bool, true, false, if◌then◌else◌}
+use Rattle.std.specs.Prelude.{◌≡◌, ◌≢◌, ℕ, ◌+◌, ◌-◌, ◌%◌, ◌^◌, ◌<◌, ◌≤◌, List, [], ◌∷◌, Option, Some, None, Bool, true, false, nat_le, if◌then◌else◌}
 use Rattle.ft_base.specs.declared.elements.Element.{Element}
+use Rattle.ft_base.specs.declared.stamps.Stamp.{Stamp}
+use Rattle.ft_base.specs.declared.stamps.Stamp.TheVariants.{Acked, Local}
 use Rattle.ft_base.specs.Visibility.{seen_at}
 use Rattle.ft_arena.specs.declared.nodes.Node.{Node}
 use Rattle.ft_arena.specs.declared.nodes.Node.TheVariants.{Leaf, Block}
@@ -9,6 +11,7 @@ use Rattle.ft_shape.specs.declared.headed.Headed.{Headed}
 use Rattle.ft_shape.specs.Tree.{Measure, height_of, length_of, length_of_node, total, SumsBut, OwesAt, OwesAbove, IsGrowing}
 use Rattle.ft_block.specs.declared.summaries.Summary.{Summary}
 use Rattle.ft_block.specs.declared.summaries.Exchange.{Exchange}
+use Rattle.ft_block.specs.declared.leaves.Insertion.{Insertion}
 use Rattle.ft_block.specs.declared.leaves.LenView.{LenView}
 use Rattle.ft_block.specs.declared.leaves.LenView.TheVariants.{At, Stage, All}
 use Rattle.ft_partial.specs.Entries.{amount}
@@ -84,6 +87,20 @@ pub record MakesNothing (exchange : Exchange) : Type 0 where
 pub record IsForAll (floor : ℕ) (e : Element) : Type 0 where
   pub seen : (view : LenView) → KeepsLengths floor (Of view) → sees_in view e ≡ true
   pub present : is_removed e ≡ false
+
+-- the sequenced insertion of an element with these stamps, where nobody removed it
+abbrev pub insertion_by : Stamp → List Stamp → Option Insertion
+insertion_by (Acked seq conn) [] = Some record { seq = seq; conn = conn }
+insertion_by (Acked seq conn) (d ∷ ds) = None
+insertion_by (Local stage) ds = None
+
+abbrev pub insertion_of : Element → Option Insertion
+insertion_of e = insertion_by e.ins e.dels
+
+-- the insertion is sequenced up to the floor
+abbrev pub is_early : ℕ → Option Insertion → Bool
+is_early floor None = false
+is_early floor (Some at) = nat_le at.seq floor
 
 -- every view sees n elements more, and as many are removed
 pub record KeepsForAll (old : Summary) (n : ℕ) (new : Summary) : Type 0 where

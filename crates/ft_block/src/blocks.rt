@@ -12,6 +12,7 @@ use crate::counted::{
 };
 use crate::find::find_from;
 use crate::leaves::{Leaf, LenView, View};
+use crate::position::leaf_at;
 use crate::summaries::Summary;
 use ft_arena::{Arena, NodeId};
 use ft_base::{Element, OutOfMemory, Perspective, Steps};
@@ -137,6 +138,16 @@ impl<L: Leaf> Blocks<L> {
         ensures { value_at self.now.leaves id ≡ Some result.now }
     {
         leaf_in::<L, Brand>(&self.arena, id, Blank::new(1))
+    }
+
+    /// The value of a leaf, for one step.
+    pub fn leaf_counted<G: Ledger>(&self, id: NodeId, steps: &mut Steps<G>) -> &L
+        requires usable { IsTrue self.now.usable }
+        requires live { IsLeafIn self.now.leaves id }
+        ensures value { value_at self.now.leaves id ≡ Some result.now }
+        ensures tick { steps.new ≡ steps.old + 1 }
+    {
+        leaf_at(&self.arena, id, steps)
     }
 
     /// The leaf that holds the `p`-th element of the local view, and how many of its elements stand

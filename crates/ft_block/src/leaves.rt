@@ -8,7 +8,7 @@ ghost use Rattle.ft_partial.specs.Items.{inserted_element};
 ghost use Rattle.ft_block.specs.Leaves.{sees_in, is_removed, IsFromFloor};
 ghost use Rattle.ft_partial.specs.Lifespans.{is_gone_at, is_there_at};
 ghost use Rattle.ft_base.specs.Visibility.{has_occurred_at_stage, seen_at};
-ghost use Rattle.ft_block.specs.Tree.{IsForAll, KeepsLengths, shows, shown_length};
+ghost use Rattle.ft_block.specs.Tree.{IsForAll, KeepsLengths, insertion_of, is_early, shows, shown_length};
 ghost use Rattle.ft_block.specs.declared.leaves.View.TheVariants.{Of};
 
 use ft_base::{Element, OutOfMemory, Perspective, Stamp, seen_at, sees};
@@ -184,7 +184,8 @@ pub(crate) fn kept_view(view: LenView, _floor: u64) -> View
 /// Whether all see the element from the floor up: it is sequenced up to there, and nobody removed it. An element that all
 /// see for another reason isn't told.
 pub(crate) fn is_for_all(e: &Element, floor: u64) -> bool
-    ensures { result ≡ true → IsForAll floor e.now }
+    ensures seen { result ≡ true → IsForAll floor e.now }
+    ensures exact { result ≡ is_early floor (insertion_of e.now) }
 {
     if !e.dels.is_empty() {
         return false;
@@ -204,7 +205,8 @@ pub(crate) struct Insertion {
 
 /// The insertion of an element, where it is sequenced and nobody removed the element.
 pub(crate) fn inserted(e: &Element) -> Option<Insertion>
-    ensures { IfSome result (λ at. inserted_element at.seq at.conn ≡ e.now) }
+    ensures element { IfSome result (λ at. inserted_element at.seq at.conn ≡ e.now) }
+    ensures exact { result ≡ insertion_of e.now }
 {
     if !e.dels.is_empty() {
         return None;

@@ -100,14 +100,15 @@ pub(crate) fn kept_before<L: Leaf, G: Ledger>(
     sum
 }
 
-// The value of a leaf.
+// The value of a leaf, for one step.
 pub(crate) fn leaf_at<'a, L: Leaf, G: Ledger>(
     arena: &'a Arena<L, Headed<Summary>>,
     id: NodeId,
     steps: &mut Steps<G>,
 ) -> &'a L
     requires { IsSome (leaf_value arena.now id) }
-    ensures { leaf_value arena.now id ≡ Some result.now }
+    ensures value { leaf_value arena.now id ≡ Some result.now }
+    ensures tick { steps.new ≡ steps.old + 1 }
 {
     match arena.read(id, steps) {
         Node::Leaf { value } => value,

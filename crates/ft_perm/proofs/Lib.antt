@@ -1,4 +1,5 @@
 pub mod RunCounts
+pub mod ApartRuns
 pub mod SeenRuns
 pub mod SeenWalks
 pub mod StandingRuns

@@ -1,9 +1,9 @@
 //! Free handles as runs in rising order, of which no two meet.
 
-ghost use Rattle.std.specs.Prelude.{◌≡◌, ℕ, ◌+◌, ◌<◌, ◌≤◌, IfSome, OnOk, OnErr, length, slice_get};
+ghost use Rattle.std.specs.Prelude.{◌≡◌, ℕ, ◌+◌, ◌<◌, ◌≤◌, IfSome, OnOk, OnErr, length, nat_le, nat_lt, position, slice_get, true};
 ghost use Rattle.ft_base.specs.Scan.{one_more_if};
 ghost use Rattle.ft_perm.specs.Handles.{in_run};
-ghost use Rattle.ft_perm.specs.Vectors.{times_held};
+ghost use Rattle.ft_perm.specs.Vectors.{AreApart, begun, joined_at, times_held};
 
 use crate::handles::Handles;
 use ft_base::OutOfMemory;
@@ -13,6 +13,7 @@ use ft_tree_leaves::Content;
 pub fn fitting(free: &[Handles], count: u64) -> Option<usize>
     ensures place { IfSome result (λ i. i < length free.now) }
     ensures fits { IfSome result (λ i. IfSome (slice_get free.now i) (λ run. count ≤ run.count)) }
+    ensures first { result ≡ position (λ run. nat_le count run.count) free.now }
 {
     free.iter().position(|run| run.count >= count)
 }
@@ -24,6 +25,7 @@ pub fn take_front(free: &mut Vec<Handles>, i: usize, count: u64) -> Handles
     requires fits { IfSome (slice_get free.old.items i) (λ run. count ≤ run.count) }
     ensures count { result.count ≡ count }
     ensures taken { (h : ℕ) → times_held h free.old.items ≡ times_held h free.new.items + one_more_if (in_run h result) 0 }
+    ensures apart { AreApart free.old.items → AreApart free.new.items }
 {
     if free[i].count == count {
         return free.remove(i);
@@ -37,6 +39,7 @@ pub fn take_front(free: &mut Vec<Handles>, i: usize, count: u64) -> Handles
 pub fn give_back(free: &mut Vec<Handles>, run: Handles) -> Result<(), OutOfMemory>
     ensures ok { OnOk result ((h : ℕ) → times_held h free.new.items ≡ times_held h free.old.items + one_more_if (in_run h run) 0) }
     ensures err { OnErr result (free.new.items ≡ free.old.items) }
+    ensures apart { OnOk result (AreApart free.old.items → ((h : ℕ) → in_run h run ≡ true → times_held h free.old.items ≡ 0) → AreApart free.new.items) }
 {
     let at = place_for(free, run.first);
     free.insert(at, run)?;
@@ -49,16 +52,23 @@ pub fn give_back(free: &mut Vec<Handles>, run: Handles) -> Result<(), OutOfMemor
 
 // The place of the first run that begins behind `first`, or the end.
 fn place_for(free: &[Handles], first: u64) -> usize
-    ensures { result ≤ length free.now }
+    ensures within { result ≤ length free.now }
+    ensures place { result ≡ begun first free.now }
 {
-    free.iter()
-        .position(|run| first < run.first)
-        .unwrap_or(free.len())
+    first_behind(free, first).unwrap_or(free.len())
+}
+
+// The same where there is one.
+fn first_behind(free: &[Handles], first: u64) -> Option<usize>
+    ensures { result ≡ position (λ run. nat_lt first run.first) free.now }
+{
+    free.iter().position(|run| first < run.first)
 }
 
 // Joins the run at place `i` with the one behind it, where they meet.
 fn join_next(free: &mut Vec<Handles>, i: usize)
-    ensures { (h : ℕ) → times_held h free.new.items ≡ times_held h free.old.items }
+    ensures held { (h : ℕ) → times_held h free.new.items ≡ times_held h free.old.items }
+    ensures joined { free.new.items ≡ joined_at i free.old.items }
 {
     if i < free.len() && i + 1 < free.len() && free[i].can_join(&free[i + 1]) {
         let next = free.remove(i + 1);

@@ -27,13 +27,13 @@ pub struct Vector {
 }
 
 impl Model for Vector {
-    ghost use Rattle.ft_perm.specs.Vectors.{IsFreeOnce, VectorState};
+    ghost use Rattle.ft_perm.specs.Vectors.{AreApart, IsFreeOnce, VectorState};
 
     ghost Value = { VectorState };
 
     ghost view = { λ a. record { tree = a.tree; next = a.next; free = a.free.items } };
 
-    ghost invariant = { λ a. IsFreeOnce a.next a.free.items };
+    ghost invariant = { λ a. IsFreeOnce a.next a.free.items × AreApart a.free.items };
 }
 
 impl Vector {

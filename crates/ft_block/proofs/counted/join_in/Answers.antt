@@ -58,6 +58,6 @@ put_elements-requires-clause-makes g c =
     let x = c.in_ok-exchange.exchange in
     subst (λ (o : Option g.row.L.Denot). IsSomeAnd o (λ v. MakesExchange c.args.floor x (g.L.Leaf.element v) 0 (g.L.Leaf.element v) (g.L.Leaf.size
     c.args.other)))
-    (sym c.leaf_at.ensures)
+    (sym c.leaf_at.ensures.value)
     (subst (λ (n : ℕ). MakesExchange c.args.floor x (g.L.Leaf.element v) 0 (g.L.Leaf.element v) n) c.len-more.ensures.value
     (subst (λ (d : Element). MakesExchange c.args.floor x d 0 d c.len-more.result) c.element-e.ensures c.in_ok-exchange.ensures))

@@ -48,7 +48,7 @@ put_stamps-requires-clause-makes g c =
     let x = c.in_ok-exchange.exchange in
     subst (λ (o : Option g.row.L.Denot). IsSomeAnd o (λ v. (g.L.Leaf.size v < 2 ^ 64) × MakesExchange c.args.floor x (g.L.Leaf.element v)
     (g.L.Leaf.size v) c.args.e
-    (g.L.Leaf.size v))) (sym c.leaf_at-leaf.ensures) (
+    (g.L.Leaf.size v))) (sym c.leaf_at-leaf.ensures.value) (
       omega (arith, c.len-len.ensures.value),
       subst (λ (n : ℕ). MakesExchange c.args.floor x (g.L.Leaf.element v) n c.args.e n) c.len-len.ensures.value
           (subst (λ (d : Element). MakesExchange c.args.floor x d c.len-len.result c.args.e c.len-len.result) c.element.ensures

@@ -25,7 +25,7 @@ set_apart-requires-clause-makes g c =
     let x = c.in_ok-exchange.exchange in
     subst (λ (o : Option g.row.L.Denot). IsSomeAnd o (λ v. MakesExchange c.args.floor x (g.L.Leaf.element v) (g.L.Leaf.size v) (g.L.Leaf.element v)
     0))
-    (sym c.leaf_at-leaf.ensures)
+    (sym c.leaf_at-leaf.ensures.value)
     (subst (λ (n : ℕ). MakesExchange c.args.floor x (g.L.Leaf.element v) n (g.L.Leaf.element v) 0) c.len-len.ensures.value
     (subst (λ (d : Element). MakesExchange c.args.floor x d c.len-len.result d 0) c.element-e.ensures c.in_ok-exchange.ensures))
 

@@ -66,7 +66,7 @@ add_after-requires g c =
     (λ xs. insert_after xs c.in-Some.at c.args.id) (after_is_edit c.in-Some.at c.args.id) c.in_ok-root.ensures.apart c.reserve.ensures.kept
     c.move_after.ensures.nodes c.move_after.ensures.sound leaves at_leaf differ
     g.L.Leaf.size g.L.Leaf.element c.args.floor (height_of c.args.arena.now c.args.root) c.in_ok-exchange.exchange c.leaf_at.result.now
-    (sym (room_values c.detach.new.arena c.reserve.new.self c.reserve.ensures.kept c.args.id) ∙ c.leaf_at.ensures) c.move_after.ensures.spare
+    (sym (room_values c.detach.new.arena c.reserve.new.self c.reserve.ensures.kept c.args.id) ∙ c.leaf_at.ensures.value) c.move_after.ensures.spare
     (omega (arith, c.in_ok-reserve.ensures.room, c.nodes_needed-needed.ensures)) (omega (arith, c.nodes_needed-needed.ensures))
     c.in_ok-root.ensures.low c.in_ok-root.ensures.sums c.in_ok-root.ensures.floors
     (omega (
@@ -139,7 +139,7 @@ add_before-requires g c =
     (λ xs. insert_before xs c.in-Some-next.first c.args.id) (before_is_edit c.in-Some-next.first c.args.id) c.in_ok-root.ensures.apart
     c.reserve.ensures.kept c.move_after-in-None.ensures.nodes c.move_after-in-None.ensures.sound leaves at_leaf differ
     g.L.Leaf.size g.L.Leaf.element c.args.floor (height_of c.args.arena.now c.args.root) c.in_ok-exchange.exchange c.leaf_at.result.now
-    (sym (room_values c.detach.new.arena c.reserve.new.self c.reserve.ensures.kept c.args.id) ∙ c.leaf_at.ensures) c.move_after-in-None.ensures.spare
+    (sym (room_values c.detach.new.arena c.reserve.new.self c.reserve.ensures.kept c.args.id) ∙ c.leaf_at.ensures.value) c.move_after-in-None.ensures.spare
     (omega (arith, c.in_ok-reserve.ensures.room, c.nodes_needed-needed.ensures)) (omega (arith, c.nodes_needed-needed.ensures))
     c.in_ok-root.ensures.low c.in_ok-root.ensures.sums c.in_ok-root.ensures.floors
     (omega (

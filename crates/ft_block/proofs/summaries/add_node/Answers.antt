@@ -12,7 +12,7 @@ pub returns-then-is_for_all-clause-sum : goal.returns-then-is_for_all-clause-sum
 returns-then-is_for_all-clause-sum g c =
     subst (λ (n : Node g.row.L.Denot (Headed Summary)). KeepsNode g.L.Leaf.size g.L.Leaf.element c.args.floor c.args.sum.now n c.add_for_all.new.self) (sym c.in-Leaf.is)
     (for_all_adds g.L.Leaf.size g.L.Leaf.element c.args.floor c.args.sum.now c.add_for_all.new.self c.in-Leaf.value c.element-e.result.now c.len-len.result
-    c.element-e.ensures c.len-len.ensures.value c.add_for_all.ensures.low (c.is_for_all.ensures c.if-is_for_all.true) c.add_for_all.ensures.keeps)
+    c.element-e.ensures c.len-len.ensures.value c.add_for_all.ensures.low (c.is_for_all.ensures.seen c.if-is_for_all.true) c.add_for_all.ensures.keeps)
 
 pub returns-else-is_for_all-clause-sum : goal.returns-else-is_for_all-clause-sum
 returns-else-is_for_all-clause-sum g c =

@@ -6,7 +6,7 @@ use Rattle.ft_arena.proofs.KidLemmas.{sound_at, Changes-at}
 use Rattle.ft_arena.proofs.arena.Arena.add_block.Goals as goal
 
 pub insert-id-requires : goal.insert-id-requires
-insert-id-requires g c = less_room _ _ _ _ 1 (rw (← c.self.view_is) at c.requires) c.self.invariant.1
+insert-id-requires g c = less_room _ _ _ 1 (rw (← c.self.view_is) at c.requires) c.self.invariant.1
 
 pub returns-clause-fresh : goal.returns-clause-fresh
 returns-clause-fresh g c = rw (← c.self.view_is) (vacant_shown c.self.inside.nodes c.self.inside.links.items c.insert-id.result c.insert-id.ensures.was_vacant)
@@ -17,7 +17,7 @@ invariant_of-self g c = (
       c.insert-id.result None _ (slots_at c.self.inside.nodes c.self.inside.links.items c.insert-id.result ∙ ap (λ o. slot_at o (links_under c.self.inside.links.items
       c.insert-id.result)) c.insert-id.ensures.was_vacant)
       c.insert-id.ensures.updates refl refl refl c.new.ensures refl c.self.invariant.0).0,
-  c.insert-id.ensures.room (c.self.inside.spare - 1) (less_room _ _ _ _ _ (omega (arith, rw (← c.self.view_is) at c.requires)) c.self.invariant.1),
+  c.insert-id.ensures.room (c.self.inside.spare - 1) (less_room _ _ _ _ (omega (arith, rw (← c.self.view_is) at c.requires)) c.self.invariant.1),
 )
 
 pub returns-clause-sound : goal.returns-clause-sound

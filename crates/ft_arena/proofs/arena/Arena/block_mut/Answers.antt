@@ -17,7 +17,7 @@ pub invariant_of-self-lent : goal.invariant_of-self-lent
 invariant_of-self-lent g c w = (
   (block_written c.self.inside.nodes c.self.inside.links.items c.self.inside.head c.self.inside.tail c.self.invariant.0 c.id.inside.0 c.index_mut.result.now
       c.block_mut.result.now w c.index_mut.ensures.value c.block_mut.ensures.value).0,
-  room_written c.self.inside.nodes _ _ _ c.self.inside.spare c.id.inside.0 c.index_mut.result.now _ c.index_mut.ensures.value refl c.self.invariant.1,
+  room_written c.self.inside.nodes _ _ c.self.inside.spare c.id.inside.0 c.index_mut.result.now _ c.index_mut.ensures.value refl c.self.invariant.1,
 )
 
 pub returns : goal.returns

@@ -39,8 +39,8 @@ invariant_of-self g c = (
       (ap parent_of_entry (sym (ap (option_map entry_of) (found_slot c.self.inside.nodes c.self.inside.links.items c.id.inside.0 c.remove-node.result
       c.remove-node.ensures.value)) ∙ sym (entries_at (slots_of c.self.inside.nodes c.self.inside.links.items) c.id.inside.0))
       ∙ (at_view (λ s i. parent_of s i ≡ None) c.self.inside c.args.self.now c.id.inside.0 c.args.id c.self.view_is c.id.view_is c.requires.alone)) c.self.invariant.0).0,
-  room_freed c.self.inside.nodes c.remove-node.new.self c.id.inside.0 _ _ _ _ c.self.inside.spare c.remove-node.ensures.updates c.remove-node.ensures.len
-      c.remove-node.ensures.capacity refl refl c.self.invariant.1,
+  room_freed c.self.inside.nodes c.remove-node.new.self c.id.inside.0 _ _ c.self.inside.spare c.remove-node.ensures.updates c.remove-node.ensures.len
+      c.remove-node.ensures.capacity refl c.self.invariant.1,
 )
 
 pub returns-clause-sound : goal.returns-clause-sound

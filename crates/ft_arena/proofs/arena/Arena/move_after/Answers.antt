@@ -189,7 +189,7 @@ invariant_of-self g c = (
       (rw c.raw-here.ensures at c.set_prev-2.ensures.links) (rw c.raw-here.ensures at c.set_prev-2.ensures.tail)
       (rw c.raw-here.ensures at c.set_next-3.ensures.links) (rw c.raw-here.ensures at c.set_next-3.ensures.head)
       (rw c.raw-here.ensures at c.set_prev-3.ensures.links) (rw c.raw-here.ensures at c.set_prev-3.ensures.tail),
-  kept_room c.self.inside.nodes _ _ _ _ c.self.inside.spare (rehooked_length c.self.inside.nodes c.self.inside.links.items c.self.inside.head c.self.inside.tail c.raw-at.result c.id.inside.0 c.index-links.result.now c.self.invariant.0
+  kept_room c.self.inside.nodes _ _ c.self.inside.spare (rehooked_length c.self.inside.nodes c.self.inside.links.items c.self.inside.head c.self.inside.tail c.raw-at.result c.id.inside.0 c.index-links.result.now c.self.invariant.0
       (count_is_some _ (at_view (λ s i. IsSome (leaf_value s i)) c.self.inside c.args.self.now c.id.inside.0 c.args.id c.self.view_is c.id.view_is c.requires.live))
       (place_is_live (view_of c.self.inside) c.raw-at.result (rw (c.self.view_is, c.raw-at.ensures) c.requires.place))
       (λ e. c.requires.differ (sym c.raw-at.ensures ∙ e ∙ ap Some c.id.view_is))
@@ -205,8 +205,7 @@ invariant_of-self g c = (
       (rw c.raw-here.ensures at c.set_prev-2.ensures.links) (rw c.raw-here.ensures at c.set_prev-2.ensures.tail)
       (rw c.raw-here.ensures at c.set_next-3.ensures.links) (rw c.raw-here.ensures at c.set_next-3.ensures.head)
       (rw c.raw-here.ensures at c.set_prev-3.ensures.links) (rw c.raw-here.ensures at c.set_prev-3.ensures.tail))
-      (c.set_prev-3.ensures.capacity ∙ c.set_next-3.ensures.capacity ∙ c.set_prev-2.ensures.capacity
-      ∙ c.set_next-2.ensures.capacity ∙ c.set_prev.ensures.capacity ∙ c.set_next.ensures.capacity) c.self.invariant.1,
+      c.self.invariant.1,
 )
 
 pub returns-clause-sound : goal.returns-clause-sound

@@ -64,7 +64,7 @@ invariant_of-self g c = (
       (at_view (λ s i. c.args.at ≤ length (kids_of s i)) c.self.inside c.args.self.now c.block.inside.0 c.args.block c.self.view_is c.block.view_is c.requires.at)
       (at_view (λ s i. length (kids_of s i) < 8) c.self.inside c.args.self.now c.block.inside.0 c.args.block c.self.view_is c.block.view_is c.requires.room)
       (at_view (λ s i. parent_of s i ≡ None) c.self.inside c.args.self.now c.child.inside.0 c.args.child c.self.view_is c.child.view_is c.requires.alone)).0),
-  room_written c.self.inside.nodes _ _ _ c.self.inside.spare c.block.inside.0 c.index_mut.result.now _ c.index_mut.ensures.value (length-set c.self.inside.links.items
+  room_written c.self.inside.nodes _ _ c.self.inside.spare c.block.inside.0 c.index_mut.result.now _ c.index_mut.ensures.value (length-set c.self.inside.links.items
       c.child.inside.0 _) c.self.invariant.1,
 )
 

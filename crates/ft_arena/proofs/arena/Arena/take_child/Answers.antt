@@ -51,7 +51,7 @@ invariant_of-self g c = (
       c.take_kid-child.ensures.rest
       (ap (λ o. slice_get (kids_of_entry o) c.args.at) (entry_is c.self.inside.nodes c.self.inside.links.items c.block.inside.0 c.index_mut.result.now c.index_mut.ensures.value)
       ∙ c.take_kid-child.ensures.value)).0,
-  room_written c.self.inside.nodes _ _ _ c.self.inside.spare c.block.inside.0 c.index_mut.result.now _ c.index_mut.ensures.value (length-set c.self.inside.links.items
+  room_written c.self.inside.nodes _ _ c.self.inside.spare c.block.inside.0 c.index_mut.result.now _ c.index_mut.ensures.value (length-set c.self.inside.links.items
       c.take_kid-child.result _) c.self.invariant.1,
 )
 

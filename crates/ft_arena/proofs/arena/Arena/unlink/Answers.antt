@@ -71,7 +71,7 @@ invariant_of-self g c =
           c.remove-node.ensures.updates (numbered_still _ _ _ _ c.remove-node.ensures.updates c.self.invariant.1.numbered) c.set_next.new.links.items c.set_next.new.head
           c.set_next.ensures.links c.set_next.ensures.head
           c.set_prev.new.links.items c.set_prev.new.tail c.set_prev.ensures.links c.set_prev.ensures.tail alone,
-      room_freed c.self.inside.nodes c.remove-node.new.self c.id.inside.0 _ _ _ _ c.self.inside.spare c.remove-node.ensures.updates c.remove-node.ensures.len c.remove-node.ensures.capacity
+      room_freed c.self.inside.nodes c.remove-node.new.self c.id.inside.0 _ _ c.self.inside.spare c.remove-node.ensures.updates c.remove-node.ensures.len c.remove-node.ensures.capacity
           (unhooked_length c.self.inside.nodes c.remove-node.new.self c.self.inside.links.items c.self.inside.head c.self.inside.tail c.id.inside.0
           c.remove-node.result c.index-links.result.now c.self.invariant.0 c.remove-node.ensures.value
           (links_read c.self.inside.links.items c.id.inside.0 c.index-links.result.now (place_within c.self.inside.nodes _ (Some c.id.inside.0)
@@ -80,7 +80,7 @@ invariant_of-self g c =
           (count_is_some _ (at_view (λ s i. IsSome (leaf_value s i)) c.self.inside c.args.self.now c.id.inside.0 c.args.id c.self.view_is c.id.view_is
           c.requires.live)) c.remove-node.ensures.updates (numbered_still _ _ _ _ c.remove-node.ensures.updates c.self.invariant.1.numbered) c.set_next.new.links.items
           c.set_next.new.head c.set_next.ensures.links c.set_next.ensures.head
-          c.set_prev.new.links.items c.set_prev.new.tail c.set_prev.ensures.links c.set_prev.ensures.tail) (c.set_prev.ensures.capacity ∙ c.set_next.ensures.capacity) c.self.invariant.1,
+          c.set_prev.new.links.items c.set_prev.new.tail c.set_prev.ensures.links c.set_prev.ensures.tail) c.self.invariant.1,
     )
 
 pub returns-clause-sound : goal.returns-clause-sound

@@ -7,7 +7,7 @@ use Rattle.ft_block.proofs.summaries.Summary.add_elements.Goals as goal
 pub returns-in-Some-clause-exchanges : goal.returns-in-Some-clause-exchanges
 returns-in-Some-clause-exchanges c =
     let P : Element → Type 0 = λ e. KeepsExchange c.args.floor c.args.self.now c.insert.new.self e 0 e c.args.len in
-    on_ok_weaker c.insert.result (λ keeps. subst P c.in-Some.ensures (keeps c.args.floor c.requires.floor)) c.insert.ensures.exchanges
+    on_ok_weaker c.insert.result (λ keeps. subst P c.in-Some.ensures.element (keeps c.args.floor c.requires.floor)) c.insert.ensures.exchanges
 
 pub returns-in_ok-exchange-in-None-clause-exchanges : goal.returns-in_ok-exchange-in-None-clause-exchanges
 returns-in_ok-exchange-in-None-clause-exchanges c =
