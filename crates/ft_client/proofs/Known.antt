@@ -1,5 +1,5 @@
 -- What is known of each document that a tree holds, since it holds that of one client which steps made, or which keeps such a one.
-use Rattle.std.proofs.Common.{◌≡◌, ◌≤◌, ◌<◌, ◌^◌, ℕ, suc, All, Bool, true, false, cond, ◌||◌, List, [], ◌∷◌, None, append-nil, arith, filter, refl, sym, ◌∙◌, ap, subst, map}
+use Rattle.std.proofs.Common.{◌≡◌, ◌≤◌, ◌<◌, ◌^◌, ℕ, Bool, true, false, List, [], ◌∷◌, None, append-nil, arith, refl, sym, ◌∙◌, ap, subst, map}
 use Rattle.std.specs.List.{list_all}
 use Rattle.ft_base.specs.Scan.{len, one_more_if}
 use Rattle.ft_props.specs.Element.{ListElement, NamelessElement, has_id, id, nameless}
@@ -10,7 +10,7 @@ use Rattle.ft_msg.specs.Indexed.{IndexedClient, IndexedDocument, IndexedStage, i
 use Rattle.ft_msg.specs.declared.views.Link.TheVariants.{Offline}
 use Rattle.ft_laws_agreement.specs.Sequencing.{IsReady, annotates_text, inserts_in, no_kind, removes_in}
 use Rattle.ft_op.specs.declared.operations.Target.TheVariants.{Rows, Cols}
-use Rattle.ft_laws_agreement.specs.Reconnecting.{has_marks_of, inserts_text, is_one_run, is_stage_of, removes_text, runs_on}
+use Rattle.ft_laws_agreement.specs.Reconnecting.{has_marks_of, inserts_text, is_stage_of, removes_text}
 use Rattle.ft_laws_agreement.specs.Trimming.{are_distinct_elements}
 use Rattle.ft_laws_agreement.proofs.SideBySideStages.{none-counted}
 use Rattle.ft_laws_agreement.proofs.SlidEnds.{Once, once-tail, same_id-refl}
@@ -20,22 +20,24 @@ use Rattle.ft_laws_compaction.specs.StageRuns.{HasStageRuns, StandInRuns}
 use Rattle.ft_laws_compaction.proofs.AllSteps.{reached-sound}
 use Rattle.ft_laws_compaction.proofs.KeptReady.{kept-ready, kept-stage_runs}
 use Rattle.ft_laws_compaction.proofs.SoundlyKept.{soundly-kept}
-use Rattle.ft_laws_names.specs.GridFacts.{AreCounted, AreFreeFrom, grid_stages, is_unit_below}
-use Rattle.ft_base.specs.Visibility.{is_of_stage, seen_at}
+use Rattle.ft_laws_names.specs.GridFacts.{AreCounted}
 use Rattle.ft_laws_names.specs.WellNamed.{AreWellNamed, IsWellNamed}
 use Rattle.ft_laws_names.proofs.ClientsAlike.{ClientsAlike}
 use Rattle.ft_laws_names.proofs.Beside.{ends, next}
 use Rattle.ft_laws_names.proofs.DocumentsAlike.{DocsAlike}
 use Rattle.ft_laws_names.proofs.Indexing.{indexed-alike}
-use Rattle.ft_laws_names.proofs.KeptGrids.{kept-below, kept-counted, kept-free}
+use Rattle.ft_laws_names.proofs.KeptGrids.{kept-counted}
 use Rattle.ft_laws_names.proofs.KeptNames.{made-or-kept-named}
 use Rattle.ft_laws_names.proofs.LocalAlike.{StagesBeside}
 use Rattle.ft_laws_names.proofs.RejoinAlike.{EditsBeside}
-use Rattle.ft_rebase.specs.StageLists.{StandSideBySide, is_one_run as is_one_run_listed, is_run_at_front}
+use Rattle.ft_rebase.specs.StageLists.{StandSideBySide}
 use Rattle.ft_replica.specs.Own.{HeldDocument, NamesFit, held_by}
 use Rattle.ft_string.specs.Calls.{is_held}
 use Rattle.ft_string.specs.Holds.{IsTextSound}
+use Rattle.ft_string.proofs.SoundTexts.{client-sound as text-sound}
+use Rattle.ft_matrix.specs.ClientGrids.{MeetsConditions}
 use Rattle.ft_matrix.specs.Conditions.{AreFreeUnits, IsAboveAll}
+use Rattle.ft_matrix.proofs.ClientGrids.{client-grid, client-side}
 use Rattle.ft_client.specs.declared.own.TreeOwn.{TreeOwn}
 use Rattle.ft_client.specs.Holds.{HoldsTree, tree-shows}
 use Rattle.ft_client.proofs.AlikeDocuments.{changes-carried, counted-carried, ends-carried, free-carried, held-alike, later-carried, marks-carried, typed-carried}
@@ -73,24 +75,6 @@ once-distinct (e ∷ xs) h =
     let alone : len (has_id (id e)) xs ≡ 0 = none-left (has_id (id e) e) (len (has_id (id e)) xs) (same_id-refl (id e)) (h (id e)) in
     rw (none-counted (has_id (id e)) xs alone, once-distinct xs (once-tail e xs h)) refl
 
--- both name the runs of a stage
-one-run : {A : Type 0} (is : A → Bool) (xs : List A) → is_one_run is xs ≡ true → is_one_run_listed is xs ≡ true
-one-run is [] h = refl
-one-run {A = A} is (x ∷ xs) h = step (is x) (one-run is xs) h
-  where
-    front : (ys : List A) → runs_on is ys ≡ true → is_run_at_front is ys ≡ true
-    front [] g = refl
-    front (y ∷ ys) g = grind (arith, front ys)
-
-    step : (b : Bool) → (is_one_run is xs ≡ true → is_one_run_listed is xs ≡ true) → cond b (runs_on is xs) (is_one_run is xs) ≡ true
-        → cond b (is_run_at_front is xs) (is_one_run_listed is xs) ≡ true
-    step true ih g = front xs g
-    step false ih g = ih g
-
-side : (es : List NamelessElement) → StandInRuns es → StandSideBySide (λ (e : NamelessElement). e.stamps) es
-side es h k = one-run (λ (e : NamelessElement). is_of_stage (suc k) e.stamps.ins)
-    (filter (λ (e : NamelessElement). seen_at e.stamps k || is_of_stage (suc k) e.stamps.ins) es) (h k)
-
 -- ---- of the one client
 
 module _ (start : Document) (p : NaiveClient) (made : IsMadeOrKept start p) where
@@ -107,46 +91,24 @@ module _ (start : Document) (p : NaiveClient) (made : IsMadeOrKept start p) wher
   tombstones = (soundly-kept made.reached.steps made.whole p (reached-sound made.whole made.reached) made.keeps).tombstones
 
   pub client-sound : p.last_stage < 2 ^ 64 → IsTextSound p.last_stage p.doc (stages_of p)
-  client-sound fits = record {
-    list = is-named.text;
-    intervals = is-named.intervals;
-    names = is-named.stages;
-    own = is-named.own.text;
-    rise = is-named.rise;
-    fits = fits;
-    place = is-ready.text.place;
-    changes = is-ready.text.changes;
-    typed = is-ready.typed;
-    ends = is-ready.ends;
-    later = is-ready.text.later;
-  }
+  client-sound fits = text-sound start p made fits
 
   module _ (s : TreeOwn) (low : ℕ) (h : HoldsTree s (held_by low p)) where
     -- what the table's calls ask
+    pub table : MeetsConditions p s.table
+    table = client-grid start p s.table made h.table
+
     pub above-all : (k : ℕ) → p.last_stage < k → IsAboveAll k s.table
-    above-all k l =
-        let b = kept-below start p k made l in
-        record {
-          rows = subst (λ es. All (λ e. is_unit_below k e ≡ true) es) h.table.rows b.rows;
-          cols = subst (λ es. All (λ e. is_unit_below k e ≡ true) es) h.table.cols b.cols;
-          stages = subst (λ ts. All (λ t. t.stage < k) ts) h.table.stages b.stages;
-        }
+    above-all = table.above
 
     pub free-units : AreFreeUnits (floor p) s.table
-    free-units =
-        let f = kept-free start p made in
-        record {
-          rows = subst (λ ts. AreFreeFrom (floor p) (map (λ (t : IndexedStage). t.places.first) ts) 0 s.table.rows) h.table.stages
-              (subst (λ es. AreFreeFrom (floor p) (map (λ (t : IndexedStage). t.places.first) (grid_stages p.doc (stages_of p))) 0 es) h.table.rows f.rows);
-          cols = subst (λ ts. AreFreeFrom (floor p) (map (λ (t : IndexedStage). t.places.second) ts) 0 s.table.cols) h.table.stages
-              (subst (λ es. AreFreeFrom (floor p) (map (λ (t : IndexedStage). t.places.second) (grid_stages p.doc (stages_of p))) 0 es) h.table.cols f.cols);
-        }
+    free-units = table.free
 
     pub side-rows : StandSideBySide (λ (e : NamelessElement). e.stamps) s.table.rows
-    side-rows = subst (λ es. StandSideBySide (λ (e : NamelessElement). e.stamps) es) h.table.rows (side (map nameless p.doc.rows.items) runs.rows)
+    side-rows = (client-side start p s.table (stages_of p) made h.table).0
 
     pub side-cols : StandSideBySide (λ (e : NamelessElement). e.stamps) s.table.cols
-    side-cols = subst (λ es. StandSideBySide (λ (e : NamelessElement). e.stamps) es) h.table.cols (side (map nameless p.doc.cols.items) runs.cols)
+    side-cols = (client-side start p s.table (stages_of p) made h.table).1
 
     -- ---- of each other document that it holds
     module _ (held : HeldDocument) (named : NamesFit held) (g : HoldsTree s held) where
