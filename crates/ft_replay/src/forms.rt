@@ -1,6 +1,6 @@
 //! The commands that read lines.
 
-ghost use Rattle.std.specs.Prelude.{◌≡◌, ℕ, ◌≤◌, None, OnOk};
+ghost use Rattle.std.specs.Prelude.{◌≡◌, ℕ, ◌≤◌, None, IsErrOf, OnOk};
 ghost use Rattle.std.specs.Io.KnownBytes.{IsAtEnd};
 ghost use Rattle.ft_io.specs.Reader.{Call, input_limit, new_reader};
 ghost use Rattle.ft_io.specs.Streams.{Rose};
@@ -36,6 +36,8 @@ pub fn replay_session<R: Replica + Drop, S: Source, K: Sink>(
         (Says session_account (IsAtEnd (S.remaining src.new)) (Rose (S.faults src.old) (S.faults src.new))
         (Rose (K.faults out.old) (K.faults out.new)) result) }
     ensures steady { OnOk result ((S.faults src.new ≡ S.faults src.old) × (K.faults out.new ≡ K.faults out.old)) }
+    ensures source_kept { ¬ IsErrOf result Fault.Read → S.faults src.new ≡ S.faults src.old }
+    ensures sink_kept { ¬ IsErrOf result Fault.Write → K.faults out.new ≡ K.faults out.old }
 {
     reports_are_one();
     replay_lines::<SessionRun<R>, S, K>(alloc, src, out)
@@ -54,6 +56,8 @@ pub fn replay_log<R: Replica + Drop, S: Source, K: Sink>(
         (Says log_account (IsAtEnd (S.remaining src.new)) (Rose (S.faults src.old) (S.faults src.new))
         (Rose (K.faults out.old) (K.faults out.new)) result) }
     ensures steady { OnOk result ((S.faults src.new ≡ S.faults src.old) × (K.faults out.new ≡ K.faults out.old)) }
+    ensures source_kept { ¬ IsErrOf result Fault.Read → S.faults src.new ≡ S.faults src.old }
+    ensures sink_kept { ¬ IsErrOf result Fault.Write → K.faults out.new ≡ K.faults out.old }
 {
     replay_lines::<Observer<R>, S, K>(alloc, src, out)
 }
@@ -71,6 +75,8 @@ pub fn replay_load<R: Replica + Drop, S: Source, K: Sink>(
         (Says load_account (IsAtEnd (S.remaining src.new)) (Rose (S.faults src.old) (S.faults src.new))
         (Rose (K.faults out.old) (K.faults out.new)) result) }
     ensures steady { OnOk result ((S.faults src.new ≡ S.faults src.old) × (K.faults out.new ≡ K.faults out.old)) }
+    ensures source_kept { ¬ IsErrOf result Fault.Read → S.faults src.new ≡ S.faults src.old }
+    ensures sink_kept { ¬ IsErrOf result Fault.Write → K.faults out.new ≡ K.faults out.old }
 {
     replay_lines::<LoadRun<R>, S, K>(alloc, src, out)
 }
@@ -87,6 +93,8 @@ pub fn replay_map<S: Source, K: Sink>(
         (Says map_account (IsAtEnd (S.remaining src.new)) (Rose (S.faults src.old) (S.faults src.new))
         (Rose (K.faults out.old) (K.faults out.new)) result) }
     ensures steady { OnOk result ((S.faults src.new ≡ S.faults src.old) × (K.faults out.new ≡ K.faults out.old)) }
+    ensures source_kept { ¬ IsErrOf result Fault.Read → S.faults src.new ≡ S.faults src.old }
+    ensures sink_kept { ¬ IsErrOf result Fault.Write → K.faults out.new ≡ K.faults out.old }
 {
     replay_lines::<MapRun, S, K>(alloc, src, out)
 }
@@ -101,6 +109,8 @@ fn replay_lines<L: Listener, S: Source, K: Sink>(
         (Says (account_by L.form) (IsAtEnd (S.remaining src.new)) (Rose (S.faults src.old) (S.faults src.new))
         (Rose (K.faults out.old) (K.faults out.new)) result) }
     ensures steady { OnOk result ((S.faults src.new ≡ S.faults src.old) × (K.faults out.new ≡ K.faults out.old)) }
+    ensures source_kept { ¬ IsErrOf result Fault.Read → S.faults src.new ≡ S.faults src.old }
+    ensures sink_kept { ¬ IsErrOf result Fault.Write → K.faults out.new ≡ K.faults out.old }
 {
     let mut listener = L::start(alloc)?;
     let mut lines = Lines::new(alloc, LINE_LIMIT)?;
@@ -122,6 +132,8 @@ fn report_lines<L: Listener, S: Source, K: Sink>(
         (Says (account_by L.form) (IsAtEnd (S.remaining src.new)) (Rose (S.faults src.old) (S.faults src.new))
         (Rose (K.faults out.old) (K.faults out.new)) result) }
     ensures steady { OnOk result ((S.faults src.new ≡ S.faults src.old) × (K.faults out.new ≡ K.faults out.old)) }
+    ensures source_kept { ¬ IsErrOf result Fault.Read → S.faults src.new ≡ S.faults src.old }
+    ensures sink_kept { ¬ IsErrOf result Fault.Write → K.faults out.new ≡ K.faults out.old }
 {
     let refused = read_lines(alloc, lines, listener, src, out)?;
     close_lines(refused, listener, out)
@@ -145,6 +157,8 @@ fn read_lines<L: Listener, S: Source, K: Sink>(
     ensures sink_later { K.faults out.old ≤ K.faults out.new }
     ensures source_steady { OnOk result (S.faults src.new ≡ S.faults src.old) }
     ensures sink_steady { OnOk result (K.faults out.new ≡ K.faults out.old) }
+    ensures source_kept { ¬ IsErrOf result Fault.Read → S.faults src.new ≡ S.faults src.old }
+    ensures sink_kept { ¬ IsErrOf result Fault.Write → K.faults out.new ≡ K.faults out.old }
 {
     let mut count = 0;
     let mut refused = 0;
@@ -168,6 +182,7 @@ fn next_line<L: Listener, S: Source>(
     ensures least { (made : L.Made) → L.holds listener.now made → line_limit ≤ L.form.longest made }
     ensures most { (made : L.Made) → L.holds listener.now made → L.form.longest made ≤ input_limit }
     ensures steady { OnOk result (S.faults src.new ≡ S.faults src.old) }
+    ensures kept { ¬ IsErrOf result LineFault.Read → S.faults src.new ≡ S.faults src.old }
 {
     lines.set_limit(listener.limit());
     lines.next(src)

@@ -1,6 +1,6 @@
 //! The lines of a generated session.
 
-ghost use Rattle.std.specs.Prelude.{◌≡◌, IfOk, OnOk, string_bytes};
+ghost use Rattle.std.specs.Prelude.{◌≡◌, IfOk, IsErrOf, OnOk, string_bytes};
 ghost use Rattle.ft_io.specs.Lines.{with_lf};
 ghost use Rattle.ft_seqr.specs.WellFormedEvent.{IsWellFormedEvent};
 ghost use Rattle.ft_replay.specs.Generated.{IsWithinLimits, event_line, generated_lines, session_events};
@@ -29,6 +29,7 @@ pub fn write_generated<K: Sink>(
     ensures ends { IfOk result (λ ending. ending ≡ Ending.Done) }
     ensures writes { WritesBytes (K.contents out.old) (K.contents out.new) (K.faults out.old) (K.faults out.new) (bytes_of (generated_lines settings)) result }
     ensures steady { OnOk result (K.faults out.new ≡ K.faults out.old) }
+    ensures kept { ¬ IsErrOf result Fault.Write → K.faults out.new ≡ K.faults out.old }
 {
     let mut events = session_events(alloc, settings);
     while let Some(event) = events.next()? {
@@ -51,6 +52,7 @@ fn write_line<K: Sink>(alloc: Global, event: Event, out: &mut K) -> Result<(), F
     requires { IsWellFormedEvent event }
     ensures writes { WritesBytes (K.contents out.old) (K.contents out.new) (K.faults out.old) (K.faults out.new) (with_lf (event_line event)) result }
     ensures steady { OnOk result (K.faults out.new ≡ K.faults out.old) }
+    ensures kept { ¬ IsErrOf result Fault.Write → K.faults out.new ≡ K.faults out.old }
 {
     put_text(out, line_of(alloc, event))
 }

@@ -1,6 +1,6 @@
 //! A generated session, played.
 
-ghost use Rattle.std.specs.Prelude.{◌≡◌, ◌≢◌, ◌+◌, ◌++◌, List, IfOk, OnOk, string_bytes};
+ghost use Rattle.std.specs.Prelude.{◌≡◌, ◌≢◌, ◌+◌, ◌++◌, List, IfOk, IsErrOf, OnOk, string_bytes};
 ghost use Rattle.ft_io.specs.Lines.{with_lf};
 ghost use Rattle.ft_seqr.specs.WellFormedEvent.{IsWellFormedEvent};
 ghost use Rattle.ft_seqr.specs.World.{NamedClient, Output, furthest};
@@ -51,6 +51,7 @@ pub fn write_play<R: Replica + Drop, K: Sink>(
     ensures ends { IfOk result (λ ending. ending ≡ play_ending settings) }
     ensures writes { WritesBytes (K.contents out.old) (K.contents out.new) (K.faults out.old) (K.faults out.new) (bytes_of (play_lines settings)) result }
     ensures steady { OnOk result (K.faults out.new ≡ K.faults out.old) }
+    ensures kept { ¬ IsErrOf result Fault.Write → K.faults out.new ≡ K.faults out.old }
 {
     let mut play = Play::<R>::new(alloc);
     let played = play.take_session(settings);
@@ -70,6 +71,7 @@ fn write_played<R: Replica + Drop, K: Sink>(
     ensures writes { (at : Played) → OnOk played (Plays play.now at)
         → WritesBytes (K.contents out.old) (K.contents out.new) (K.faults out.old) (K.faults out.new) (bytes_of (lines_of_play settings at)) result }
     ensures steady { OnOk result (K.faults out.new ≡ K.faults out.old) }
+    ensures kept { ¬ IsErrOf result Fault.Write → K.faults out.new ≡ K.faults out.old }
 {
     played?;
     put_text(out, play.text(settings))?;

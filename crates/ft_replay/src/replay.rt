@@ -1,6 +1,6 @@
 //! The lines of an input, one after another: what hears them, and what is written of them.
 
-ghost use Rattle.std.specs.Prelude.{◌≡◌, ℕ, ◌+◌, ◌-◌, ◌<◌, ◌≤◌, ◌^◌, List, [], Ok, IfOk, OnOk, None, Some, if◌then◌else◌, nat_lt, string_bytes};
+ghost use Rattle.std.specs.Prelude.{◌≡◌, ℕ, ◌+◌, ◌-◌, ◌<◌, ◌≤◌, ◌^◌, List, [], Ok, IfOk, IsErrOf, OnOk, None, Some, if◌then◌else◌, nat_lt, string_bytes};
 ghost use Rattle.ft_io.specs.Reader.{input_limit};
 ghost use Rattle.ft_seqr.specs.Walk.{Progress, after_item, is_blank, line_limit, refused_after, written_by_item};
 ghost use Rattle.ft_replay.specs.declared.listener.Told.{Told};
@@ -42,6 +42,7 @@ pub fn hear_read<L: Listener, K: Sink>(
     ensures writes { (text : List ℕ) (at : Progress L.Made) → HandsOut L.form at.made text line.now → Follows (L.holds listener.old) lines refused at
         → WritesBytes (K.contents out.old) (K.contents out.new) (K.faults out.old) (K.faults out.new) (bytes_of (written_by_item (form_step L.form) at text)) result }
     ensures steady { OnOk result (K.faults out.new ≡ K.faults out.old) }
+    ensures kept { ¬ IsErrOf result Fault.Write → K.faults out.new ≡ K.faults out.old }
 {
     let told = hear(listener, line);
     write_heard(alloc, lines + 1, refused, &told, out)
@@ -65,6 +66,7 @@ pub fn hear_line<L: Listener, K: Sink>(
     ensures writes { (at : Progress L.Made) → Follows (L.holds listener.old) lines refused at
         → WritesBytes (K.contents out.old) (K.contents out.new) (K.faults out.old) (K.faults out.new) (bytes_of (written_by_item (form_step L.form) at line.now)) result }
     ensures steady { OnOk result (K.faults out.new ≡ K.faults out.old) }
+    ensures kept { ¬ IsErrOf result Fault.Write → K.faults out.new ≡ K.faults out.old }
 {
     let told = hear_text(listener, line);
     write_heard(alloc, lines + 1, refused, &told, out)
@@ -83,6 +85,7 @@ pub fn close_lines<L: Listener, K: Sink>(
     ensures writes { (lines : ℕ) (at : Progress L.Made) → Follows (L.holds listener.now) lines refused at
         → WritesBytes (K.contents out.old) (K.contents out.new) (K.faults out.old) (K.faults out.new) (bytes_of (form_end L.form at)) result }
     ensures steady { OnOk result (K.faults out.new ≡ K.faults out.old) }
+    ensures kept { ¬ IsErrOf result Fault.Write → K.faults out.new ≡ K.faults out.old }
 {
     put_text(out, end_text(refused, listener))?;
     Ok(last_ending(refused, listener.counts()))
@@ -168,6 +171,7 @@ fn write_heard<K: Sink>(
     ensures writes { (bytes : List ℕ) → IfOk heard.now (λ told. bytes ≡ told_bytes line told)
         → WritesBytes (K.contents out.old) (K.contents out.new) (K.faults out.old) (K.faults out.new) bytes result }
     ensures steady { OnOk result (K.faults out.new ≡ K.faults out.old) }
+    ensures kept { ¬ IsErrOf result Fault.Write → K.faults out.new ≡ K.faults out.old }
 {
     match heard {
         Ok(told) => {
@@ -182,6 +186,7 @@ fn write_heard<K: Sink>(
 fn write_told<K: Sink>(alloc: Global, line: u64, told: &Told, out: &mut K) -> Result<(), Fault>
     ensures writes { WritesBytes (K.contents out.old) (K.contents out.new) (K.faults out.old) (K.faults out.new) (told_bytes line told.now) result }
     ensures steady { OnOk result (K.faults out.new ≡ K.faults out.old) }
+    ensures kept { ¬ IsErrOf result Fault.Write → K.faults out.new ≡ K.faults out.old }
 {
     match told {
         Told::Nothing => Ok(()),

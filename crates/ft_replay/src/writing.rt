@@ -15,6 +15,7 @@ pub fn put<K: Sink>(out: &mut K, bytes: &[u8]) -> Result<(), Fault>
     ensures writes { WritesBytes (K.contents out.old) (K.contents out.new) (K.faults out.old) (K.faults out.new) bytes.now result }
     ensures fault { IsErrOf result Fault.OutOfMemory → ⊥ }
     ensures steady { OnOk result (K.faults out.new ≡ K.faults out.old) }
+    ensures kept { ¬ IsErrOf result Fault.Write → K.faults out.new ≡ K.faults out.old }
 {
     write_all(out, bytes)?;
     Ok(())
@@ -27,6 +28,7 @@ pub fn put_text<K: Sink>(out: &mut K, made: Result<String, OutOfMemory>) -> Resu
     ensures writes { (bytes : List ℕ) → IfOk made (λ text. string_bytes text ≡ bytes)
         → WritesBytes (K.contents out.old) (K.contents out.new) (K.faults out.old) (K.faults out.new) bytes result }
     ensures steady { OnOk result (K.faults out.new ≡ K.faults out.old) }
+    ensures kept { ¬ IsErrOf result Fault.Write → K.faults out.new ≡ K.faults out.old }
 {
     let text = made?;
     put(out, text.as_bytes())
