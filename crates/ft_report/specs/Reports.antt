@@ -27,8 +27,9 @@ abbrev pub ending_number : Ending → ℕ
 ending_number Done = 0
 ending_number SomeRefused = 1
 
--- what a number tells of the report of the input, so many bytes, and of the room for them
-pub record Tells (input room : List ℕ) (count status : ℕ) : Type 0 where
+-- what a number tells of the report of the input, so many bytes, and of the room for them, in which these bytes were before; where there is no
+-- report in the room, those still are
+pub record Tells (input before room : List ℕ) (count status : ℕ) : Type 0 where
   pub within : status ≤ 1 → count ≤ length room
   pub bytes : status ≤ 1 → take count room ≡ session_bytes input
   pub ends : status ≤ 1 → status ≡ ending_number (session_account.ending input)
@@ -36,6 +37,8 @@ pub record Tells (input room : List ℕ) (count status : ℕ) : Type 0 where
   pub small : status ≡ 4 → length room < count
   pub long : status ≡ 6 → input_limit < length input
   pub known : IsTrue (nat_eq status 0 || (nat_eq status 1 || (nat_eq status 4 || (nat_eq status 5 || nat_eq status 6))))
+  pub none : 5 ≤ status → count ≡ 0
+  pub untouched : 4 ≤ status → room ≡ before
 
 -- the text of a fault
 abbrev pub report_fault_text : ReportFault → List ℕ

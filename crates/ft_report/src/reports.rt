@@ -83,14 +83,14 @@ pub fn session_report<R: Replica + Drop>(alloc: Global, input: &[u8]) -> Result<
 /// has.
 ///
 /// Returns `DONE` or `SOME_REFUSED` where the report is in the room, `TOO_SMALL` where it has more bytes than the
-/// room, `OUT_OF_MEMORY` and `TOO_LONG` where there is none; `count` is 0 then.
+/// room, `OUT_OF_MEMORY` and `TOO_LONG` where there is none; `count` is 0 then. In these three the room is as it was.
 pub fn report_into<R: Replica + Drop>(
     alloc: Global,
     input: &[u8],
     room: &mut [u8],
     count: &mut usize,
 ) -> u32
-    ensures { Tells input.now room.new count.new result }
+    ensures { Tells input.now room.old room.new count.new result }
 {
     *count = 0;
     match session_report::<R>(alloc, input) {
@@ -102,7 +102,7 @@ pub fn report_into<R: Replica + Drop>(
 
 // Puts the report into the room, if that is large enough, and tells how many bytes it has.
 fn put_report(report: &Report, room: &mut [u8], count: &mut usize) -> u32
-    ensures { (input : List ℕ) → IsReport input report.now → Tells input room.new count.new result }
+    ensures { (input : List ℕ) → IsReport input report.now → Tells input room.old room.new count.new result }
 {
     *count = report.bytes.len();
     if *count > room.len() {
