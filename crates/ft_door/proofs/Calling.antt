@@ -23,6 +23,9 @@ module _ {R : Type 0} (run : HeldClient R) (s t : EditorState) where
     full = λ x is. absurd (cc);
     closed = λ is. absurd (cc);
     known = refl;
+    untold = λ x is. absurd (cc);
+    silent = λ is. absurd (cc);
+    after_end = λ none. absurd (cc);
   }
 
   -- it was refused, and why is written
@@ -38,6 +41,9 @@ module _ {R : Type 0} (run : HeldClient R) (s t : EditorState) where
     full = λ x is. absurd (cc);
     closed = λ is. absurd (cc);
     known = refl;
+    untold = λ x is. absurd (cc);
+    silent = λ is. absurd (cc);
+    after_end = λ none. absurd (cc);
   }
 
   -- it was too much
@@ -53,19 +59,41 @@ module _ {R : Type 0} (run : HeldClient R) (s t : EditorState) where
     full = λ x six h. tells.1 x h;
     closed = λ is. absurd (cc);
     known = refl;
+    untold = λ x is. absurd (cc);
+    silent = λ is. absurd (cc);
+    after_end = λ none. absurd (cc);
+  }
+
+  -- it was refused, and there was no memory to write why
+  pub call-untold : (new : HeldClient R) (step : NaiveEditor → Step NaiveEditor) (exceeds : NaiveEditor → Bool) (why : Refusal) → new.client ≡ Some t
+      → unread_by new ≡ unread_by run → TellsStep (Refused why) s t step exceeds → CallsClient step exceeds (record run { client = Some s }) new 2
+  call-untold new step exceeds why is unread tells = record {
+    client = λ x low. absurd (omega (arith, low));
+    told = λ x low. absurd (omega (arith, low));
+    written = λ x low. absurd (omega (arith, low));
+    ended = λ is. absurd (cc);
+    kept = λ is. absurd (cc);
+    same = λ large. absurd (omega (arith, large));
+    full = λ x is. absurd (cc);
+    closed = λ is. absurd (cc);
+    known = refl;
+    untold = λ x two h. (why, (tells x h).0, subst (λ client. ClientGoesOn client (step x).made) (sym is) (tells x h).1);
+    silent = λ two. unread;
+    after_end = λ none. absurd (cc);
   }
 
 -- a draft was written, and counts as sent
-pub draft-sent : {R : Type 0} (old new : HeldClient R) (line : List ℕ) → unread_by new ≡ unread_by old ++ line
+pub draft-sent : {R : Type 0} (old new : HeldClient R) (line : List ℕ) → (old.client ≡ None → ⊥) → unread_by new ≡ unread_by old ++ line
     → ((x : NaiveEditor) → ClientGoesOn old.client x → oldest_bytes x.client.queue ≡ Some line)
     → ((x : NaiveEditor) → ClientGoesOn old.client x → ClientGoesOn new.client (with_queue (drop 1 x.client.queue) x)) → SendsDraft old new 0
-draft-sent old new line written oldest sent = record {
+draft-sent old new line runs written oldest sent = record {
   sent = λ x zero h. by x h x.client.queue refl (oldest x h);
   none = λ x is. absurd (cc);
   client = λ large. absurd (omega (arith, large));
   unread = λ large. absurd (omega (arith, large));
   closed = λ is. absurd (cc);
   known = refl;
+  after_end = λ none. absurd (runs none);
 }
   where
     by : (x : NaiveEditor) → ClientGoesOn old.client x → (queue : List Draft) → x.client.queue ≡ queue → oldest_bytes queue ≡ Some line
@@ -81,9 +109,9 @@ draft-sent old new line written oldest sent = record {
         )
 
 -- there was no memory for a call
-pub call-ended : {R : Type 0} (old new : HeldClient R) (step : NaiveEditor → Step NaiveEditor) (exceeds : NaiveEditor → Bool) → new.client ≡ None → unread_by new ≡ unread_by old
-    → CallsClient step exceeds old new 5
-call-ended old new step exceeds is same = record {
+pub call-ended : {R : Type 0} (old new : HeldClient R) (step : NaiveEditor → Step NaiveEditor) (exceeds : NaiveEditor → Bool) → (old.client ≡ None → ⊥) → new.client ≡ None
+    → unread_by new ≡ unread_by old → CallsClient step exceeds old new 5
+call-ended old new step exceeds runs is same = record {
   client = λ x low. absurd (omega (arith, low));
   told = λ x low. absurd (omega (arith, low));
   written = λ x low. absurd (omega (arith, low));
@@ -93,17 +121,21 @@ call-ended old new step exceeds is same = record {
   full = λ x is. absurd (cc);
   closed = λ is. absurd (cc);
   known = refl;
+  untold = λ x is. absurd (cc);
+  silent = λ is. absurd (cc);
+  after_end = λ none. absurd (runs none);
 }
 
 -- there is nothing to send
-pub nothing-sent : {R : Type 0} (run : HeldClient R) → ((x : NaiveEditor) → ClientGoesOn run.client x → None ≡ oldest_bytes x.client.queue) → SendsDraft run run 8
-nothing-sent run oldest = record {
+pub nothing-sent : {R : Type 0} (run : HeldClient R) → (run.client ≡ None → ⊥) → ((x : NaiveEditor) → ClientGoesOn run.client x → None ≡ oldest_bytes x.client.queue) → SendsDraft run run 8
+nothing-sent run runs oldest = record {
   sent = λ x zero. absurd (cc);
   none = λ x eight h. by x.client.queue (oldest x h);
   client = λ large. refl;
   unread = λ large. refl;
   closed = λ is. absurd (cc);
   known = refl;
+  after_end = λ none. absurd (runs none);
 }
   where
     by : (queue : List Draft) → None ≡ oldest_bytes queue → queue ≡ []
@@ -111,32 +143,35 @@ nothing-sent run oldest = record {
     by (d ∷ ds) e = absurd (cc)
 
 -- there was no memory for a draft
-pub draft-kept : {R : Type 0} (old new : HeldClient R) → new.client ≡ old.client → unread_by new ≡ unread_by old → SendsDraft old new 5
-draft-kept old new client unread = record {
+pub draft-kept : {R : Type 0} (old new : HeldClient R) → (old.client ≡ None → ⊥) → new.client ≡ old.client → unread_by new ≡ unread_by old → SendsDraft old new 5
+draft-kept old new runs client unread = record {
   sent = λ x zero. absurd (cc);
   none = λ x is. absurd (cc);
   client = λ large. client;
   unread = λ large. unread;
   closed = λ is. absurd (cc);
   known = refl;
+  after_end = λ none. absurd (runs none);
 }
 
 -- a view is written, or there was no memory for it
-pub view-shown : {R : Type 0} (old new : HeldClient R) → new.client ≡ old.client
+pub view-shown : {R : Type 0} (old new : HeldClient R) → (old.client ≡ None → ⊥) → new.client ≡ old.client
     → ((x : NaiveEditor) → ClientGoesOn old.client x → unread_by new ≡ unread_by old ++ bytes_of (shown_lines x)) → ShowsClient old new 0
-view-shown old new is shown = record {
+view-shown old new runs is shown = record {
   shown = λ x zero h. shown x h;
   client = is;
   unread = λ large. absurd (omega (arith, large));
   closed = λ is. absurd (cc);
   known = refl;
+  after_end = λ none. absurd (runs none);
 }
 
-pub view-kept : {R : Type 0} (old new : HeldClient R) → new.client ≡ old.client → unread_by new ≡ unread_by old → ShowsClient old new 5
-view-kept old new client unread = record {
+pub view-kept : {R : Type 0} (old new : HeldClient R) → (old.client ≡ None → ⊥) → new.client ≡ old.client → unread_by new ≡ unread_by old → ShowsClient old new 5
+view-kept old new runs client unread = record {
   shown = λ x zero. absurd (cc);
   client = client;
   unread = λ large. unread;
   closed = λ is. absurd (cc);
   known = refl;
+  after_end = λ none. absurd (runs none);
 }

@@ -1,6 +1,6 @@
 -- What an editor is told of its calls, and for which one it stands then.
 use Rattle.std.proofs.Common.{chars, if◌then◌else◌, ◌≡◌, ℕ, ◌+◌, ◌*◌, ◌<◌, ◌≤◌, Bool, true, false, cond, not, ◌&&◌, IsTrue, nat_le, List, [], ◌∷◌, Option, Some, None, Result, Ok, Err, drop, length, max, option_map, slice_get, refl, sym, ◌∙◌, ap, subst, arith}
-use Rattle.std.proofs.lemmas.Bool.{false_from_ne_true, lt-ltb, le-leb, or_left}
+use Rattle.std.proofs.lemmas.Bool.{and_parts, false_from_ne_true, lt-ltb, le-leb, or_left}
 use Rattle.std.proofs.lemmas.Bool.Decides.{nat_tests}
 use Rattle.std.proofs.lemmas.Str.{IsUtf8-from_is_utf8, is_utf8-from_IsUtf8}
 use Rattle.std.specs.Str.{IsUtf8, is_utf8}
@@ -44,9 +44,9 @@ use Rattle.ft_session.specs.Outputs.{IsViewOf}
 use Rattle.ft_session.proofs.Counting.{stands-minimum, stands-other, stands-pending, stands-skipped}
 use Rattle.ft_door.specs.declared.calls.Told.{Told}
 use Rattle.ft_door.specs.declared.calls.Told.TheVariants.{Full, Refused, Taken}
-use Rattle.ft_door.specs.Editors.{EditorState, AnswersStep, IsEditor, IsSomeEditor, NaiveEditor, TellsStep, as_client, connect_as, connect_line, drop_answer, drop_step, dropped_unless, edit_answer, edit_exceeds, edited, editor_of, entry_answer, is_free, is_join, is_offline, is_sender, joining_as, load_exceeds, load_limit, load_of, load_reading, load_reading_exceeds, message_answer, message_answer_exceeds, message_exceeds, never_exceeds, new_editor, next_exceeds, no_name, oldest_bytes, or_same, order_fault, shown_link, start_load, table_limit, take_entry, is_awaited_by, message_refusal, take_message, take_next, told_of, waits_after, draft_bytes}
+use Rattle.ft_door.specs.Editors.{EditorState, AnswersStep, IsEditor, IsNextFor, IsSomeEditor, NaiveEditor, TakesJoin, TellsStep, as_client, connect_as, connect_line, drop_answer, drop_step, dropped_unless, edit_answer, edit_exceeds, edited, editor_of, entry_answer, is_free, is_join, is_offline, is_sender, joining_as, load_exceeds, load_limit, load_of, load_reading, load_reading_exceeds, message_answer, message_answer_exceeds, message_exceeds, never_exceeds, new_editor, next_exceeds, no_name, oldest_bytes, or_same, order_fault, shown_link, start_load, table_limit, take_entry, is_awaited_by, message_refusal, take_message, take_next, told_of, waits_after, draft_bytes}
 use Rattle.ft_door.specs.Editors as editors
-use Rattle.ft_door.proofs.GivenSteps.{runs-queued}
+use Rattle.ft_door.proofs.GivenSteps.{join-taken, runs-queued}
 
 -- ---- what is told of a step
 
@@ -253,6 +253,23 @@ message-exceeds x m e = by (order_fault x.client.doc.number x.client.doc.minimum
     by : (o : Option ProcessFault) → None ≡ option_map (refusal_of_process m.seq) o → next_exceeds x m.body ≡ message_answer_exceeds x m o
     by None f = refl
     by (Some fault) f = absurd (cc)
+
+-- .. and is the next one for it
+pub message-is_next : (x : NaiveEditor) (m : Message) → None ≡ message_refusal x m → order_fault x.client.doc.number x.client.doc.minimum m ≡ None
+message-is_next x m e = by (order_fault x.client.doc.number x.client.doc.minimum m) e
+  where
+    by : (o : Option ProcessFault) → None ≡ option_map (refusal_of_process m.seq) o → o ≡ None
+    by None f = refl
+    by (Some fault) f = absurd (cc)
+
+-- the join that it waits for is one that its client takes
+pub awaited-taken : (s : EditorState) (m : Message) (origin : ℕ) (joins : Bool) → IsNextFor s m → joins ≡ is_awaited_by s m → joins ≡ true
+    → TakesJoin s.replica (record { msg = m; origin = origin })
+awaited-taken s m origin joins (x, h, next) is awaits =
+    let awaited = and_parts s.waits (is_join m.kind && is_sender s.name m.client_id) (sym is ∙ awaits) in
+    let join = and_parts (is_join m.kind) (is_sender s.name m.client_id) awaited.1 in
+    let (after, takes) = join-taken x.client m origin join.0 next in
+    record { client = x.client; reached = editor-reached s x h; runs = h.runs; after = after; takes = takes }
 
 -- ---- what is too much
 

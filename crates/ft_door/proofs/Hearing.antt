@@ -30,9 +30,9 @@ breaks {R} {T} {g} run waits bytes more read before now fault ended is h = recor
 }
 
 -- .. and so with a line
-pub line-broken : {R : Type 0} {g : Ghosts R} (old new : HeldSession R g) (line : List ℕ)
+pub line-broken : {R : Type 0} {g : Ghosts R} (old new : HeldSession R g) (line : List ℕ) → (old.session ≡ None → ⊥)
     → ((heard : List (List ℕ)) → (read : List ℕ) → Stands old heard read → Breaks new (lines_bytes heard) (line_bytes heard line) read) → HearsLine old new line 5
-line-broken old new line h = record {
+line-broken old new line runs h = record {
   heard = λ heard read small. absurd (omega (arith, small));
   refused = λ heard read small. absurd (omega (arith, small));
   broken = λ heard read is has. h heard read has;
@@ -40,18 +40,20 @@ line-broken old new line h = record {
   same = λ large. absurd (omega (arith, large));
   closed = λ is. absurd (cc);
   known = refl;
+  after_end = λ none. absurd (runs none);
 }
 
 -- .. and with what ends the report
-pub end-broken : {R : Type 0} {g : Ghosts R} (old new : HeldSession R g)
+pub end-broken : {R : Type 0} {g : Ghosts R} (old new : HeldSession R g) → (old.session ≡ None → ⊥)
     → ((heard : List (List ℕ)) → (read : List ℕ) → Stands old heard read → Breaks new (lines_bytes heard) (end_bytes heard) read) → ClosesSession old new 5
-end-broken old new h = record {
+end-broken old new runs h = record {
   closed = λ heard read small. absurd (omega (arith, small));
   ends = λ heard read small. absurd (omega (arith, small));
   broken = λ heard read is has. h heard read has;
   same = λ is. absurd (cc);
   none = λ is. absurd (cc);
   known = refl;
+  after_end = λ none. absurd (runs none);
 }
 
 -- bytes were written behind those that wait, and these are those of a line more
@@ -86,10 +88,10 @@ refused-more before now old new status was is once sum =
     omega (arith, was, is, told)
 
 -- a line was heard
-pub line-heard : {R : Type 0} {g : Ghosts R} (old new : HeldSession R g) (line : List ℕ) (status : ℕ) → status ≤ 1
+pub line-heard : {R : Type 0} {g : Ghosts R} (old new : HeldSession R g) (line : List ℕ) (status : ℕ) → (old.session ≡ None → ⊥) → status ≤ 1
     → ((heard : List (List ℕ)) → (read : List ℕ) → Stands old heard read → Stands new (heard ++ line ∷ []) read)
     → ((heard : List (List ℕ)) → (read : List ℕ) → Stands old heard read → heard_refused (heard ++ line ∷ []) ≡ heard_refused heard + status) → HearsLine old new line status
-line-heard old new line zero low h r = record {
+line-heard old new line zero runs low h r = record {
   heard = λ heard read small has. h heard read has;
   refused = λ heard read small has. r heard read has;
   broken = λ heard read is. absurd (cc);
@@ -97,8 +99,9 @@ line-heard old new line zero low h r = record {
   same = λ large. absurd (omega (arith, large));
   closed = λ is. absurd (cc);
   known = refl;
+  after_end = λ none. absurd (runs none);
 }
-line-heard old new line (suc zero) low h r = record {
+line-heard old new line (suc zero) runs low h r = record {
   heard = λ heard read small has. h heard read has;
   refused = λ heard read small has. r heard read has;
   broken = λ heard read is. absurd (cc);
@@ -106,13 +109,14 @@ line-heard old new line (suc zero) low h r = record {
   same = λ large. absurd (omega (arith, large));
   closed = λ is. absurd (cc);
   known = refl;
+  after_end = λ none. absurd (runs none);
 }
-line-heard old new line (suc (suc n)) low h r = absurd (omega (arith, low))
+line-heard old new line (suc (suc n)) runs low h r = absurd (omega (arith, low))
 
 -- there were as many lines as there may be, and nothing changed
-pub line-full : {R : Type 0} {g : Ghosts R} (old new : HeldSession R g) (line : List ℕ) → new ≡ old
+pub line-full : {R : Type 0} {g : Ghosts R} (old new : HeldSession R g) (line : List ℕ) → (old.session ≡ None → ⊥) → new ≡ old
     → ((heard : List (List ℕ)) → (read : List ℕ) → Stands old heard read → input_limit < length heard) → HearsLine old new line 6
-line-full old new line same many = record {
+line-full old new line runs same many = record {
   heard = λ heard read small. absurd (omega (arith, small));
   refused = λ heard read small. absurd (omega (arith, small));
   broken = λ heard read is. absurd (cc);
@@ -120,25 +124,28 @@ line-full old new line same many = record {
   same = λ large. same;
   closed = λ is. absurd (cc);
   known = refl;
+  after_end = λ none. absurd (runs none);
 }
 
 -- the session is closed, and its report ends so
-pub session-closed : {R : Type 0} {g : Ghosts R} (old new : HeldSession R g) (ending : Ending)
+pub session-closed : {R : Type 0} {g : Ghosts R} (old new : HeldSession R g) (ending : Ending) → (old.session ≡ None → ⊥)
     → ((heard : List (List ℕ)) → (read : List ℕ) → Stands old heard read → IsClosed new heard read)
     → ((heard : List (List ℕ)) → (read : List ℕ) → Stands old heard read → ending ≡ heard_ending heard) → ClosesSession old new (ending_number ending)
-session-closed old new Done closed ends = record {
+session-closed old new Done runs closed ends = record {
   closed = λ heard read small has. closed heard read has;
   ends = λ heard read small has. ap ending_number (ends heard read has);
   broken = λ heard read is. absurd (cc);
   same = λ is. absurd (cc);
   none = λ is. absurd (cc);
   known = refl;
+  after_end = λ none. absurd (runs none);
 }
-session-closed old new SomeRefused closed ends = record {
+session-closed old new SomeRefused runs closed ends = record {
   closed = λ heard read small has. closed heard read has;
   ends = λ heard read small has. ap ending_number (ends heard read has);
   broken = λ heard read is. absurd (cc);
   same = λ is. absurd (cc);
   none = λ is. absurd (cc);
   known = refl;
+  after_end = λ none. absurd (runs none);
 }

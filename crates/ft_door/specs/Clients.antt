@@ -36,8 +36,9 @@ abbrev pub call_number : Option Refusal → ℕ
 call_number None = 0
 call_number (Some why) = 1
 
--- what a number tells of a call that is this step: it was taken, or refused, and then why is written; there was no memory, and the client is at
--- its end; the call was too much, or the client was at its end before, and nothing changed
+-- what a number tells of a call that is this step: it was taken, or refused, and then why is written; it was refused, and there was no memory to
+-- write why; there was no memory for the call, and the client is at its end; the call was too much, or the client was at its end before, and
+-- nothing changed. One that was is told so at each call
 pub record CallsClient {R : Type 0} (step : NaiveEditor → Step NaiveEditor) (exceeds : NaiveEditor → Bool) (old new : HeldClient R) (status : ℕ) : Type 0 where
   pub client : (x : NaiveEditor) → status ≤ 1 → ClientGoesOn old.client x → ClientGoesOn new.client (step x).made
   pub told : (x : NaiveEditor) → status ≤ 1 → ClientGoesOn old.client x → status ≡ call_number (step x).refusal
@@ -47,7 +48,10 @@ pub record CallsClient {R : Type 0} (step : NaiveEditor → Step NaiveEditor) (e
   pub full : (x : NaiveEditor) → status ≡ 6 → ClientGoesOn old.client x → IsTrue (exceeds x)
   pub same : 6 ≤ status → new ≡ old
   pub closed : status ≡ 7 → old.client ≡ None
-  pub known : IsTrue (nat_eq status 0 || (nat_eq status 1 || (nat_eq status 5 || (nat_eq status 6 || nat_eq status 7))))
+  pub known : IsTrue (nat_eq status 0 || (nat_eq status 1 || (nat_eq status 2 || (nat_eq status 5 || (nat_eq status 6 || nat_eq status 7)))))
+  pub untold : (x : NaiveEditor) → status ≡ 2 → ClientGoesOn old.client x → (why : Refusal) × ((step x).refusal ≡ Some why) × ClientGoesOn new.client (step x).made
+  pub silent : status ≡ 2 → unread_by new ≡ unread_by old
+  pub after_end : old.client ≡ None → (status ≡ 7) × (new ≡ old)
 
 -- what a number tells of a call for a draft: the oldest one that wasn't sent is written, and counts as sent; there was no memory, or the client is at
 -- its end, or there is none, and nothing changed
@@ -59,6 +63,7 @@ pub record SendsDraft {R : Type 0} (old new : HeldClient R) (status : ℕ) : Typ
   pub unread : 5 ≤ status → unread_by new ≡ unread_by old
   pub closed : status ≡ 7 → old.client ≡ None
   pub known : IsTrue (nat_eq status 0 || (nat_eq status 5 || (nat_eq status 7 || nat_eq status 8)))
+  pub after_end : old.client ≡ None → (status ≡ 7) × (new ≡ old)
 
 -- what a number tells of a call for a view: its lines are written; there was no memory, or the client is at its end
 pub record ShowsClient {R : Type 0} (old new : HeldClient R) (status : ℕ) : Type 0 where
@@ -67,6 +72,7 @@ pub record ShowsClient {R : Type 0} (old new : HeldClient R) (status : ℕ) : Ty
   pub unread : 5 ≤ status → unread_by new ≡ unread_by old
   pub closed : status ≡ 7 → old.client ≡ None
   pub known : IsTrue (nat_eq status 0 || (nat_eq status 5 || nat_eq status 7))
+  pub after_end : old.client ≡ None → (status ≡ 7) × (new ≡ old)
 
 -- the next bytes were read into the first of the room
 pub record ReadsClient {R : Type 0} (old new : HeldClient R) (room : List ℕ) (count : ℕ) : Type 0 where

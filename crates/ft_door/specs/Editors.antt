@@ -27,6 +27,7 @@ use Rattle.ft_msg.specs.Client.{NaiveClient, client_over, connect, drop_link, lo
 use Rattle.ft_msg.specs.Content.{content}
 use Rattle.ft_msg.specs.MessageGrammar.{message}
 use Rattle.ft_msg.specs.Process.{numbers_fault, process}
+use Rattle.ft_msg.specs.Reached.{IsReached}
 use Rattle.ft_msg.specs.Summary.{doc_of}
 use Rattle.ft_msg.specs.Written.{written_draft}
 use Rattle.ft_seqr.specs.declared.events.Event.{Event}
@@ -324,6 +325,10 @@ is_awaited_by s m = s.waits && (is_join m.kind && is_sender s.name m.client_id)
 abbrev pub IsSomeEditor : EditorState → Type 0
 IsSomeEditor s = (x : NaiveEditor) × IsEditor s x
 
+-- it stands for some, to which the message is the next one, and not refused whoever sent it
+abbrev pub IsNextFor : EditorState → Message → Type 0
+IsNextFor s m = (x : NaiveEditor) × IsEditor s x × (order_fault x.client.doc.number x.client.doc.minimum m ≡ None)
+
 -- what is told of a call: it was this step, which takes it or refuses it; or it is too much, and nothing changed
 abbrev pub TellsStep : Told → EditorState → EditorState → (NaiveEditor → Step NaiveEditor) → (NaiveEditor → Bool) → Type 0
 TellsStep Taken old new step exceeds = (x : NaiveEditor) → IsEditor old x → ((step x).refusal ≡ None) × IsEditor new (step x).made
@@ -350,6 +355,14 @@ waits_after (Some why) waits joins = waits
 abbrev pub IsRefusal : FaultKind → Type 0
 IsRefusal OfItsClient = ⊤
 IsRefusal _ = ⊥
+
+-- the entry is a join that the client takes for which the replica runs
+pub record TakesJoin (r : ReplicaState) (entry : Entry) : Type 0 where
+  pub client : NaiveClient
+  pub reached : IsReached client
+  pub runs : RunsFor r client
+  pub after : NaiveClient
+  pub takes : process (joining_as true entry.origin client) entry ≡ Ok after
 
 -- what it answers to a step of its client: nothing where that takes it, and why where it refuses
 abbrev pub AnswersStep : {E : Type 0} → (E → Refusal) → ReplicaState → ReplicaState → Result NaiveClient E → Option Refusal → Type 0

@@ -35,7 +35,8 @@ pub record Breaks {R : Type 0} {g : Ghosts R} (run : HeldSession R g) (bytes mor
   pub report : read ++ unread_of run ≡ bytes ++ written
 
 -- what a number tells of a line that was given to a session: it was heard, and refused just where the number is 1; there was no memory, and it
--- writes only its first bytes; the session has as many lines as it may have, or isn't open any more, and nothing changed
+-- writes only its first bytes; the session has as many lines as it may have, or it is at its end, and nothing changed. One that is at its end
+-- is told so at each line
 pub record HearsLine {R : Type 0} {g : Ghosts R} (old new : HeldSession R g) (line : List ℕ) (status : ℕ) : Type 0 where
   pub heard : (heard : List (List ℕ)) → (read : List ℕ) → status ≤ 1 → Stands old heard read → Stands new (heard ++ line ∷ []) read
   pub refused : (heard : List (List ℕ)) → (read : List ℕ) → status ≤ 1 → Stands old heard read → heard_refused (heard ++ line ∷ []) ≡ heard_refused heard + status
@@ -44,9 +45,10 @@ pub record HearsLine {R : Type 0} {g : Ghosts R} (old new : HeldSession R g) (li
   pub same : 6 ≤ status → new ≡ old
   pub closed : status ≡ 7 → old.session ≡ None
   pub known : IsTrue (nat_eq status 0 || (nat_eq status 1 || (nat_eq status 5 || (nat_eq status 6 || nat_eq status 7))))
+  pub after_end : old.session ≡ None → (status ≡ 7) × (new ≡ old)
 
 -- what a number tells of a session that was closed: how the report of its lines ends; or there was no memory, and only the
--- first bytes of what ends it are there; or it wasn't open
+-- first bytes of what ends it are there; or it was at its end before, and nothing changed. One that was is told so
 pub record ClosesSession {R : Type 0} {g : Ghosts R} (old new : HeldSession R g) (status : ℕ) : Type 0 where
   pub closed : (heard : List (List ℕ)) → (read : List ℕ) → status ≤ 1 → Stands old heard read → IsClosed new heard read
   pub ends : (heard : List (List ℕ)) → (read : List ℕ) → status ≤ 1 → Stands old heard read → status ≡ ending_number (heard_ending heard)
@@ -54,6 +56,7 @@ pub record ClosesSession {R : Type 0} {g : Ghosts R} (old new : HeldSession R g)
   pub same : status ≡ 7 → new ≡ old
   pub none : status ≡ 7 → old.session ≡ None
   pub known : IsTrue (nat_eq status 0 || (nat_eq status 1 || (nat_eq status 5 || nat_eq status 7)))
+  pub after_end : old.session ≡ None → (status ≡ 7) × (new ≡ old)
 
 -- the next bytes of the report were read into the first of the room
 pub record ReadsReport {R : Type 0} {g : Ghosts R} (old new : HeldSession R g) (room : List ℕ) (count : ℕ) : Type 0 where

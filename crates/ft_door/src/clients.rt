@@ -16,6 +16,9 @@ use ft_report::{DONE, OUT_OF_MEMORY, SOME_REFUSED, TOO_LONG};
 use ft_seqr::Refusal;
 use std::alloc::Global;
 
+/// The call was refused, and there was no memory for the line that tells why.
+pub const UNTOLD: u32 = 2;
+
 /// There is nothing to send.
 pub const NOTHING: u32 = 8;
 
@@ -57,7 +60,7 @@ impl<R: Replica + Drop> HeldClient<R> {
     /// Does this with the bytes that are given with it.
     ///
     /// Returns `DONE` where it was taken; `SOME_REFUSED` where it was refused, and then why is put behind what isn't read yet;
-    /// `OUT_OF_MEMORY` where there is no room for what it makes, and then the client is at its end; `TOO_LONG` where its steps would
+    /// `UNTOLD` where it was refused and there is no room for that line; `OUT_OF_MEMORY` where there is no room for what it makes, and then the client is at its end; `TOO_LONG` where its steps would
     /// cost more than 2^52, or the next message comes where it has seen 2^32 - 1 connections, and `CLOSED` where it is at its end: then
     /// nothing changed.
     pub fn call(&mut self, call: Call, bytes: &[u8]) -> u32
@@ -123,6 +126,7 @@ impl<R: Replica + Drop> HeldClient<R> {
 
     // Puts the lines of what it shows behind what waits, if they were made.
     fn show(&mut self, lines: &Result<String, OutOfMemory>) -> u32
+        requires { self.old.client ≡ None → ⊥ }
         ensures { ((x : NaiveEditor) → ClientGoesOn self.old.client x → IfOk lines.now (λ text. string_bytes text ≡ bytes_of (shown_lines x))) → ShowsClient self.old self.new result }
     {
         match self.waiting.push_made(lines) {
@@ -143,7 +147,7 @@ impl<R: Replica + Drop> HeldClient<R> {
         }
     }
 
-    // Writes why a call was refused; without memory for that the client is at its end.
+    // Writes why a call was refused; without memory for that the line is lost.
     fn refuse(&mut self, why: Refusal) -> u32
         ensures { (s t : EditorState) (step : NaiveEditor → Step NaiveEditor) (exceeds : NaiveEditor → Bool) → self.old.client ≡ Some t → TellsStep (Told.Refused why) s t step exceeds
             → CallsClient step exceeds (record self.old { client = Some s }) self.new result }
@@ -151,15 +155,13 @@ impl<R: Replica + Drop> HeldClient<R> {
         let line = refusal_line(self.alloc, why);
         match self.waiting.push_made(&line) {
             Ok(()) => SOME_REFUSED,
-            Err(OutOfMemory) => {
-                drop(self.client.take());
-                OUT_OF_MEMORY
-            }
+            Err(OutOfMemory) => UNTOLD,
         }
     }
 
     // Puts the line of its oldest draft behind what waits, if there is one and it was made; the draft counts as sent then.
     fn send(&mut self, made: &Result<Option<String>, OutOfMemory>) -> u32
+        requires { self.old.client ≡ None → ⊥ }
         ensures { ((x : NaiveEditor) → ClientGoesOn self.old.client x → IfOk made.now (λ line. option_map (λ text. string_bytes text) line ≡ oldest_bytes x.client.queue))
             → SendsDraft self.old self.new result }
     {
@@ -174,6 +176,7 @@ impl<R: Replica + Drop> HeldClient<R> {
 
     // Puts the line of its oldest draft behind what waits, which counts as sent then.
     fn send_line(&mut self, line: &str) -> u32
+        requires { self.old.client ≡ None → ⊥ }
         ensures { ((x : NaiveEditor) → ClientGoesOn self.old.client x → oldest_bytes x.client.queue ≡ Some line.now) → SendsDraft self.old self.new result }
     {
         match self.waiting.push(line.as_bytes()) {

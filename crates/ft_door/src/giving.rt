@@ -1,6 +1,6 @@
 //! The steps of a replica, as an editor takes them.
 
-ghost use Rattle.std.specs.Prelude.{◌≡◌, ◌<◌, ◌^◌, true, IfOk, int_lt, pos};
+ghost use Rattle.std.specs.Prelude.{◌≡◌, ◌<◌, ◌^◌, true, IfOk, IsSome, OnErr, int_lt, pos};
 ghost use Rattle.ft_op.specs.Document.{empty};
 ghost use Rattle.ft_op.specs.WellFormed.{IsWellFormed};
 ghost use Rattle.ft_msg.specs.Answers.{RunsFor, edit_fault_kind, link_fault_kind, process_fault_kind};
@@ -22,14 +22,15 @@ use ft_seqr::Refusal;
 
 /// Gives the replica an edit of its own. Returns why it is refused, if it is, and then nothing changed.
 ///
-/// Returns `OutOfMemory` where there was no memory, and nothing is said of the replica then.
+/// Returns `OutOfMemory` where there was no memory, and the replica has stopped then.
 pub fn give_edit<R: Replica>(
     replica: &mut R,
     op: &ChannelOp,
 ) -> Result<Option<Refusal>, OutOfMemory>
     requires { IsWellFormed op.now }
-    ensures { (x : NaiveClient) → IsReached x → RunsFor (R.state replica.old) x
+    ensures answers { (x : NaiveClient) → IsReached x → RunsFor (R.state replica.old) x
         → IfOk result (AnswersStep refusal_of_edit (R.state replica.old) (R.state replica.new) (local_edit x op.now)) }
+    ensures stops { OnErr result (IsSome (R.state replica.new).stop) }
 {
     match replica.edit(op) {
         Ok(()) => Ok(None),
@@ -42,14 +43,15 @@ pub fn give_edit<R: Replica>(
 
 /// Gives the replica the next message of the log. Returns why it is refused, if it is, and then nothing changed.
 ///
-/// Returns `OutOfMemory` where there was no memory, and nothing is said of the replica then.
+/// Returns `OutOfMemory` where there was no memory, and the replica has stopped then.
 pub fn give_entry<R: Replica>(
     replica: &mut R,
     entry: &Entry,
 ) -> Result<Option<Refusal>, OutOfMemory>
     requires { IsWellFormedMessage entry.now.msg }
-    ensures { (x : NaiveClient) → IsReached x → RunsFor (R.state replica.old) x
+    ensures answers { (x : NaiveClient) → IsReached x → RunsFor (R.state replica.old) x
         → IfOk result (AnswersStep (refusal_of_process entry.now.msg.seq) (R.state replica.old) (R.state replica.new) (process x entry.now)) }
+    ensures stops { OnErr result (IsSome (R.state replica.new).stop) }
 {
     match replica.process(entry) {
         Ok(()) => Ok(None),
@@ -62,10 +64,11 @@ pub fn give_entry<R: Replica>(
 
 /// The replica begins to join under this number, which it does where it is offline.
 ///
-/// Returns `OutOfMemory` where there was no memory, and nothing is said of the replica then.
+/// Returns `OutOfMemory` where there was no memory, and the replica has stopped then.
 pub fn begin_join<R: Replica>(replica: &mut R, conn: u32) -> Result<(), OutOfMemory>
-    ensures { (x : NaiveClient) → IsReached x → RunsFor (R.state replica.old) x
+    ensures answers { (x : NaiveClient) → IsReached x → RunsFor (R.state replica.old) x
         → IfOk result (λ _. RunsFor (R.state replica.new) (joining_as true conn x)) }
+    ensures stops { OnErr result (IsSome (R.state replica.new).stop) }
 {
     match replica.connect(conn) {
         Ok(()) => Ok(()),
@@ -77,8 +80,9 @@ pub fn begin_join<R: Replica>(replica: &mut R, conn: u32) -> Result<(), OutOfMem
 ///
 /// Returns `OutOfMemory` where it had stopped before.
 pub fn lose_link<R: Replica>(replica: &mut R) -> Result<Option<Refusal>, OutOfMemory>
-    ensures { (x : NaiveClient) → IsReached x → RunsFor (R.state replica.old) x
+    ensures answers { (x : NaiveClient) → IsReached x → RunsFor (R.state replica.old) x
         → IfOk result (AnswersStep (λ _. NotConnected) (R.state replica.old) (R.state replica.new) (drop_link x)) }
+    ensures stops { OnErr result (IsSome (R.state replica.new).stop) }
 {
     match replica.drop_link() {
         Ok(()) => Ok(None),
@@ -89,10 +93,13 @@ pub fn lose_link<R: Replica>(replica: &mut R) -> Result<Option<Refusal>, OutOfMe
     }
 }
 
-// The refusal of an edit, where it isn't that there was no memory.
+// The refusal of an edit.
+//
+// Returns `OutOfMemory` exactly where the fault is that there was no memory, now or before.
 fn edit_refusal(fault: EditFault) -> Result<Refusal, OutOfMemory>
     ensures refusal { IfOk result (λ why. why ≡ refusal_of_edit fault) }
     ensures kind { IfOk result (λ why. IsRefusal (edit_fault_kind fault)) }
+    ensures want { OnErr result (¬ IsRefusal (edit_fault_kind fault)) }
 {
     match fault {
         EditFault::OutOfMemory | EditFault::Stopped { .. } => Err(OutOfMemory),
@@ -102,10 +109,13 @@ fn edit_refusal(fault: EditFault) -> Result<Refusal, OutOfMemory>
     }
 }
 
-// The refusal of the message with this number, where it isn't that there was no memory.
+// The refusal of the message with this number.
+//
+// Returns `OutOfMemory` exactly where the fault is that there was no memory, now or before.
 fn process_refusal(number: u64, fault: ProcessFault) -> Result<Refusal, OutOfMemory>
     ensures refusal { IfOk result (λ why. why ≡ refusal_of_process number fault) }
     ensures kind { IfOk result (λ why. IsRefusal (process_fault_kind fault)) }
+    ensures want { OnErr result (¬ IsRefusal (process_fault_kind fault)) }
 {
     match fault {
         ProcessFault::OutOfMemory | ProcessFault::Stopped { .. } => Err(OutOfMemory),
@@ -114,9 +124,12 @@ fn process_refusal(number: u64, fault: ProcessFault) -> Result<Refusal, OutOfMem
     }
 }
 
-// Nothing, where a change of the link was refused, and not for want of memory.
+// Nothing, where a change of the link was refused.
+//
+// Returns `OutOfMemory` exactly where the fault is that there was no memory, now or before.
 fn link_refusal(fault: LinkFault) -> Result<(), OutOfMemory>
-    ensures { IfOk result (λ why. IsRefusal (link_fault_kind fault)) }
+    ensures kind { IfOk result (λ why. IsRefusal (link_fault_kind fault)) }
+    ensures want { OnErr result (¬ IsRefusal (link_fault_kind fault)) }
 {
     match fault {
         LinkFault::OutOfMemory | LinkFault::Stopped { .. } => Err(OutOfMemory),

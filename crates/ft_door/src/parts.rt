@@ -20,7 +20,7 @@ ghost use Rattle.ft_seqr.specs.WellFormedEvent.{IsWellFormedEvent};
 ghost use Rattle.ft_seqr.specs.World.{body_load, op_load};
 ghost use Rattle.ft_replay.specs.LineForm.{bytes_of};
 ghost use Rattle.ft_replay.specs.Observation.{names_with, numbered_entry};
-ghost use Rattle.ft_door.specs.Editors.{EditorState, AnswersStep, IsEditor, NaiveEditor, TellsStep, call_exceeds, call_step, connect_as, connect_line, draft_bytes, drop_step, dropped_unless, edit_event, edit_exceeds, edit_line, edit_line_exceeds, edited, edited_op, editor_of, is_awaited_by, is_join, is_offline, is_sender, joining_as, load_limit, load_line, load_line_exceeds, load_of, load_reading, load_reading_exceeds, message_exceeds, message_refusal, never_exceeds, new_editor, next_exceeds, no_name, oldest_bytes, process_line, process_line_exceeds, shown_lines, shown_link, table_limit, take_message, take_next, told_of, waits_after, with_queue};
+ghost use Rattle.ft_door.specs.Editors.{EditorState, AnswersStep, IsEditor, IsNextFor, IsSomeEditor, NaiveEditor, TakesJoin, TellsStep, call_exceeds, call_step, connect_as, connect_line, draft_bytes, drop_step, dropped_unless, edit_event, edit_exceeds, edit_line, edit_line_exceeds, edited, edited_op, editor_of, is_awaited_by, is_join, is_offline, is_sender, joining_as, load_limit, load_line, load_line_exceeds, load_of, load_reading, load_reading_exceeds, message_exceeds, message_refusal, never_exceeds, new_editor, next_exceeds, no_name, oldest_bytes, process_line, process_line_exceeds, shown_lines, shown_link, table_limit, take_message, take_next, told_of, waits_after, with_queue};
 
 use crate::calls::{Call, Told};
 use crate::giving::{begin_join, give_edit, give_entry, lose_link, order_fault};
@@ -95,6 +95,7 @@ impl<R: Replica + Drop> Parts<R> {
     ///
     /// Returns `OutOfMemory` where there is no room for what the call makes.
     pub fn take(&mut self, call: Call, bytes: &[u8]) -> Result<Told, OutOfMemory>
+        requires { IsSomeEditor self.old }
         ensures { IfOk result (λ told. TellsStep told self.old self.new (call_step call bytes.now) (call_exceeds call bytes.now)) }
     {
         match call {
@@ -199,6 +200,7 @@ impl<R: Replica + Drop> Parts<R> {
 
     // Takes the next message of the log.
     fn process(&mut self, line: &[u8]) -> Result<Told, OutOfMemory>
+        requires { IsSomeEditor self.old }
         ensures { IfOk result (λ told. TellsStep told self.old self.new (process_line line.now) (process_line_exceeds line.now)) }
     {
         match read_message(self.alloc, line) {
@@ -212,6 +214,7 @@ impl<R: Replica + Drop> Parts<R> {
     fn take_whole(&mut self, msg: Message) -> Result<Told, OutOfMemory>
         requires formed { IsWellFormedMessage msg }
         requires in_range { HasNumbersInRange msg }
+        requires some { IsSomeEditor self.old }
         ensures { IfOk result (λ told. TellsStep told self.old self.new (λ x. take_message x msg) (λ x. message_exceeds x msg)) }
     {
         let mut entry = Entry { msg, origin: 0 };
@@ -224,6 +227,7 @@ impl<R: Replica + Drop> Parts<R> {
     fn take_message(&mut self, entry: &mut Entry) -> Result<Told, OutOfMemory>
         requires formed { IsWellFormedMessage entry.old.msg }
         requires in_range { HasNumbersInRange entry.old.msg }
+        requires some { IsSomeEditor self.old }
         ensures { IfOk result (λ told. TellsStep told self.old self.new (λ x. take_message x entry.old.msg) (λ x. message_exceeds x entry.old.msg)) }
     {
         let refusal = self.order_refusal(&entry.msg)?;
@@ -245,7 +249,8 @@ impl<R: Replica + Drop> Parts<R> {
 
     // Takes the next message.
     fn take_next(&mut self, entry: &mut Entry) -> Result<Told, OutOfMemory>
-        requires { IsWellFormedMessage entry.old.msg }
+        requires formed { IsWellFormedMessage entry.old.msg }
+        requires next { IsNextFor self.old entry.old.msg }
         ensures { IfOk result (λ told. TellsStep told self.old self.new (λ x. take_next x entry.old.msg) (λ x. next_exceeds x entry.old.msg.body)) }
     {
         let found = self.load_after(&entry.msg.body)?;
@@ -273,6 +278,7 @@ impl<R: Replica + Drop> Parts<R> {
         requires room { length self.old.names < table_limit }
         requires sum { load ≡ self.old.load + (1 + body_load entry.old.msg.body) }
         requires low { load ≤ load_limit }
+        requires next { IsNextFor self.old entry.old.msg }
         ensures { IfOk result (λ told. TellsStep told self.old self.new (λ x. take_next x entry.old.msg) (λ x. next_exceeds x entry.old.msg.body)) }
     {
         let joins = is_awaited(self.waits, &entry.msg, &self.name);
@@ -285,6 +291,7 @@ impl<R: Replica + Drop> Parts<R> {
     fn take_entry(&mut self, entry: &Entry, joins: bool, load: u64) -> Result<Told, OutOfMemory>
         requires formed { IsWellFormedMessage entry.now.msg }
         requires low { load ≤ load_limit }
+        requires join { joins ≡ true → TakesJoin self.old.replica entry.now }
         ensures { (s : EditorState) (m : Message) → entry.now ≡ numbered_entry s.names m → self.old ≡ record s { names = names_with s.names m.client_id }
             → joins ≡ is_awaited_by s m → load ≡ s.load + (1 + body_load m.body)
             → IfOk result (λ told. TellsStep told s self.new (λ x. take_next x m) (λ x. next_exceeds x m.body)) }
@@ -426,7 +433,8 @@ fn receive<R: Replica>(
     joins: bool,
     entry: &Entry,
 ) -> Result<Option<Refusal>, OutOfMemory>
-    requires { IsWellFormedMessage entry.now.msg }
+    requires formed { IsWellFormedMessage entry.now.msg }
+    requires join { joins ≡ true → TakesJoin (R.state replica.old) entry.now }
     ensures { (x : NaiveClient) → IsReached x → RunsFor (R.state replica.old) x
         → IfOk result (AnswersStep (refusal_of_process entry.now.msg.seq) (R.state replica.old) (R.state replica.new) (process (joining_as joins entry.now.origin x) entry.now)) }
 {
@@ -437,20 +445,16 @@ fn receive<R: Replica>(
     }
 }
 
-// Gives the replica its join, before which it begins to join under the number of its sender.
-//
-// Returns `OutOfMemory` where there was no memory. A join that is the next message isn't refused.
+// Gives the replica its join, before which it begins to join under the number of its sender. Its client takes that, so it
+// isn't refused.
 fn take_join<R: Replica>(replica: &mut R, entry: &Entry) -> Result<Option<Refusal>, OutOfMemory>
-    requires { IsWellFormedMessage entry.now.msg }
+    requires formed { IsWellFormedMessage entry.now.msg }
+    requires join { TakesJoin (R.state replica.old) entry.now }
     ensures { (x : NaiveClient) → IsReached x → RunsFor (R.state replica.old) x
         → IfOk result (AnswersStep (refusal_of_process entry.now.msg.seq) (R.state replica.old) (R.state replica.new) (process (joining_as true entry.now.origin x) entry.now)) }
 {
     begin_join(replica, entry.origin)?;
-    let refusal = give_entry(replica, entry)?;
-    match refusal {
-        None => Ok(None),
-        Some(_) => Err(OutOfMemory),
-    }
+    give_entry(replica, entry)
 }
 
 // The replica loses its connection, unless it only waits for one. Returns why that is refused, if it is.

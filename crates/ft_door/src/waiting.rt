@@ -1,19 +1,20 @@
 //! What was written and waits to be read.
 
-ghost use Rattle.std.specs.Prelude.{◌≡◌, ◌<◌, ◌≤◌, ℕ, List, [], ◌++◌, IfOk, OnErr, OnOk, drop, length, string_bytes, take};
+ghost use Rattle.std.specs.Prelude.{◌≡◌, ◌+◌, ◌<◌, ◌≤◌, ℕ, List, [], ◌++◌, IfOk, OnErr, OnOk, drop, length, string_bytes, take};
 
 use ft_base::OutOfMemory;
 use ft_io::{Failed, Sink};
 use std::alloc::Global;
 
-/// What was written and waits to be read. A write fails only where there is no memory for more.
+/// What was written and waits to be read. A write fails only where there is no memory for more, and no more of what was read is kept
+/// than what waits.
 #[derive(Drop)]
 pub struct Waiting {
     bytes: Vec<u8>,
     // How many of them were read.
     taken: usize,
     faults: u64,
-    ghost within: { taken ≤ length bytes.items },
+    ghost freed: { taken + taken ≤ length bytes.items },
 }
 
 impl Waiting {
@@ -60,19 +61,23 @@ impl Waiting {
         self.bytes.len() - self.taken
     }
 
-    /// Reads the next bytes into the first of the room, as many as it has room for, and returns how many.
+    /// Reads the next bytes into the first of the room, as many as it has room for, and returns how many. What was read is let go of where
+    /// it is more than what waits.
     pub fn read(&mut self, room: &mut [u8]) -> usize
         ensures within { result ≤ length room.new }
         ensures whole { result < length room.new → drop self.new.taken self.new.bytes.items ≡ [] }
         ensures bytes { take result room.new ++ drop self.new.taken self.new.bytes.items ≡ drop self.old.taken self.old.bytes.items }
+        ensures freed { self.new.taken ≤ length (drop self.new.taken self.new.bytes.items) }
     {
         let next = &self.bytes[self.taken..];
         let count = next.len().min(room.len());
         room[..count].copy_from_slice(&next[..count]);
-        self.taken += count;
-        if self.taken == self.bytes.len() {
-            self.bytes.clear();
+        let taken = self.taken + count;
+        if taken > self.bytes.len() - taken {
+            self.bytes.drain(..taken);
             self.taken = 0;
+        } else {
+            self.taken = taken;
         }
         count
     }

@@ -9,4 +9,4 @@ pub returns-else-waits : goal.returns-else-waits
 returns-else-waits g c = λ x reached h.
     let state = g.R.Replica.state in
     subst (λ b. IfOk c.lose_link.result (AnswersStep (λ (fault : LinkFault). NotConnected) (state c.args.replica.now) (state c.lose_link.new.replica) (dropped_unless b x)))
-    (sym c.if-waits.false) (c.lose_link.ensures x reached h)
+    (sym c.if-waits.false) (c.lose_link.ensures.answers x reached h)

@@ -19,4 +19,4 @@ returns-else-joins g c = λ x reached h.
     let entry = c.args.entry.now in
     subst (λ b. IfOk c.give_entry.result (AnswersStep (refusal_of_process entry.msg.seq) (state c.args.replica.now) (state c.give_entry.new.replica)
     (process (joining_as b entry.origin x) entry)))
-    (sym c.if-joins.false) (c.give_entry.ensures x reached h)
+    (sym c.if-joins.false) (c.give_entry.ensures.answers x reached h)

@@ -1,4 +1,4 @@
-use Rattle.std.proofs.Common.{◌≡◌, Some, refl, subst}
+use Rattle.std.proofs.Common.{◌≡◌, ◌∙◌, Some, refl, subst}
 use Rattle.ft_door.specs.Clients.{CallsClient}
 use Rattle.ft_door.specs.Editors.{call_exceeds, call_step}
 use Rattle.ft_door.proofs.Calling.{call-ended}
@@ -15,4 +15,4 @@ returns-in-Ok g c =
 pub returns-in-Err : goal.returns-in-Err
 returns-in-Err g c =
     call-ended c.args.self.now (record c.args.self.now { client = c.take.new.self }) (call_step c.args.call c.args.bytes.now) (call_exceeds c.args.call c.args.bytes.now)
-    c.take.ensures.after refl
+    (λ none. let same : Some c.in-Some.client ≡ c.args.self.now.client = (cc) in (let e = same ∙ none in cc)) c.take.ensures.after refl

@@ -1,6 +1,5 @@
-use Rattle.std.proofs.Common.{Some}
 use Rattle.ft_door.specs.Clients.{refusal_bytes}
-use Rattle.ft_door.proofs.Calling.{call-ended, call-refused}
+use Rattle.ft_door.proofs.Calling.{call-refused, call-untold}
 use Rattle.ft_door.proofs.clients.HeldClient.refuse.Goals as goal
 
 pub returns-in-Ok : goal.returns-in-Ok
@@ -10,5 +9,4 @@ returns-in-Ok g c = λ s t step exceeds is tells.
 
 pub returns : goal.returns
 returns g c = λ s t step exceeds is tells.
-    call-ended (record c.args.self.now { client = Some s }) (record c.args.self.now { client = c.take.new.self; waiting = c.push_made.new.self }) step exceeds
-    c.take.ensures.after c.in-Err.ensures.err
+    call-untold c.args.self.now s t (record c.args.self.now { waiting = c.push_made.new.self }) step exceeds c.args.why is c.in-Err.ensures.err tells

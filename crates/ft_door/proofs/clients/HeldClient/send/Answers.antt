@@ -15,8 +15,8 @@ returns-in-Some g c = λ oldest.
 
 pub returns-in-None : goal.returns-in-None
 returns-in-None g c = λ oldest.
-    nothing-sent c.args.self.now (λ x h. sym (ap line_bytes c.in-None.is)
+    nothing-sent c.args.self.now c.requires (λ x h. sym (ap line_bytes c.in-None.is)
     ∙ IfOk-at_ok (λ line. line_bytes line ≡ oldest_bytes x.client.queue) c.in-Ok.is (oldest x h))
 
 pub returns-in_default : goal.returns-in_default
-returns-in_default g c = λ oldest. draft-kept c.args.self.now c.args.self.now refl refl
+returns-in_default g c = λ oldest. draft-kept c.args.self.now c.args.self.now c.requires refl refl

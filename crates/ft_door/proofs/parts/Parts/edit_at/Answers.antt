@@ -15,4 +15,4 @@ returns g c =
     let sum : c.args.load ≡ old.load + (1 + op_load op) = subst (λ (s : EditorState). c.args.load ≡ s.load + (1 + op_load op)) (sym c.self.view_is) c.requires.sum in
     told-as c.told_of.result (told_of refusal) c.args.self.now old (state_of r i.names i.name i.waits c.load_of-self-inside.result)
     (state_of r i.names i.name i.waits (load_of refusal i.load c.args.load)) (λ x. edited x op) exceeds c.told_of.ensures c.self.view_is
-    (ap (state_of r i.names i.name i.waits) c.load_of-self-inside.ensures) (edit-told old r op c.args.load c.requires.formed sum c.requires.low exceeds refusal c.in_ok-refusal.ensures)
+    (ap (state_of r i.names i.name i.waits) c.load_of-self-inside.ensures) (edit-told old r op c.args.load c.requires.formed sum c.requires.low exceeds refusal c.in_ok-refusal.ensures.answers)

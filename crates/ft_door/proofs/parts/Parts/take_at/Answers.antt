@@ -3,8 +3,8 @@ use Rattle.std.proofs.lemmas.Result.{IfOk-weaker}
 use Rattle.ft_msg.specs.declared.messages.Entry.{Entry}
 use Rattle.ft_msg.specs.declared.messages.Message.{Message}
 use Rattle.ft_seqr.specs.World.{body_load}
-use Rattle.ft_door.specs.Editors.{EditorState, TellsStep, next_exceeds, table_limit, take_next}
-use Rattle.ft_door.proofs.Editing.{state_of}
+use Rattle.ft_door.specs.Editors.{EditorState, IsNextFor, TellsStep, next_exceeds, table_limit, take_next}
+use Rattle.ft_door.proofs.Editing.{awaited-taken, state_of}
 use Rattle.ft_door.proofs.parts.Parts.take_at.Goals as goal
 
 abbrev entry_of : Message → ℕ → Entry
@@ -12,6 +12,13 @@ entry_of m origin = record { msg = m; origin = origin }
 
 pub sender_number-requires : goal.sender_number-requires
 sender_number-requires g c = subst (λ (s : EditorState). length s.names < table_limit) (sym c.self.view_is) c.requires.room
+
+pub take_entry-requires-clause-join : goal.take_entry-requires-clause-join
+take_entry-requires-clause-join g c = λ joins.
+    let i = c.self.inside in
+    let m = c.args.entry.now.msg in
+    awaited-taken (state_of (g.R.Replica.state i.replica) i.names i.name i.waits i.load) m c.in_ok-origin.origin c.is_awaited-joins.result
+    (subst (λ (s : EditorState). IsNextFor s m) (sym c.self.view_is) c.requires.next) c.is_awaited-joins.ensures joins
 
 pub returns : goal.returns
 returns g c =

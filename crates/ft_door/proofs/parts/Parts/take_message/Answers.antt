@@ -1,7 +1,7 @@
 use Rattle.std.proofs.Common.{◌∙◌, sym}
 use Rattle.std.proofs.lemmas.Result.{IfOk-weaker}
 use Rattle.ft_door.specs.Editors.{message_exceeds, next_exceeds, take_message, take_next}
-use Rattle.ft_door.proofs.Editing.{message-exceeds, message-next, message-refused, refused-told, step-same}
+use Rattle.ft_door.proofs.Editing.{message-exceeds, message-is_next, message-next, message-refused, refused-told, step-same}
 use Rattle.ft_door.proofs.parts.Parts.take_message.Goals as goal
 
 pub returns-in-None : goal.returns-in-None
@@ -15,3 +15,8 @@ pub returns-in-Some : goal.returns-in-Some
 returns-in-Some g c =
     let m = c.args.entry.now.msg in
     refused-told c.in-Some.why c.args.self.now (λ x. take_message x m) (λ x h. message-refused x m c.in-Some.why (sym c.in-Some.is ∙ c.in_ok-refusal.ensures x h))
+
+pub take_next-requires-clause-next : goal.take_next-requires-clause-next
+take_next-requires-clause-next g c =
+    let (x, h) = c.requires.some in
+    (x, h, message-is_next x c.args.entry.now.msg (sym c.in-None.is ∙ c.in_ok-refusal.ensures x h))

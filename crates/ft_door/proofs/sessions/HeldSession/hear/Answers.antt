@@ -9,7 +9,7 @@ returns-then-is_full g c =
     let old = c.args.self.now in
     let same : Some c.in-Some.session ≡ old.session = (cc) in
     let above = c.is_full.ensures.0 c.if-is_full.true in
-    line-full old (record old { session = c.replace.new.self }) c.args.line.now (ap (λ session. record old { session = session }) (c.replace.ensures.after ∙ same))
+    line-full old (record old { session = c.replace.new.self }) c.args.line.now (λ none. let e = same ∙ none in cc) (ap (λ session. record old { session = session }) (c.replace.ensures.after ∙ same))
     (λ (heard : List (List ℕ)) (read : List ℕ) (has : Stands old heard read).
     let follows = subst (λ session. SessionGoesOn session heard) (sym same) has.session in
     subst (λ n. input_limit < n) (follows.lines ∙ c.session_pieces.ensures.counted heard) above)
