@@ -12,6 +12,7 @@ use Rattle.ft_matrix.specs.declared.grid.Grid.{Grid}
 use Rattle.ft_matrix.specs.declared.stages.GridStage.{GridStage}
 use Rattle.ft_matrix.specs.GridStates.{shown_stage}
 use Rattle.ft_matrix.specs.Acked.{AcksStage, CountsUnits, acked_stage, after_stage, cols_put_by, rows_put_by}
+use Rattle.ft_matrix.proofs.PendingStages.{acked-pending}
 use Rattle.ft_matrix.specs.Splices.{AcksUnits}
 use Rattle.ft_matrix.specs.Sound.{IsSound, IsSoundVector, StagesRise, is_handle, write_of, writes_to}
 
@@ -118,6 +119,10 @@ module _ (k s c : ℕ) (old new : Grid) (sound : IsSound old) (lowest : All (λ 
         ∙ writes-after r g k old.stages.items (recursion_from_All (λ (t : GridStage). k ≤ t.stage) old.stages.items lowest) sound.rise
         ∙ ap (writes_to r g) (sym acks.stages);
     rise = subst (StagesRise 0) (sym acks.stages) (rise-after k old.stages.items sound.rise);
+    pending_rows = acked-pending k s c old.stages.items new.stages.items old.rows new.rows acks.stages
+        (recursion_from_All (λ (t : GridStage). k ≤ t.stage) old.stages.items lowest) acks.rows sound.pending_rows;
+    pending_cols = acked-pending k s c old.stages.items new.stages.items old.cols new.cols acks.stages
+        (recursion_from_All (λ (t : GridStage). k ≤ t.stage) old.stages.items lowest) acks.cols sound.pending_cols;
   }
 
 -- ---- what the parts of the call make of it

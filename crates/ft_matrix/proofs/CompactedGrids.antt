@@ -41,8 +41,9 @@ use Rattle.ft_matrix.specs.Compacted.{CompactsGrid, FreesUnits, ScoursUnits, is_
 use Rattle.ft_matrix.specs.Conditions.{AreFreeUnits, HasNoTombstone, HoldsKept}
 use Rattle.ft_matrix.specs.GridStates.{grid_state, shown_stage}
 use Rattle.ft_matrix.specs.HoldsGrid.{HoldsGrid}
-use Rattle.ft_matrix.specs.Sound.{IsSound, IsSoundVector, StagesRise, is_handle, write_of, writes_to}
+use Rattle.ft_matrix.specs.Sound.{ArePending, IsSound, IsSoundVector, StagesRise, is_handle, write_of, writes_to}
 use Rattle.ft_matrix.specs.Units.{acked_value, has_handle, place_of_handle, shown_unit, units_of}
+use Rattle.ft_matrix.proofs.PendingStages.{left-pending}
 use Rattle.ft_matrix.proofs.Effects.{units}
 use Rattle.ft_matrix.proofs.Freed.{none-left, none-right}
 use Rattle.ft_matrix.proofs.HeldGrids.{HoldsUnits, Moves, RowHolds, handle_value, restate, rows-beside, stages-move, step-moves, units-held}
@@ -355,7 +356,12 @@ module _ (floor : ℕ) (rr rc : List HandleRun) (old mid half new : Grid) (sound
         ∙ pending-by (is_in_runs rr r) (is_in_runs rc c) (cell_at old.cells r c) (writes_to r c old.stages.items) (sound.writes r c) (row-writes r c) (col-writes r c)
         ∙ ap (writes_to r c) (sym items-same);
     rise = subst (StagesRise 0) (sym items-same) sound.rise;
+    pending_rows = again new.rows mid.rows rows-tree (left-pending old.stages.items floor rr old.rows mid.rows sr sound.pending_rows);
+    pending_cols = again new.cols mid.cols cols-tree (left-pending old.stages.items floor rc old.cols mid.cols sc sound.pending_cols);
   }
+    where
+      again : (v w : VectorState) → v.tree ≡ w.tree → ArePending old.stages.items (units_of w) → ArePending new.stages.items (units_of v)
+      again v w e p = subst (λ ts. ArePending ts (units_of v)) (sym items-same) (subst (ArePending old.stages.items) (sym (ap (λ x. vector_elements x) e)) p)
 
   pub compacted-floor : new.rows.tree.floor ≡ floor
   compacted-floor = ap (λ (t : TreeState HandleRun). t.floor) rows-tree ∙ sr.floor

@@ -13,6 +13,7 @@ use Rattle.ft_matrix.specs.declared.grid.Grid.{Grid}
 use Rattle.ft_matrix.specs.Empty.{IsEmptyGrid}
 use Rattle.ft_matrix.specs.GridStates.{shown_stage}
 use Rattle.ft_matrix.specs.Sound.{IsSound, IsSoundVector, IsStaged, StagesRise, no_properties, writes_to}
+use Rattle.ft_matrix.proofs.PendingStages.{no-units}
 use Rattle.ft_matrix.specs.Units.{placed_cells, shown_unit, unit_value, units_of}
 
 abbrev pub empty_tree : TreeState HandleRun
@@ -44,6 +45,8 @@ empty-grid g a b c d e f = record {
   held = record { rows = λ r k n. e r k; cols = λ r k n. e r k };
   writes = λ r k. ap (λ (cell : CellState). cell.pending) (e r k) ∙ ap (writes_to r k) (sym f);
   rise = subst (StagesRise 0) (sym f) tt;
+  pending_rows = no-units g.stages.items (units_of g.rows) (ap (λ x. vector_elements x) a);
+  pending_cols = no-units g.stages.items (units_of g.cols) (ap (λ x. vector_elements x) c);
 }
 
 pub is-empty : (g : Grid) → g.rows.tree ≡ empty_tree → g.rows.next ≡ 0 → g.cols.tree ≡ empty_tree → g.cols.next ≡ 0

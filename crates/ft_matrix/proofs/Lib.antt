@@ -39,3 +39,6 @@ mod LoadedGrids
 mod Depths
 pub mod ClientGrids
 mod AckedWithin
+mod PendingRuns
+mod PendingStages
+mod PendingAfresh

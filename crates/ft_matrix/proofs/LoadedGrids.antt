@@ -30,6 +30,7 @@ use Rattle.ft_matrix.specs.HoldsGrid.{HoldsGrid}
 use Rattle.ft_matrix.specs.Loaded.{LoadsUnits, loaded_cells}
 use Rattle.ft_matrix.specs.Sound.{IsSound, IsSoundVector, StagesRise, writes_to}
 use Rattle.ft_matrix.specs.Units.{acked_value, units_of}
+use Rattle.ft_matrix.proofs.PendingStages.{acked-units, bare-units}
 use Rattle.ft_matrix.proofs.HeldGrids.{HoldsUnits, other-handle, units-held}
 use Rattle.ft_matrix.proofs.LoadedCells.{ValuesMeet, cells-meet, loaded-col, loaded-pending, loaded-row}
 use Rattle.ft_matrix.proofs.UnitLists.{BesideUnits, IsUnit, all-acked, unit-seen, units-beside}
@@ -156,4 +157,6 @@ module _ (sum : SumDoc) (valid : IsValidSummary sum) (rows0 cols0 : VectorState)
         (λ a b. ap (λ (cell : CellState). cell.pending) (empty a b)) i j
         ∙ sym (ap (writes_to i j) stages);
     rise = subst (StagesRise 0) (sym stages) tt;
+    pending_rows = acked-units g.stages.items (units_of g.rows) (bare-units doc.rows.items (units_of g.rows) (sym r.units) (λ k. named.own.rows k refl));
+    pending_cols = acked-units g.stages.items (units_of g.cols) (bare-units doc.cols.items (units_of g.cols) (sym c.units) (λ k. named.own.cols k refl));
   }

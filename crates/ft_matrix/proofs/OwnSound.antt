@@ -24,10 +24,10 @@ use Rattle.ft_matrix.specs.Units.{shown_unit, units_of}
 use Rattle.ft_matrix.specs.GridStates.{grid_state, shown_stage}
 use Rattle.ft_matrix.specs.Conditions.{IsAboveAll}
 use Rattle.ft_matrix.specs.Sides.{units_at, with_units_at}
-use Rattle.ft_matrix.specs.Sound.{IsSound, IsSoundVector, StagesRise, write_of, writes_to}
+use Rattle.ft_matrix.specs.Sound.{ArePending, IsSound, IsSoundVector, StagesRise, write_of, writes_to}
 use Rattle.ft_matrix.specs.Splices.{Inserts, Removes}
 use Rattle.ft_matrix.proofs.OwnSteps.{AreBelow, below-of}
-use Rattle.ft_matrix.proofs.SideLaws.{side-sound, side-stages}
+use Rattle.ft_matrix.proofs.PendingStages.{more-stages}
 use Rattle.ft_matrix.proofs.SoundVectors.{all-put, all-range, all-weaker}
 
 -- ---- stages above
@@ -55,6 +55,9 @@ splice-writes row col us vs u e n = ap (writes_to row col) e ∙ flat-behind row
 module _ (old like : Grid) (k : ℕ) (op : CellOp) (sound : IsSound old) (above : IsAboveAll k (grid_state old 0 true))
     (queue : like.stages.items ≡ old.stages.items ++ (record { stage = k; op = op; row = None; col = None } ∷ []))
     (none : (row col : ℕ) → write_of row col (record { stage = k; op = op; row = None; col = None }) ≡ []) (some : 0 < k) where
+  abbrev here : GridStage
+  here = record { stage = k; op = op; row = None; col = None }
+
   before : AllByRecursion (λ (t : GridStage). t.stage < k) old.stages.items
   before = stages-above old.rows old.cols k old.stages.items
       (recursion_from_All (λ (t : IndexedStage). t.stage < k) (map (shown_stage old.rows old.cols) old.stages.items) above.stages)
@@ -62,20 +65,29 @@ module _ (old like : Grid) (k : ℕ) (op : CellOp) (sound : IsSound old) (above 
   rises : StagesRise 0 like.stages.items
   rises = subst (StagesRise 0) (sym queue) (rise-behind 0 k old.stages.items (record { stage = k; op = op; row = None; col = None }) some refl before sound.rise)
 
-  pushed-sound : (g : Grid) → g.stages.items ≡ old.stages.items → IsSound g → IsSound (record g { stages = like.stages })
-  pushed-sound g e s = record {
-    rows = s.rows;
-    cols = s.cols;
-    floors = s.floors;
-    held = s.held;
-    writes = λ r c. s.writes r c ∙ ap (writes_to r c) e
-        ∙ sym (splice-writes r c old.stages.items like.stages.items (record { stage = k; op = op; row = None; col = None }) queue (none r c));
-    rise = rises;
-  }
-
   pub stage-sound : (target : Target) (v : VectorState) → IsSoundVector v → ((h : ℕ) → in_use v h ≡ false → in_use (units_at target old) h ≡ false)
-      → v.tree.floor ≡ (units_at target old).tree.floor → IsSound (record (with_units_at target old v) { stages = like.stages })
-  stage-sound target v s u f = pushed-sound (with_units_at target old v) (side-stages target old v) (side-sound target old v sound s u f)
+      → v.tree.floor ≡ (units_at target old).tree.floor → ArePending like.stages.items (units_of v)
+      → IsSound (record (with_units_at target old v) { stages = like.stages })
+  stage-sound Rows v s u f p = record {
+    rows = s;
+    cols = sound.cols;
+    floors = sound.floors ∙ sym f;
+    held = record { rows = λ r c n. sound.held.rows r c (u r n); cols = λ r c n. sound.held.cols r c n };
+    writes = λ r c. sound.writes r c ∙ sym (splice-writes r c old.stages.items like.stages.items here queue (none r c));
+    rise = rises;
+    pending_rows = p;
+    pending_cols = more-stages old.stages.items (here ∷ []) like.stages.items (units_of old.cols) queue sound.pending_cols;
+  }
+  stage-sound Cols v s u f p = record {
+    rows = sound.rows;
+    cols = s;
+    floors = f ∙ sound.floors;
+    held = record { rows = λ r c n. sound.held.rows r c n; cols = λ r c n. sound.held.cols r c (u c n) };
+    writes = λ r c. sound.writes r c ∙ sym (splice-writes r c old.stages.items like.stages.items here queue (none r c));
+    rise = rises;
+    pending_rows = more-stages old.stages.items (here ∷ []) like.stages.items (units_of old.rows) queue sound.pending_rows;
+    pending_cols = p;
+  }
 
 -- ---- all is below the next stage
 
@@ -119,6 +131,10 @@ shown-below k (e ∷ es) a = (a.0, shown-below k es a.1)
 
 pub units-below : (k : ℕ) (v : VectorState) → All (λ x. is_unit_below k x ≡ true) (map shown_unit (units_of v)) → AreBelow k (units_of v)
 units-below k v a = below-of k (units_of v) (recursion_from_All (λ x. is_unit_below k x ≡ true) (map shown_unit (units_of v)) a)
+
+pub below-at : (target : Target) (k : ℕ) (g : Grid) → IsAboveAll k (grid_state g 0 true) → AreBelow k (units_of (units_at target g))
+below-at Rows k g a = units-below k g.rows a.rows
+below-at Cols k g a = units-below k g.cols a.cols
 
 pub below-units : (k : ℕ) (v : VectorState) → AreBelow k (units_of v) → All (λ x. is_unit_below k x ≡ true) (map shown_unit (units_of v))
 below-units k v a = All-from_recursion (λ x. is_unit_below k x ≡ true) (map shown_unit (units_of v)) (shown-below k (units_of v) a)

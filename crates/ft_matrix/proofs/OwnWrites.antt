@@ -29,6 +29,7 @@ use Rattle.ft_matrix.specs.Conditions.{IsAboveAll}
 use Rattle.ft_matrix.specs.Sound.{IsSound, StagesRise, is_handle, write_of, writes_to}
 use Rattle.ft_matrix.specs.Applied.{Holds}
 use Rattle.ft_matrix.specs.OwnEdits.{EditsOne, TakesStage, stage_of}
+use Rattle.ft_matrix.proofs.PendingStages.{more-stages}
 use Rattle.ft_matrix.proofs.Effects.{units}
 use Rattle.ft_matrix.proofs.HeldGrids.{HoldsUnits, handle_value, meets-rank, other-handle, rows-beside, units-held}
 use Rattle.ft_matrix.proofs.OwnEdits.{cols-below, cols-count, own_set, pushed, refuses, rows-below, rows-count, takes}
@@ -200,6 +201,8 @@ own-write-sound old like k i j h g value table s above some a b w queue = record
       ∙ sym (ap (writes_to r c) queue ∙ flat-behind r c old.stages.items (record { stage = k; op = Set i j value; row = Some h; col = Some g }));
   rise = subst (StagesRise 0) (sym queue) (rise-behind 0 k old.stages.items (record { stage = k; op = Set i j value; row = Some h; col = Some g }) some refl
       (stages-above old.rows old.cols k old.stages.items (recursion_from_All (λ t. t.stage < k) (map (shown_stage old.rows old.cols) old.stages.items) above.stages)) s.rise);
+  pending_rows = more-stages old.stages.items (record { stage = k; op = Set i j value; row = Some h; col = Some g } ∷ []) like.stages.items (units_of old.rows) queue s.pending_rows;
+  pending_cols = more-stages old.stages.items (record { stage = k; op = Set i j value; row = Some h; col = Some g } ∷ []) like.stages.items (units_of old.cols) queue s.pending_cols;
 }
 
 -- the pending writes of a cell are of stages below one that is above all

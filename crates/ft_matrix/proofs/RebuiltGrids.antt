@@ -24,11 +24,12 @@ use Rattle.ft_matrix.specs.Conditions.{AreItsStages, NumbersRise}
 use Rattle.ft_matrix.specs.GridStates.{grid_state, shown_stage}
 use Rattle.ft_matrix.specs.HoldsGrid.{HoldsGrid}
 use Rattle.ft_matrix.specs.Rebuilt.{RebuildsGrid, RebuildsUnits}
-use Rattle.ft_matrix.specs.Sound.{IsSound, IsSoundVector, IsStaged, StagesRise, writes_to}
+use Rattle.ft_matrix.specs.Sound.{ArePending, IsSound, IsSoundVector, IsStaged, StagesRise, writes_to}
 use Rattle.ft_matrix.specs.Units.{units_of}
+use Rattle.ft_matrix.proofs.PendingAfresh.{rebuilt-pending}
 use Rattle.ft_matrix.proofs.Effects.{units}
 use Rattle.ft_matrix.proofs.HeldGrids.{HoldsUnits, Moves, RowHolds, handle_value, rows-beside, stages-move, step-moves, units-held}
-use Rattle.ft_matrix.proofs.RebuiltUnits.{none-first, rebuilt-units}
+use Rattle.ft_matrix.proofs.RebuiltUnits.{stages-up-to, none-first, rebuilt-units}
 use Rattle.ft_matrix.proofs.UnitLists.{BesideUnits, HandleNamed, IsUnit, beside-units, unit-inserted}
 
 -- ---- numbers of stages
@@ -83,7 +84,14 @@ module _ (old new : Grid) (sound : IsSound old) (same : new ≡ record old { row
     };
     writes = λ r c. ap (λ (x : Grid). (cell_at x.cells r c).pending) same ∙ sound.writes r c ∙ ap (λ (x : Grid). writes_to r c x.stages.items) (sym same);
     rise = subst (λ (x : Grid). StagesRise 0 x.stages.items) (sym same) sound.rise;
+    pending_rows = again old.rows new.rows sound.rows rr sound.pending_rows;
+    pending_cols = again old.cols new.cols sound.cols rc sound.pending_cols;
   }
+    where
+      again : (v w : VectorState) → IsSoundVector v → RebuildsUnits v w → ArePending old.stages.items (units_of v) → ArePending new.stages.items (units_of w)
+      again v w s r p =
+          let up = stages-up-to v s in
+          subst (λ (x : Grid). ArePending x.stages.items (units_of w)) (sym same) (rebuilt-pending old.stages.items up.0 (units_of v) (units_of w) (r.units up.0 up.1) p)
 
   module _ (last : ℕ) (doc : Document) (stages : List Stage) (numbers : List ℕ) (h : Holds last old doc stages) (its : AreItsStages last numbers doc) where
     abbrev later : Document

@@ -1,5 +1,5 @@
 -- A vector whose pending units are put in afresh: what stays of it, and that it goes on beside the document's list.
-use Rattle.std.proofs.Common.{◌≡◌, ℕ, zero, suc, ◌+◌, ◌≤◌, ◌<◌, All, Bool, true, false, cond, not, ◌&&◌, ◌||◌, nat_eq, nat_le, List, [], ◌∷◌, None, OnOk, Result, Ok, Err, refl, sym, ◌∙◌, ap, subst, map, filter, arith}
+use Rattle.std.proofs.Common.{◌≡◌, ℕ, zero, suc, ◌+◌, ◌≤◌, ◌<◌, All, Bool, true, false, cond, not, ◌&&◌, ◌||◌, nat_eq, nat_le, List, [], ◌∷◌, None, OnOk, Result, Ok, Err, refl, sym, ◌∙◌, ap, subst, filter, arith}
 use Rattle.std.specs.List.{AllByRecursion, list_all, list_any}
 use Rattle.std.proofs.lemmas.Bool.Decides.{nat_tests}
 use Rattle.std.proofs.lemmas.List.Elements.{All-from_recursion, recursion_from_All}
@@ -8,7 +8,7 @@ use Rattle.ft_base.specs.declared.stamps.Stamp.TheVariants.{Acked, Local}
 use Rattle.ft_base.specs.declared.elements.Element.{Element as ElementStamps}
 use Rattle.ft_base.specs.Scan.{len, no_run, one_more_if, put, retain_map}
 use Rattle.ft_base.specs.Visibility.{is_acked, is_of_stage, seen_at}
-use Rattle.ft_props.specs.Element.{ElementId, ListElement, NamelessElement, id, is_sequenced, seen, stamps_of}
+use Rattle.ft_props.specs.Element.{ElementId, ListElement, id, is_sequenced, seen, stamps_of}
 use Rattle.ft_props.specs.Steps.{Sequence, is_inserted_by, rebuilt_list}
 use Rattle.ft_props.specs.Steps.{carried_element as document_carried}
 use Rattle.ft_tree_leaves.specs.Elements.{TreeElement}
@@ -17,16 +17,16 @@ use Rattle.ft_tree_leaves.specs.References.{ChangesReferences}
 use Rattle.ft_tree.specs.State.{KeepsRest}
 use Rattle.ft_perm.specs.Vectors.{VectorState, in_use}
 use Rattle.ft_laws_agreement.proofs.AgreedStage.{len-put-add}
-use Rattle.ft_laws_names.proofs.Beside.{Beside, beside-choice, beside-filter, beside-put, beside-rank, ends, next}
+use Rattle.ft_laws_names.proofs.Beside.{beside-choice, beside-filter, beside-put, beside-rank, ends, next}
 use Rattle.ft_rebase.specs.Normalised.{carried_element, without_pending}
 use Rattle.ft_rebase.specs.Normalised.{rebuilt_list as tree_rebuilt}
-use Rattle.ft_rebase.specs.StageLists.{StagesUpTo, StandSideBySide, inserted_by, next_position, seen_by, seen_or_next, sequenced, with_stages}
+use Rattle.ft_rebase.specs.StageLists.{StagesUpTo, inserted_by, next_position, seen_by, sequenced, with_stages}
 use Rattle.ft_rebase.proofs.NamedLists.{AreStagesOf, listed-stages}
 use Rattle.ft_named.specs.Nodes.{KeepsNodes}
-use Rattle.ft_named.proofs.RebuiltSteps.{beside-run, carried-alike, stamps_in}
+use Rattle.ft_named.proofs.RebuiltSteps.{carried-alike, stamps_in}
 use Rattle.ft_matrix.specs.Rebuilt.{RebuildsUnits}
 use Rattle.ft_matrix.specs.Sound.{IsSoundVector, IsStaged, no_properties}
-use Rattle.ft_matrix.specs.Units.{has_handle, shown_unit, units_of}
+use Rattle.ft_matrix.specs.Units.{has_handle, units_of}
 use Rattle.ft_matrix.proofs.CompactedGrids.{grid_content}
 use Rattle.ft_matrix.proofs.SoundVectors.{all-put, all-weaker, no-references}
 use Rattle.ft_matrix.proofs.UnitLists.{BesideUnits, HandleNamed, all-acked, unit-stamps}
@@ -310,18 +310,3 @@ module _ (P : ElementId → ℕ → Type 0) where
       → BesideUnits (HandleNamed P) (rebuilt_list ms list).items (tree_rebuilt last us)
   rebuilt-units last ms list of {us} b = subst (λ ys. BesideUnits (HandleNamed P) ys (tree_rebuilt last us))
       (sym (listed-stages list.items (retain_map is_sequenced document_carried list.items) 0 last ms (omega arith) of)) (stages-units b (retained-units b) last)
-
--- ---- side by side
-
-shown-beside : (us : List (TreeElement ℕ)) → Beside (TreeElement ℕ) NamelessElement (λ e n. n ≡ shown_unit e) us (map shown_unit us)
-shown-beside [] = ends
-shown-beside (e ∷ us) = next refl (shown-beside us)
-
--- the stamps of what is shown
-abbrev shown_stamps : NamelessElement → ElementStamps
-shown_stamps n = n.stamps
-
-pub side-shown : (us : List (TreeElement ℕ)) → StandSideBySide shown_stamps (map shown_unit us) → StandSideBySide stamps_in us
-side-shown us h k =
-    beside-run (inserted_by stamps_in (suc k)) (inserted_by shown_stamps (suc k)) (λ e n q. ap (λ (m : NamelessElement). is_of_stage (suc k) m.stamps.ins) (sym q))
-    (beside-filter (seen_or_next stamps_in k) (seen_or_next shown_stamps k) (λ e n q. ap (seen_or_next shown_stamps k) (sym q)) (shown-beside us)) ∙ h k

@@ -30,8 +30,9 @@ use Rattle.ft_matrix.specs.Conditions.{AreNext, AreWithin}
 use Rattle.ft_matrix.specs.GridStates.{grid_state, shown_stage}
 use Rattle.ft_matrix.specs.HoldsGrid.{HoldsGrid}
 use Rattle.ft_matrix.specs.Resubmitted.{AreDue, Resubmits, due_pieces, is_due, kept_stage, stage_pieces, stages_after}
-use Rattle.ft_matrix.specs.Sound.{IsSound, IsSoundVector, StagesRise, write_of, writes_to}
+use Rattle.ft_matrix.specs.Sound.{ArePending, IsSound, IsSoundVector, StagesRise, write_of, writes_to}
 use Rattle.ft_matrix.specs.Units.{acked_value, placed_cells, shown_units, unit_value, units_of}
+use Rattle.ft_matrix.proofs.PendingStages.{fewer-stages}
 use Rattle.ft_matrix.proofs.Effects.{units}
 use Rattle.ft_matrix.proofs.HeldGrids.{HoldsUnits, units-held}
 
@@ -313,6 +314,10 @@ module _ (first count : ℕ) (old new : Grid) (ops : List CellOp) (sound : IsSou
     };
     writes = λ row col. ap (λ (x : CellState). x.pending) (r.cells row col);
     rise = subst (StagesRise 0) (sym r.stages) (rise-after first count (units_of old.rows) (units_of old.cols) 0 old.stages.items sound.rise);
+    pending_rows = subst (λ (x : Grid). ArePending new.stages.items (units_of x.rows)) (sym r.rest)
+        (fewer-stages first count (units_of old.rows) (units_of old.cols) old.stages.items new.stages.items (units_of old.rows) r.stages sound.pending_rows);
+    pending_cols = subst (λ (x : Grid). ArePending new.stages.items (units_of x.cols)) (sym r.rest)
+        (fewer-stages first count (units_of old.rows) (units_of old.cols) old.stages.items new.stages.items (units_of old.cols) r.stages sound.pending_cols);
   }
 
   module _ (last : ℕ) (doc : Document) (stages : List Stage) (h : Holds last old doc stages)

@@ -15,7 +15,8 @@ use Rattle.ft_matrix.specs.declared.grid.Grid.{Grid}
 use Rattle.ft_matrix.specs.declared.stages.GridStage.{GridStage}
 use Rattle.ft_matrix.specs.GridStates.{depth_of, grid_state}
 use Rattle.ft_matrix.specs.Sides.{units_at, with_more_made, with_units_at}
-use Rattle.ft_matrix.specs.Sound.{IsSound, IsSoundVector}
+use Rattle.ft_matrix.specs.Sound.{ArePending, IsSound, IsSoundVector}
+use Rattle.ft_matrix.specs.Units.{units_of}
 use Rattle.ft_matrix.specs.Splices.{Inserts, Removes}
 
 pub same-side : (target : Target) (g : Grid) → with_units_at target g (units_at target g) ≡ g
@@ -93,33 +94,41 @@ pub sound-at : (target : Target) (g : Grid) → IsSound g → IsSoundVector (uni
 sound-at Rows g s = s.rows
 sound-at Cols g s = s.cols
 
+pub pending-at : (target : Target) (g : Grid) → IsSound g → ArePending g.stages.items (units_of (units_at target g))
+pending-at Rows g s = s.pending_rows
+pending-at Cols g s = s.pending_cols
+
 pub floor-at : (target : Target) (g : Grid) → IsSound g → (units_at target g).tree.floor ≡ g.rows.tree.floor
 floor-at Rows g s = refl
 floor-at Cols g s = s.floors
 
 pub side-sound : (target : Target) (g : Grid) (v : VectorState) → IsSound g → IsSoundVector v
     → ((h : ℕ) → in_use v h ≡ false → in_use (units_at target g) h ≡ false)
-    → v.tree.floor ≡ (units_at target g).tree.floor → IsSound (with_units_at target g v)
-side-sound Rows g v s sv u f = record {
+    → v.tree.floor ≡ (units_at target g).tree.floor → ArePending g.stages.items (units_of v) → IsSound (with_units_at target g v)
+side-sound Rows g v s sv u f p = record {
   rows = sv;
   cols = s.cols;
   floors = s.floors ∙ sym f;
   held = record { rows = λ r c n. s.held.rows r c (u r n); cols = λ r c n. s.held.cols r c n };
   writes = λ r c. s.writes r c;
   rise = s.rise;
+  pending_rows = p;
+  pending_cols = s.pending_cols;
 }
-side-sound Cols g v s sv u f = record {
+side-sound Cols g v s sv u f p = record {
   rows = s.rows;
   cols = sv;
   floors = f ∙ s.floors;
   held = record { rows = λ r c n. s.held.rows r c n; cols = λ r c n. s.held.cols r c (u c n) };
   writes = λ r c. s.writes r c;
   rise = s.rise;
+  pending_rows = s.pending_rows;
+  pending_cols = p;
 }
 
 pub made-sound : (target : Target) (n : ℕ) (g : Grid) → IsSound g → IsSound (with_more_made target n g)
-made-sound Rows n g s = record { rows = s.rows; cols = s.cols; floors = s.floors; held = s.held; writes = s.writes; rise = s.rise }
-made-sound Cols n g s = record { rows = s.rows; cols = s.cols; floors = s.floors; held = s.held; writes = s.writes; rise = s.rise }
+made-sound Rows n g s = record { rows = s.rows; cols = s.cols; floors = s.floors; held = s.held; writes = s.writes; rise = s.rise; pending_rows = s.pending_rows; pending_cols = s.pending_cols }
+made-sound Cols n g s = record { rows = s.rows; cols = s.cols; floors = s.floors; held = s.held; writes = s.writes; rise = s.rise; pending_rows = s.pending_rows; pending_cols = s.pending_cols }
 
 pub side-floor : (target : Target) (g : Grid) (v : VectorState) → v.tree.floor ≡ (units_at target g).tree.floor
     → (with_units_at target g v).rows.tree.floor ≡ g.rows.tree.floor

@@ -281,4 +281,6 @@ write-sound old h g value table s a b w = record {
   };
   writes = λ r c. ap (λ (cell : CellState). cell.pending) (w r c) ∙ kept-pending value (nat_eq r h && nat_eq c g) (cell_at old.cells r c) ∙ s.writes r c;
   rise = s.rise;
+  pending_rows = s.pending_rows;
+  pending_cols = s.pending_cols;
 }

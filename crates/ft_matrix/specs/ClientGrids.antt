@@ -1,12 +1,10 @@
 -- What the calls of a shared table ask of it holds of the table of each client.
-use Rattle.std.specs.Prelude.{◌<◌, ℕ, List}
+use Rattle.std.specs.Prelude.{◌<◌, ℕ}
 use Rattle.ft_op.specs.Document.{Document}
-use Rattle.ft_op.specs.Stages.{Stage}
 use Rattle.ft_msg.specs.Client.{NaiveClient, floor, stages_of}
 use Rattle.ft_laws_compaction.specs.Keeping.{IsMadeOrKept}
 use Rattle.ft_laws_names.specs.GridFacts.{AreCounted}
 use Rattle.ft_laws_names.specs.WellNamed.{IsWellNamed}
-use Rattle.ft_rebase.specs.StageLists.{StandSideBySide}
 use Rattle.ft_matrix.specs.Conditions.{AreFreeUnits, IsAboveAll}
 use Rattle.ft_matrix.specs.GridStates.{GridState}
 use Rattle.ft_matrix.specs.HoldsGrid.{HoldsGrid}
@@ -22,9 +20,3 @@ pub record MeetsConditions (p : NaiveClient) (s : GridState) : Type 0 where
 -- so it is in the table of each client that its steps made, or that keeps one which they made
 abbrev pub ClientGridsMeetConditions : Type 0
 ClientGridsMeetConditions = (start : Document) (p : NaiveClient) (s : GridState) → IsMadeOrKept start p → HoldsGrid s p.doc (stages_of p) → MeetsConditions p s
-
--- and whatever goes on of its pending stages, the rows of each stage stand side by side in its view, and so do the columns
-abbrev pub ClientUnitsStandSideBySide : Type 0
-ClientUnitsStandSideBySide =
-    (start : Document) (p : NaiveClient) (s : GridState) (stages : List Stage) → IsMadeOrKept start p → HoldsGrid s p.doc stages
-    → StandSideBySide (λ e. e.stamps) s.rows × StandSideBySide (λ e. e.stamps) s.cols

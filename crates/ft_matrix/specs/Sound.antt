@@ -1,8 +1,11 @@
 -- What a grid keeps while it may be used. No public clause cites this module.
-use Rattle.std.specs.Prelude.{◌≡◌, ◌<◌, ◌≤◌, ℕ, Bool, false, cond, ◌&&◌, nat_eq, All, IsTrue, List, [], ◌∷◌, Option, Some, None, flat_map}
+use Rattle.std.specs.Prelude.{◌≡◌, ◌<◌, ◌≤◌, ℕ, Bool, true, false, cond, not, ◌&&◌, nat_eq, nat_le, All, IsTrue, List, [], ◌∷◌, Option, Some, None, flat_map}
+use Rattle.std.specs.List.{AllByRecursion, list_any}
+use Rattle.ft_base.specs.declared.stamps.Stamp.{Stamp}
+use Rattle.ft_base.specs.declared.stamps.Stamp.TheVariants.{Acked, Local}
 use Rattle.ft_base.specs.Visibility.{is_of_stage}
 use Rattle.ft_tree_leaves.specs.Elements.{TreeElement}
-use Rattle.ft_op.specs.declared.operations.CellOp.TheVariants.{Set}
+use Rattle.ft_op.specs.declared.operations.CellOp.TheVariants.{Set, SpliceIn}
 use Rattle.ft_props.specs.Overlay.{OverlayState}
 use Rattle.ft_props.specs.Properties.{ValueBytes}
 use Rattle.ft_tree_leaves.specs.References.{reference_at}
@@ -51,12 +54,51 @@ abbrev pub StagesRise : ℕ → List GridStage → Type 0
 StagesRise low [] = Unit {0}
 StagesRise low (t ∷ stages) = (low < t.stage) × StagesRise t.stage stages
 
+-- ---- pending units
+
+-- whether the insertion is pending, of stage k or of a later one
+abbrev pub is_from : ℕ → Stamp → Bool
+is_from k (Acked s c) = false
+is_from k (Local j) = nat_le k j
+
+-- pending units of stage k and of later ones, and behind those none of stage k
+abbrev pub goes_on : ℕ → List (TreeElement ℕ) → Bool
+goes_on k [] = true
+goes_on k (e ∷ es) = cond (is_from k e.stamps.ins) (goes_on k es) (not (list_any (λ d. is_of_stage k d.stamps.ins) es))
+
+-- such units stand behind one with this insertion, if it is pending
+abbrev pub GoesOn : Stamp → List (TreeElement ℕ) → Type 0
+GoesOn (Acked s c) es = Unit {0}
+GoesOn (Local k) es = goes_on k es ≡ true
+
+-- between two units of one pending stage only pending units of this and of higher stages stand
+abbrev pub StandTogether : List (TreeElement ℕ) → Type 0
+StandTogether [] = Unit {0}
+StandTogether (e ∷ es) = GoesOn e.stamps.ins es × StandTogether es
+
+-- whether the stage puts units in
+abbrev pub puts_units : GridStage → Bool
+puts_units t = elim t.op [ SpliceIn target p count ↦ not (nat_eq count 0) | _ ↦ false ]
+
+-- the insertion is sequenced, or of one of these stages that puts units in
+abbrev pub IsOfStages : List GridStage → Stamp → Type 0
+IsOfStages stages (Acked s c) = Unit {0}
+IsOfStages stages (Local k) = list_any (λ t. nat_eq t.stage k && puts_units t) stages ≡ true
+
+-- the pending units are of these stages, and those of each stand together
+pub record ArePending (stages : List GridStage) (es : List (TreeElement ℕ)) : Type 0 where
+  pub together : StandTogether es
+  pub own : AllByRecursion (λ e. IsOfStages stages e.stamps.ins) es
+
+-- ---- the grid
+
 -- a handle that isn't in use has no cell
 pub record HoldsCells (v w : VectorState) (cells : CellList) : Type 0 where
   pub rows : (row col : ℕ) → in_use v row ≡ false → cell_at cells row col ≡ empty_cell
   pub cols : (row col : ℕ) → in_use w col ≡ false → cell_at cells row col ≡ empty_cell
 
--- a grid: two sound vectors with one floor, cells of handles in use alone, and just the pending writes of its stages
+-- a grid: two sound vectors with one floor, cells of handles in use alone, and just the pending writes and the pending units of its
+-- stages
 pub record IsSound (g : Grid) : Type 0 where
   pub rows : IsSoundVector g.rows
   pub cols : IsSoundVector g.cols
@@ -64,3 +106,5 @@ pub record IsSound (g : Grid) : Type 0 where
   pub held : HoldsCells g.rows g.cols g.cells
   pub writes : (row col : ℕ) → (cell_at g.cells row col).pending ≡ writes_to row col g.stages.items
   pub rise : StagesRise 0 g.stages.items
+  pub pending_rows : ArePending g.stages.items (units_of g.rows)
+  pub pending_cols : ArePending g.stages.items (units_of g.cols)

@@ -24,7 +24,6 @@ ghost use Rattle.ft_op.specs.declared.operations.GridOp.{GridOp};
 ghost use Rattle.ft_op.specs.declared.operations.Target.{Target};
 ghost use Rattle.ft_named.specs.Nodes.{KeepsNodes};
 ghost use Rattle.ft_perm.specs.Handles.{numbers_from};
-ghost use Rattle.ft_rebase.specs.StageLists.{StandSideBySide};
 ghost use Rattle.ft_sumdoc.specs.Valid.{IsValidSummary};
 
 use crate::grid::Grid;
@@ -294,14 +293,11 @@ impl SharedMatrix {
     }
 
     /// Brings the rows and the columns in order after all pending edits were given to `reconnect`: as if the pending ones had been
-    /// put in afresh. The rows of each stage stand side by side in its view, and so do the columns. Each leaf whose insertion is
-    /// sequenced keeps its node, in the same order.
+    /// put in afresh. Each leaf whose insertion is sequenced keeps its node, in the same order.
     ///
     /// Returns `OutOfMemory` where there is no room for it, and then the table may be used no more.
     pub fn normalise(&mut self) -> Result<(), OutOfMemory>
-        requires usable { IsTrue self.old.usable }
-        requires rows { StandSideBySide (λ e. e.stamps) self.old.rows }
-        requires cols { StandSideBySide (λ e. e.stamps) self.old.cols }
+        requires { IsTrue self.old.usable }
         ensures rebuilt { (last : ℕ) (doc : Document) (stages : List Stage) (numbers : List ℕ) → AreWellNamed last doc stages → HoldsGrid self.old doc stages
             → AreItsStages last numbers doc → OnOk result (HoldsGrid self.new (rebuilt_document numbers doc) stages) }
         ensures given { OnOk result (self.new.given ≡ 0) }

@@ -51,13 +51,11 @@ fn rebuild_units(units: &mut Vector) -> Result<(), OutOfMemory>
 }
 
 impl Grid {
-    /// Puts the pending rows and columns in afresh. Those of each stage stand side by side in its view.
+    /// Puts the pending rows and columns in afresh.
     ///
     /// Returns `OutOfMemory` where there is no room for it, and then the grid may be used no more.
     pub fn normalise(&mut self) -> Result<(), OutOfMemory>
-        requires sound { IsSound self.old }
-        requires rows { StandSideBySide (λ e. e.stamps) (units_of self.old.rows) }
-        requires cols { StandSideBySide (λ e. e.stamps) (units_of self.old.cols) }
+        requires { IsSound self.old }
         ensures { OnOk result (RebuildsGrid self.old self.new) }
     {
         rebuild_units(&mut self.rows)?;

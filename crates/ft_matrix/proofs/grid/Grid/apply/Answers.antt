@@ -10,7 +10,8 @@ use Rattle.ft_matrix.specs.Sides.{units_at, with_units_at}
 use Rattle.ft_matrix.specs.Sound.{IsSound, IsSoundVector}
 use Rattle.ft_matrix.specs.Splices.{Inserts, Removes}
 use Rattle.ft_matrix.proofs.Effects.{insert-refused, insert-taken, remove-done}
-use Rattle.ft_matrix.proofs.SideLaws.{floor-at, made-sound, over, puts-used, same-sound, side-floor, side-sound, sound-at}
+use Rattle.ft_matrix.proofs.SideLaws.{floor-at, made-sound, over, pending-at, puts-used, same-sound, side-floor, side-sound, sound-at}
+use Rattle.ft_matrix.proofs.PendingStages.{ok-from, put-pending, removed-sound}
 use Rattle.ft_matrix.proofs.SoundVectors.{if-ok}
 use Rattle.ft_matrix.proofs.grid.Grid.apply.Goals as goal
 
@@ -44,7 +45,9 @@ returns-in_ok-count_made-in-SpliceIn-clause-sound g c =
     let v = c.insert_units.new.units in
     subst IsSound (sym c.in_ok-count_made-in-SpliceIn.ensures) (made-sound t c.in-SpliceIn.count (with_units_at t c.args.self.now v)
     (side-sound t c.args.self.now v c.requires.sound c.in_ok-insert_units-in-SpliceIn.ensures.sound
-    (puts-used (At c.args.at) is_pending (Acked c.args.seq c.args.at.c) c.in-SpliceIn.pos c.in-SpliceIn.count (units_at t c.args.self.now) v i) i.1.floor))
+    (puts-used (At c.args.at) is_pending (Acked c.args.seq c.args.at.c) c.in-SpliceIn.pos c.in-SpliceIn.count (units_at t c.args.self.now) v i) i.1.floor
+    (put-pending c.args.self.now.stages.items (At c.args.at) c.args.seq c.args.at.c c.in-SpliceIn.pos c.in-SpliceIn.count (units_at t c.args.self.now) v i
+    (pending-at t c.args.self.now c.requires.sound))))
 
 pub returns-in_ok-count_made-in-SpliceIn-clause-applied : goal.returns-in_ok-count_made-in-SpliceIn-clause-applied
 returns-in_ok-count_made-in-SpliceIn-clause-applied g c = λ last doc stages h.
@@ -99,3 +102,14 @@ returns-then-not-branch-clause-floor g c =
     c.insert_units.new.units)
     c.units_mut.ensures.value c.if-not-branch.true c.in_ok-insert_units-in-SpliceIn.ensures.inserts in
     side-floor c.in-SpliceIn.target c.args.self.now c.insert_units.new.units (ap (λ (v : VectorState). v.tree.floor) i.1)
+
+pub returns-in-SpliceOut-clause-sound : goal.returns-in-SpliceOut-clause-sound
+returns-in-SpliceOut-clause-sound g c =
+    let t = c.in-SpliceOut.target in
+    let v = c.remove_units.new.units in
+    let p = c.in-SpliceOut.pos1 in
+    let q = c.in-SpliceOut.pos2 in
+    ok-from (λ (taken : Bool). Removes (At c.args.at) (Acked c.args.seq c.args.at.c) p q c.units_mut-in-SpliceOut.result.now v taken)
+    (IsSoundVector v) (IsSound (with_units_at t c.args.self.now v)) c.remove_units.result c.remove_units.ensures.removes c.remove_units.ensures.sound
+    (λ taken r sv. removed-sound t c.args.self.now (At c.args.at) (Acked c.args.seq c.args.at.c) p q v taken c.requires.sound
+    (subst (λ (u : VectorState). Removes (At c.args.at) (Acked c.args.seq c.args.at.c) p q u v taken) c.units_mut-in-SpliceOut.ensures.value r) sv)

@@ -9,8 +9,9 @@ use Rattle.ft_matrix.specs.Sound.{IsSoundVector}
 use Rattle.ft_matrix.specs.Splices.{Inserts}
 use Rattle.ft_matrix.proofs.OwnCounts.{insert-counted, insert-uncounted}
 use Rattle.ft_matrix.proofs.OwnEdits.{own-insert-refused, own-insert-taken, splice_stage}
-use Rattle.ft_matrix.proofs.OwnSound.{put-below, splice-above, stage-sound}
-use Rattle.ft_matrix.proofs.SideLaws.{at-side, behind-side, over, puts-used, same-sound, side-floor, sound-at}
+use Rattle.ft_matrix.proofs.OwnSound.{below-at, put-below, splice-above, stage-sound}
+use Rattle.ft_matrix.proofs.SideLaws.{at-side, behind-side, over, pending-at, puts-used, same-sound, side-floor, sound-at}
+use Rattle.ft_matrix.proofs.PendingStages.{own-put-pending}
 use Rattle.ft_matrix.proofs.grid.Grid.insert_own.Goals as goal
 
 pub returns-then-not-branch-clause-edited : goal.returns-then-not-branch-clause-edited
@@ -31,6 +32,9 @@ returns-clause-sound g c =
     (behind-side c.args.target c.args.self.now v c.push_behind.new.items.items (splice_stage c.args.stage op) c.in_ok-push_behind.ensures.items)
     (λ row col. refl) c.requires.some
     c.args.target v c.in_ok-insert_own_units.ensures.sound (puts-used last_stage no_run (Local c.args.stage) c.args.pos c.args.count (units_at c.args.target c.args.self.now) v i) i.1.floor
+    (own-put-pending c.args.self.now.stages.items c.push_behind.new.items.items c.args.stage op last_stage c.args.pos c.args.count (units_at c.args.target c.args.self.now) v
+    (behind-side c.args.target c.args.self.now v c.push_behind.new.items.items (splice_stage c.args.stage op) c.in_ok-push_behind.ensures) (λ h. h) i
+    (below-at c.args.target c.args.stage c.args.self.now c.requires.above) (pending-at c.args.target c.args.self.now c.requires.sound))
 
 pub returns-clause-above : goal.returns-clause-above
 returns-clause-above g c = λ none.

@@ -1,4 +1,4 @@
-use Rattle.std.proofs.Common.{◌∙◌, ap, arith, refl, subst, sym}
+use Rattle.std.proofs.Common.{◌∙◌, [], ◌∷◌, ap, arith, refl, subst, sym}
 use Rattle.ft_base.specs.declared.stamps.Stamp.TheVariants.{Local}
 use Rattle.ft_block.specs.Leaves.{last_stage}
 use Rattle.ft_op.specs.declared.operations.CellOp.TheVariants.{SpliceOut}
@@ -9,7 +9,9 @@ use Rattle.ft_matrix.specs.Splices.{Removes}
 use Rattle.ft_matrix.proofs.OwnCounts.{remove-counted, remove-uncounted}
 use Rattle.ft_matrix.proofs.OwnEdits.{own-remove-refused, own-remove-taken, splice_stage}
 use Rattle.ft_matrix.proofs.OwnSound.{range-below, splice-above, stage-sound}
-use Rattle.ft_matrix.proofs.SideLaws.{at-side, behind-side, over, marks-used, same-sound, side-floor, sound-at}
+use Rattle.ft_matrix.proofs.SideLaws.{at-side, behind-side, over, marks-used, pending-at, same-sound, side-floor, sound-at}
+use Rattle.ft_matrix.proofs.PendingStages.{more-stages, range-pending}
+use Rattle.ft_matrix.specs.Units.{units_of}
 use Rattle.ft_matrix.proofs.grid.Grid.remove_own.Goals as goal
 
 pub returns-then-not-branch-clause-edited : goal.returns-then-not-branch-clause-edited
@@ -30,6 +32,10 @@ returns-clause-sound g c =
     (behind-side c.args.target c.args.self.now v c.push_behind.new.items.items (splice_stage c.args.stage op) c.in_ok-push_behind.ensures.items)
     (λ row col. refl) c.requires.some
     c.args.target v c.in_ok-remove_own_units.ensures.sound (marks-used last_stage (Local c.args.stage) c.args.pos1 c.args.pos2 (units_at c.args.target c.args.self.now) v i) i.1.floor
+    (more-stages c.args.self.now.stages.items (splice_stage c.args.stage op ∷ []) c.push_behind.new.items.items (units_of v)
+    (behind-side c.args.target c.args.self.now v c.push_behind.new.items.items (splice_stage c.args.stage op) c.in_ok-push_behind.ensures)
+    (range-pending c.args.self.now.stages.items last_stage (Local c.args.stage) c.args.pos1 c.args.pos2 (units_at c.args.target c.args.self.now) v i
+    (pending-at c.args.target c.args.self.now c.requires.sound)))
 
 pub returns-clause-above : goal.returns-clause-above
 returns-clause-above g c = λ none.

@@ -1,20 +1,9 @@
 use Rattle.std.proofs.Common.{sym, subst, true}
 use Rattle.ft_named.specs.Nodes.{KeepsNodes}
-use Rattle.ft_rebase.specs.StageLists.{StandSideBySide}
 use Rattle.ft_matrix.specs.GridStates.{GridState}
 use Rattle.ft_matrix.specs.HoldsGrid.{HoldsGrid}
-use Rattle.ft_matrix.specs.Units.{units_of}
 use Rattle.ft_matrix.proofs.HeldGrids.{restate}
-use Rattle.ft_matrix.proofs.RebuiltUnits.{side-shown}
 use Rattle.ft_matrix.proofs.matrix.SharedMatrix.normalise.Goals as goal
-
-pub normalise-requires-clause-rows : goal.normalise-requires-clause-rows
-normalise-requires-clause-rows c =
-    side-shown (units_of c.self.inside.grid.rows) (subst (λ (s : GridState). StandSideBySide (λ e. e.stamps) s.rows) (sym c.self.view_is) c.requires.rows)
-
-pub normalise-requires-clause-cols : goal.normalise-requires-clause-cols
-normalise-requires-clause-cols c =
-    side-shown (units_of c.self.inside.grid.cols) (subst (λ (s : GridState). StandSideBySide (λ e. e.stamps) s.cols) (sym c.self.view_is) c.requires.cols)
 
 pub returns-in-Ok-clause-rebuilt : goal.returns-in-Ok-clause-rebuilt
 returns-in-Ok-clause-rebuilt c = λ last doc stages numbers n h its. restate c.normalise.new.self 0 0 true c.self.inside.usable _ stages
