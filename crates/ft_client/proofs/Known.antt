@@ -2,7 +2,7 @@
 use Rattle.std.proofs.Common.{◌≡◌, ◌≤◌, ◌<◌, ◌^◌, ℕ, Bool, true, false, List, [], ◌∷◌, None, append-nil, arith, refl, sym, ◌∙◌, ap, subst, map}
 use Rattle.std.specs.List.{list_all}
 use Rattle.ft_base.specs.Scan.{len, one_more_if}
-use Rattle.ft_props.specs.Element.{ListElement, NamelessElement, has_id, id, nameless}
+use Rattle.ft_props.specs.Element.{ListElement, has_id, id, nameless}
 use Rattle.ft_op.specs.Document.{Document}
 use Rattle.ft_op.specs.Stages.{Stage}
 use Rattle.ft_msg.specs.Client.{NaiveClient, PendingEdit, client_over, floor, stages_of}
@@ -30,14 +30,13 @@ use Rattle.ft_laws_names.proofs.KeptGrids.{kept-counted}
 use Rattle.ft_laws_names.proofs.KeptNames.{made-or-kept-named}
 use Rattle.ft_laws_names.proofs.LocalAlike.{StagesBeside}
 use Rattle.ft_laws_names.proofs.RejoinAlike.{EditsBeside}
-use Rattle.ft_rebase.specs.StageLists.{StandSideBySide}
 use Rattle.ft_replica.specs.Own.{HeldDocument, NamesFit, held_by}
 use Rattle.ft_string.specs.Calls.{is_held}
 use Rattle.ft_string.specs.Holds.{IsTextSound}
 use Rattle.ft_string.proofs.SoundTexts.{client-sound as text-sound}
 use Rattle.ft_matrix.specs.ClientGrids.{MeetsConditions}
 use Rattle.ft_matrix.specs.Conditions.{AreFreeUnits, IsAboveAll}
-use Rattle.ft_matrix.proofs.ClientGrids.{client-grid, client-side}
+use Rattle.ft_matrix.proofs.ClientGrids.{client-grid}
 use Rattle.ft_client.specs.declared.own.TreeOwn.{TreeOwn}
 use Rattle.ft_client.specs.Holds.{HoldsTree, tree-shows}
 use Rattle.ft_client.proofs.AlikeDocuments.{changes-carried, counted-carried, ends-carried, free-carried, held-alike, later-carried, marks-carried, typed-carried}
@@ -103,12 +102,6 @@ module _ (start : Document) (p : NaiveClient) (made : IsMadeOrKept start p) wher
 
     pub free-units : AreFreeUnits (floor p) s.table
     free-units = table.free
-
-    pub side-rows : StandSideBySide (λ (e : NamelessElement). e.stamps) s.table.rows
-    side-rows = (client-side start p s.table (stages_of p) made h.table).0
-
-    pub side-cols : StandSideBySide (λ (e : NamelessElement). e.stamps) s.table.cols
-    side-cols = (client-side start p s.table (stages_of p) made h.table).1
 
     -- ---- of each other document that it holds
     module _ (held : HeldDocument) (named : NamesFit held) (g : HoldsTree s held) where

@@ -11,7 +11,7 @@ use Rattle.ft_op.specs.Intervals.{NamedElements}
 use Rattle.ft_op.specs.Operation.{OnGrid, OnIntervals, OnText, SubOperation}
 use Rattle.ft_op.specs.Pieces.{op_of, pieces}
 use Rattle.ft_op.specs.Stages.{Stage}
-use Rattle.ft_props.specs.Element.{ListElement, NamelessElement, seen}
+use Rattle.ft_props.specs.Element.{ListElement, seen}
 use Rattle.ft_props.specs.Steps.{Sequence, is_inserted_by, put_stage, put_stages, rebuilt_list, stage_position}
 use Rattle.ft_msg.specs.declared.messages.Entry.{Entry}
 use Rattle.ft_msg.specs.Agreed.{with_numbers}
@@ -24,7 +24,6 @@ use Rattle.ft_laws_names.specs.WellNamed.{ArePutIn, AreWellNamed, IsWellNumbered
 use Rattle.ft_laws_names.proofs.RebuiltLists.{Rises}
 use Rattle.ft_named.proofs.PutTwice.{put-nothing}
 use Rattle.ft_named.proofs.RebuiltSteps.{none-from-len, rebuilt-pending, stages-of}
-use Rattle.ft_rebase.specs.StageLists.{StandSideBySide}
 use Rattle.ft_replica.specs.declared.document.Resent.{Resent}
 use Rattle.ft_replica.specs.Own.{HeldDocument, HoldsOne, NamesFit, held_by, rejoined, resent}
 use Rattle.ft_string.specs.Calls.{HoldsAllGiven, HoldsGiven, HoldsRejoined}
@@ -40,7 +39,7 @@ use Rattle.ft_client.specs.Rejoins.{GivesEdits, GivesTree, carried, text_only}
 use Rattle.ft_client.proofs.GivenEdits.{flat}
 use Rattle.ft_client.proofs.GivesStep.{later-each}
 use Rattle.ft_client.proofs.GridCarried.{carried-left, grid-behind, names-left, some_carried}
-use Rattle.ft_client.proofs.Known.{client-sound, held-sound, is-named, is-ready, side-cols, side-rows}
+use Rattle.ft_client.proofs.Known.{client-sound, held-sound, is-named, is-ready}
 use Rattle.ft_client.proofs.OneEdits.{each-alike, each-of-one}
 use Rattle.ft_client.proofs.Parts.{grid-same, text-same}
 use Rattle.ft_client.proofs.TextOnly.{only-carried, only-twice, sound-only, text-part}
@@ -347,14 +346,6 @@ module _ (s : TreeOwn) (entry : Entry) (counts : List ℕ) (k : HoldsOne HoldsTr
 
     pub now-held : (last : ℕ) × HoldsAllGiven last now.text
     now-held = (p.last_stage, all-held now k.low p.last_stage p.doc (flat mine) all-client)
-
-    pub now-rows : StandSideBySide (λ (e : NamelessElement). e.stamps) now.table.rows
-    now-rows = subst (λ es. StandSideBySide (λ (e : NamelessElement). e.stamps) es) (sym k.document.table.rows ∙ all-client.table.rows)
-        (side-rows k.start p k.made s k.low k.document)
-
-    pub now-cols : StandSideBySide (λ (e : NamelessElement). e.stamps) now.table.cols
-    now-cols = subst (λ es. StandSideBySide (λ (e : NamelessElement). e.stamps) es) (sym k.document.table.cols ∙ all-client.table.cols)
-        (side-cols k.start p k.made s k.low k.document)
 
     -- ---- each document that it holds
     module _ (held : HeldDocument) (edits : List (List Stage)) (named : NamesFit held) (parts : held.stages ≡ flat edits)

@@ -1,5 +1,5 @@
 use Rattle.std.proofs.Common.{refl}
-use Rattle.ft_client.proofs.Rejoined.{edits-of, joined-tree, now-cols, now-held, now-rows, now-table, now-text, sent-again}
+use Rattle.ft_client.proofs.Rejoined.{edits-of, joined-tree, now-held, now-table, now-text, sent-again}
 use Rattle.ft_client.proofs.own.TreeOwn.rejoin_all.Goals as goal
 
 pub give_edits-requires : goal.give_edits-requires
@@ -13,17 +13,9 @@ pub normalise-requires-clause-held : goal.normalise-requires-clause-held
 normalise-requires-clause-held c =
     now-held c.args.self.now c.args.entry.now c.args.counts.now c.requires.known c.give_edits.new.self c.in_ok-again.again.items c.in_ok-again.ensures
 
-pub normalise-requires-2-clause-usable : goal.normalise-requires-2-clause-usable
-normalise-requires-2-clause-usable c =
+pub normalise-requires-2 : goal.normalise-requires-2
+normalise-requires-2 c =
     now-table c.args.self.now c.args.entry.now c.args.counts.now c.requires.known c.give_edits.new.self c.in_ok-again.again.items c.in_ok-again.ensures
-
-pub normalise-requires-2-clause-rows : goal.normalise-requires-2-clause-rows
-normalise-requires-2-clause-rows c =
-    now-rows c.args.self.now c.args.entry.now c.args.counts.now c.requires.known c.give_edits.new.self c.in_ok-again.again.items c.in_ok-again.ensures
-
-pub normalise-requires-2-clause-cols : goal.normalise-requires-2-clause-cols
-normalise-requires-2-clause-cols c =
-    now-cols c.args.self.now c.args.entry.now c.args.counts.now c.requires.known c.give_edits.new.self c.in_ok-again.again.items c.in_ok-again.ensures
 
 pub returns : goal.returns
 returns c = λ held edits named parts counted h.
