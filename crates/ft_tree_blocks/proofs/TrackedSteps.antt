@@ -1,7 +1,8 @@
 -- The lists of what each stage touched are right after each step.
-use Rattle.std.proofs.Common.{◌≡◌, ◌≢◌, ℕ, ◌≤◌, Bool, true, false, cond, not, ◌||◌, List, [], ◌∷◌, ◌++◌, ◌⊎◌, inl, inr, filter, map, IsSomeAnd, Option, Some, None, refl, subst, sym, ◌∙◌, ap, nat_eq}
+use Rattle.std.proofs.Common.{◌≡◌, ◌≢◌, ℕ, ◌≤◌, Bool, true, false, cond, not, ◌||◌, List, [], ◌∷◌, ◌++◌, ◌⊎◌, inl, inr, filter, map, IsSomeAnd, Option, Some, None, refl, subst, sym, ◌∙◌, ap, nat_eq, arith, true≢false}
 use Rattle.std.specs.List.{list_any}
 use Rattle.std.specs.Option.{IsSome}
+use Rattle.std.proofs.lemmas.Bool.Decides.{nat_tests}
 use Rattle.std.proofs.lemmas.Bool.{and_from, and_parts, cases_eq, eq-eqb, ne_eqb, or_cases, or_left, or_right}
 use Rattle.ft_arena.specs.Ids.{after}
 use Rattle.ft_base.specs.declared.elements.Element.{Element}
@@ -18,7 +19,7 @@ use Rattle.ft_tree_leaves.specs.declared.block_leaf.LeafChange.TheVariants.{SetA
 use Rattle.ft_tree_leaves.specs.declared.leaves.TreeLeaf.{TreeLeaf}
 use Rattle.ft_tree_leaves.specs.BlockChanges.{changed_leaf}
 use Rattle.ft_tree_leaves.specs.LeafChanges.{acked_leaf, acked_pair}
-use Rattle.ft_tree_leaves.specs.Edits.{is_touched_by}
+use Rattle.ft_tree_leaves.specs.Edits.{is_marked_by, is_touched_by}
 use Rattle.ft_tree_blocks.specs.Touched.{NodesOfStage, Notes, Tracks, added_stage, is_listed, is_stamped_by, all_purged, purged_at}
 use Rattle.ft_tree_blocks.proofs.StepValues.{gone-without, is_some, is_valued, mapped, mapped_some, new_put, rear-split, value-change, value-map, value-put, value-split}
 use Rattle.ft_tree_blocks.proofs.TouchedLists.{Takes, all_purged-listed, eq_from, notes-none, rising_purged}
@@ -288,6 +289,30 @@ untouched x ins dels none k =
     ap (λ b. b || (list_any (is_of_stage k) x.stamps.dels || list_any (λ p. nat_eq p.0 k) x.overlay.pending)) (settled_stamp k x.stamps.ins ins)
     ∙ ap (λ b. b || list_any (λ p. nat_eq p.0 k) x.overlay.pending) (settled_stamps k x.stamps.dels dels)
     ∙ ap (list_any (λ p. nat_eq p.0 k)) none
+
+-- and the other way round
+stamp_settled : (t : Stamp) → ((k : ℕ) → is_of_stage k t ≡ false) → not (is_acked t) ≡ false
+stamp_settled (Acked s c) none = refl
+stamp_settled (Local k) none = let own : nat_eq k k ≡ true = grind (arith, nat_tests) in absurd (true≢false (sym own ∙ none k))
+
+stamps_settled : (ts : List Stamp) → ((k : ℕ) → list_any (is_of_stage k) ts ≡ false) → list_any (λ t. not (is_acked t)) ts ≡ false
+stamps_settled [] none = refl
+stamps_settled (t ∷ ts) none =
+    let both = λ (k : ℕ). neither (is_of_stage k t) (list_any (is_of_stage k) ts) (none k) in
+    ap (λ b. b || list_any (λ t. not (is_acked t)) ts) (stamp_settled t (λ k. (both k).0)) ∙ stamps_settled ts (λ k. (both k).1)
+
+changes_settled : {X : Type 0} (ps : List (ℕ × X)) → ((k : ℕ) → list_any (λ p. nat_eq p.0 k) ps ≡ false) → ps ≡ []
+changes_settled [] none = refl
+changes_settled (p ∷ ps) none =
+    let own : nat_eq p.0 p.0 ≡ true = grind (arith, nat_tests) in
+    absurd (true≢false (sym own ∙ (neither (nat_eq p.0 p.0) (list_any (λ q. nat_eq q.0 p.0) ps) (none p.0)).0))
+
+pub all_settled : {C : Type 0} (x : TreeLeaf C) → ((k : ℕ) → is_touched_by k x ≡ false)
+    → (not (is_acked x.stamps.ins) ≡ false) × (list_any (λ t. not (is_acked t)) x.stamps.dels ≡ false) × (x.overlay.pending ≡ [])
+all_settled x none =
+    let first = λ (k : ℕ). neither (is_of_stage k x.stamps.ins) (is_marked_by k x) (none k) in
+    let rest = λ (k : ℕ). neither (list_any (is_of_stage k) x.stamps.dels) (list_any (λ p. nat_eq p.0 k) x.overlay.pending) (first k).1 in
+    (stamp_settled x.stamps.ins (λ k. (first k).0), stamps_settled x.stamps.dels (λ k. (rest k).0), changes_settled x.overlay.pending (λ k. (rest k).1))
 
 -- an acknowledged stage
 gone_stamp : (b : Bool) (k s c : ℕ) (t : Stamp) → is_of_stage k t ≡ b → is_of_stage k (cond b (Acked s c) t) ≡ false

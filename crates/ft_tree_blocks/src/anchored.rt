@@ -330,6 +330,7 @@ pub(crate) fn slide_anchored<C: Content>(blocks: &Blocks<TreeLeaf<C>>, refs: &mu
         ChangesReferences (slid_reference (elements C.units C.by leaves))
         (references_on C.units C.by leaves refs.old.anchors) (references_on C.units C.by leaves refs.new.anchors) }
     ensures sound { IsSoundOn C.units blocks.now.leaves refs.new.anchors refs.new.unsettled.items }
+    ensures settled { refs.new.unsettled.items ≡ [] }
 {
     slide_leaves(blocks, &mut refs.anchors, refs.unsettled.as_slice());
     refs.unsettled.clear();

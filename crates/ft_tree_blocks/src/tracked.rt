@@ -44,7 +44,8 @@ fn is_any_pending(stamps: &[Stamp]) -> bool
 
 // Whether the insertion, a removal or a change of the leaf is pending.
 fn has_pending<C: Content>(leaf: &TreeLeaf<C>) -> bool
-    ensures { result ≡ false → (k : ℕ) → is_touched_by k leaf.now ≡ false }
+    ensures none { result ≡ false → (k : ℕ) → is_touched_by k leaf.now ≡ false }
+    ensures some { ((k : ℕ) → is_touched_by k leaf.now ≡ false) → result ≡ false }
 {
     if leaf.is_pending() || is_any_pending(leaf.stamps.dels.as_slice()) {
         return true;
