@@ -12,7 +12,7 @@ use Rattle.ft_interval_store.specs.State.{CollectionsState, IsAboveAll, IsAsBefo
 use Rattle.ft_tree_leaves.specs.declared.text.TextContent.{TextContent}
 use Rattle.ft_tree_leaves.specs.Elements.{TreeElement, seen_in}
 use Rattle.ft_msg.specs.declared.faults.EditFault.{EditFault}
-use Rattle.ft_msg.specs.declared.faults.EditFault.TheVariants.{IdInUse, NoSuchInterval, OutOfMemory, OutOfRange}
+use Rattle.ft_msg.specs.declared.faults.EditFault.TheVariants.{IdInUse, NoSuchInterval, OutOfRange}
 use Rattle.ft_msg.specs.Client.{id_fault, local_sub_operation, local_sub_operations, unless_fault}
 use Rattle.ft_msg.specs.Indexed.{IndexedStage, indexed_stage, place_in_list}
 use Rattle.ft_op.specs.declared.operations.Ends.{Ends}
