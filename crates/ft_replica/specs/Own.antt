@@ -1,7 +1,8 @@
 -- A document with its pending stages as a client keeps it: what it shows of itself, and for which documents of the definitions it
 -- stands. Those have names for their elements, which it needn't have; so what a document does is said of each that it holds.
-use Rattle.std.specs.Prelude.{◌≡◌, ◌≤◌, ◌^◌, ◌+◌, ◌*◌, ℕ, cond, nat_le, not, ⊤, Option, Some, None, Result, Ok, Err, List, [], ◌∷◌, ◌++◌, length, map, flat_map, true}
+use Rattle.std.specs.Prelude.{◌≡◌, ◌≤◌, ◌^◌, ◌+◌, ◌*◌, ℕ, cond, nat_le, not, ⊤, Option, Some, None, Result, Ok, Err, List, [], ◌∷◌, ◌++◌, filter, length, map, flat_map, true}
 use Rattle.std.specs.List.{list_all}
+use Rattle.std.specs.Ordering.{is_eq}
 use Rattle.ft_op.specs.declared.operations.BaseOp.TheVariants.{Insert}
 use Rattle.ft_op.specs.declared.operations.CellOp.TheVariants.{SpliceIn}
 use Rattle.ft_op.specs.declared.operations.ChannelOp.{ChannelOp}
@@ -14,7 +15,7 @@ use Rattle.ft_op.specs.Document.{Document}
 use Rattle.ft_op.specs.Pieces.{op_of, pieces}
 use Rattle.ft_op.specs.Stages.{Stage}
 use Rattle.ft_props.specs.Element.{NamelessElement}
-use Rattle.ft_props.specs.Properties.{Characters}
+use Rattle.ft_props.specs.Properties.{Characters, text_cmp}
 use Rattle.ft_props.specs.Compaction.{has_collectable_removal}
 use Rattle.ft_msg.specs.declared.faults.EditFault.{EditFault}
 use Rattle.ft_msg.specs.declared.messages.Entry.{Entry}
@@ -125,6 +126,11 @@ ReadsFew op shown before after = AreFew (counted_list op shown) before after
 -- of the label that meets the places, for each pending one, and once more
 abbrev pub ReadsFewNodesFor : NaiveClient → Characters → ℕ → ℕ → ℕ → ℕ → Type 0
 ReadsFewNodesFor p label a b before after = ReadsFewNodes (length p.doc.intervals) (length (overlap p label a b) + pending_on_intervals p) before after
+
+-- the same with those alone that have the label
+abbrev pub ReadsFewOfLabelFor : NaiveClient → Characters → ℕ → ℕ → ℕ → ℕ → Type 0
+ReadsFewOfLabelFor p label a b before after =
+    ReadsFewNodes (length (filter (λ i. is_eq (text_cmp label i.label)) p.doc.intervals)) (length (overlap p label a b) + pending_on_intervals p) before after
 
 -- after a message of another client
 abbrev pub with_entry : Entry → HeldDocument → HeldDocument

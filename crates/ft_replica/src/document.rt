@@ -84,6 +84,7 @@ pub trait OwnDocument: Sized + Drop {
       NamesFit,
       ReadsFew,
       ReadsFewNodesFor,
+      ReadsFewOfLabelFor,
       ShownDocument,
       Shows,
       acknowledged,
@@ -210,7 +211,11 @@ pub trait OwnDocument: Sized + Drop {
         ensures found { (low : ℕ) (p : NaiveClient) → IsWellNamed p → p.last_stage ≡ last → holds self.now (held_by low p)
             → IfOk result (λ found. found.items ≡ overlap p label.now a b) }
         ensures reads { IsTrue COUNTS → (low : ℕ) (p : NaiveClient) → IsWellNamed p → p.last_stage ≡ last → holds self.now (held_by low p)
-            → ReadsFewNodesFor p label.now a b steps.old steps.new };
+            → ReadsFewNodesFor p label.now a b steps.old steps.new }
+
+        // They are those of an index of the label's intervals alone.
+        ensures labelled { IsTrue COUNTS → (low : ℕ) (p : NaiveClient) → IsWellNamed p → p.last_stage ≡ last → holds self.now (held_by low p)
+            → ReadsFewOfLabelFor p label.now a b steps.old steps.new };
 
     /// The summary of the document, which has nothing pending, with these names of connections.
     ///

@@ -10,7 +10,7 @@ ghost use Rattle.ft_msg.specs.Overlap.{overlap};
 ghost use Rattle.ft_msg.specs.Reached.{IsReached};
 ghost use Rattle.ft_replica.specs.Kept.{is_of_nobody};
 ghost use Rattle.ft_replica.specs.Linked.{Anyone, RunsForOne};
-ghost use Rattle.ft_replica.specs.Own.{ReadsFew, ReadsFewNodesFor};
+ghost use Rattle.ft_replica.specs.Own.{ReadsFew, ReadsFewNodesFor, ReadsFewOfLabelFor};
 ghost use Rattle.ft_replica.specs.Stopping.{AnswersOwn};
 
 use crate::document::OwnDocument;
@@ -189,8 +189,8 @@ impl<D: OwnDocument> ReplicaOver<D> {
     }
 
     /// `overlapping` with a counter. Where the document counts, each read of a node of an index of intervals is a
-    /// step. With `k` intervals found, `m` pending operations on intervals and `n` acknowledged intervals it takes at
-    /// most 9 * (d + 1) * (k + m + 1) of them, for a depth d with 4^d <= n + 1.
+    /// step. With `k` intervals found, `m` pending operations on intervals and `n` acknowledged intervals of the label it
+    /// takes at most 9 * (d + 1) * (k + m + 1) of them, for a depth d with 4^d <= n + 1.
     ///
     /// Returns `Stopped` exactly where the client has stopped, and `OutOfMemory` where there is no room for the
     /// intervals.
@@ -205,6 +205,8 @@ impl<D: OwnDocument> ReplicaOver<D> {
         ensures answers { AnswersRead (λ found x. found.items ≡ overlap x label.now a b) self.now result }
         ensures reads { IsTrue D.COUNTS → self.now.stop ≡ None → (x : NaiveClient) → IsReached x → StandsFor self.now.client x
             → ReadsFewNodesFor x label.now a b steps.old steps.new }
+        ensures labelled { IsTrue D.COUNTS → self.now.stop ≡ None → (x : NaiveClient) → IsReached x → StandsFor self.now.client x
+            → ReadsFewOfLabelFor x label.now a b steps.old steps.new }
     {
         if let Some(numbers) = self.client.stop() {
             return Err(ViewFault::Stopped {

@@ -10,7 +10,7 @@ ghost use Rattle.ft_msg.specs.SummaryOf.{summary_of};
 ghost use Rattle.ft_laws_names.specs.WellNamed.{IsWellNamed};
 ghost use Rattle.ft_laws_summaries.specs.Summaries.{IsSmall};
 ghost use Rattle.ft_replica.specs.Linked.{Anyone, IsLinkedAs, RunsForOne};
-ghost use Rattle.ft_replica.specs.Own.{ReadsFewNodesFor};
+ghost use Rattle.ft_replica.specs.Own.{ReadsFewNodesFor, ReadsFewOfLabelFor};
 
 use crate::document::OwnDocument;
 use crate::linked::LinkedClient;
@@ -51,6 +51,8 @@ impl<D: OwnDocument> LinkedClient<D> {
         ensures found { (low : ℕ) (p : NaiveClient) → IsWellNamed p → IsLinkedAs D.holds low self.now p → IfOk result (λ found. found.items ≡ overlap p label.now a b) }
         ensures reads { IsTrue D.COUNTS → (low : ℕ) (p : NaiveClient) → IsWellNamed p → IsLinkedAs D.holds low self.now p
             → ReadsFewNodesFor p label.now a b steps.old steps.new }
+        ensures labelled { IsTrue D.COUNTS → (low : ℕ) (p : NaiveClient) → IsWellNamed p → IsLinkedAs D.holds low self.now p
+            → ReadsFewOfLabelFor p label.now a b steps.old steps.new }
     {
         self.doc.overlapping(self.last_stage, label, a, b, steps)
     }

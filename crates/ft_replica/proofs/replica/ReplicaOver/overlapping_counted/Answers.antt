@@ -5,7 +5,7 @@ use Rattle.ft_msg.specs.Compacted.{StandsFor}
 use Rattle.ft_msg.specs.Overlap.{overlap}
 use Rattle.ft_msg.specs.Reached.{IsReached}
 use Rattle.ft_replica.specs.Linked.{Anyone}
-use Rattle.ft_replica.proofs.FewNodeReads.{replica-reads-few}
+use Rattle.ft_replica.proofs.FewNodeReads.{replica-reads-few, replica-reads-few-of-label}
 use Rattle.ft_replica.proofs.Replicas.{kept-linked, named-kept, runs-now, shows-all, still-runs, told-runs}
 use Rattle.ft_replica.proofs.replica.ReplicaOver.overlapping_counted.Goals as goal
 
@@ -51,9 +51,33 @@ returns-in_err-overlapping-clause-reads g c = λ counts running x reached stands
     c.args.label.now c.args.a c.args.b c.args.steps.now c.overlapping.new.steps (c.overlapping.ensures.reads counts) x reached
     (subst (λ (s : ReplicaState). StandsFor s.client x) (sym c.self.view_is) stands)
 
+pub returns-clause-labelled : goal.returns-clause-labelled
+returns-clause-labelled g c = λ counts running x reached stands.
+    let i = c.self.inside in
+    let D = g.D.OwnDocument in
+    replica-reads-few-of-label D.holds D.shown g.met.D.OwnDocument.shows i.client c.client.result.now i.nameless c.self.invariant (sym c.stop.ensures ∙ c.in_default.is) c.client.ensures
+    c.args.label.now c.args.a c.args.b c.args.steps.now c.overlapping.new.steps (c.overlapping.ensures.labelled counts) x reached
+    (subst (λ (s : ReplicaState). StandsFor s.client x) (sym c.self.view_is) stands)
+
+pub returns-in_err-overlapping-clause-labelled : goal.returns-in_err-overlapping-clause-labelled
+returns-in_err-overlapping-clause-labelled g c = λ counts running x reached stands.
+    let i = c.self.inside in
+    let D = g.D.OwnDocument in
+    replica-reads-few-of-label D.holds D.shown g.met.D.OwnDocument.shows i.client c.client.result.now i.nameless c.self.invariant (sym c.stop.ensures ∙ c.in_default.is) c.client.ensures
+    c.args.label.now c.args.a c.args.b c.args.steps.now c.overlapping.new.steps (c.overlapping.ensures.labelled counts) x reached
+    (subst (λ (s : ReplicaState). StandsFor s.client x) (sym c.self.view_is) stands)
+
 -- a client that has stopped doesn't run
 pub returns-in-Some-clause-reads : goal.returns-in-Some-clause-reads
 returns-in-Some-clause-reads g c = λ counts running x reached stands.
+    let i = c.self.inside in
+    let D = g.D.OwnDocument in
+    let stops = still-runs D.holds D.shown g.met.D.OwnDocument.shows i.client (ap (λ (s : ReplicaState). s.stop) c.self.view_is ∙ running) in
+    let stopped = sym c.stop.ensures ∙ c.in-Some.is in
+    absurd (cc (stops, stopped))
+
+pub returns-in-Some-clause-labelled : goal.returns-in-Some-clause-labelled
+returns-in-Some-clause-labelled g c = λ counts running x reached stands.
     let i = c.self.inside in
     let D = g.D.OwnDocument in
     let stops = still-runs D.holds D.shown g.met.D.OwnDocument.shows i.client (ap (λ (s : ReplicaState). s.stop) c.self.view_is ∙ running) in
