@@ -5,3 +5,4 @@ pub mod CutPlaces
 pub mod RangeWalks
 pub mod JoinedPairs
 pub mod OrderedPlaces
+pub mod SettledNumbers

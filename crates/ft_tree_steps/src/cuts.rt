@@ -88,8 +88,7 @@ fn behind_run<C: Content, G: Ledger>(
     let mut end = at;
     let mut next = leaf_behind(blocks, at);
     while let Some(id) = next {
-        steps.tick();
-        let leaf = blocks.leaf(id);
+        let leaf = blocks.leaf_counted(id, steps);
         // That it has an element is read off its contract.
         let _len = leaf.content.len();
         if !leaf.is_pending() {

@@ -16,7 +16,8 @@ use std::alloc::Global;
 
 // Whether the insertion is the one that everybody sees.
 fn is_universal(stamp: &Stamp) -> bool
-    ensures { result ≡ true → stamp.now ≡ Acked 0 0 }
+    ensures only { result ≡ true → stamp.now ≡ Acked 0 0 }
+    ensures told { stamp.now ≡ Acked 0 0 → result ≡ true }
 {
     matches!(stamp, Stamp::Acked { seq: 0, conn: 0 })
 }

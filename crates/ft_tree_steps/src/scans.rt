@@ -8,16 +8,16 @@ ghost use Rattle.ft_tree_leaves.specs.Places.{settled_number};
 ghost use Rattle.ft_tree_blocks.specs.LeafPlaces.{IsOnLeaf, place_on};
 
 use crate::offsets::seen_before_on;
+use crate::places::seen_count;
 use ft_block::{Blocks, LenView};
 use ft_refs::Place;
-use ft_tree_blocks::settling::settled_on;
-use ft_tree_leaves::leaves::Standing;
 use ft_tree_leaves::{Content, TreeLeaf};
 
 /// The number, among the elements that the view sees, of this one as it is settled there: None exactly where
 /// the view sees none.
 ///
-/// The reference number of a perspective isn't below the floor.
+/// The reference number of a perspective isn't below the floor. It goes up from the leaf, as `seen_before_on` does: the next
+/// element that the view sees has as many seen ones before it as this one, and where there is none, it is the last.
 pub fn settled_number<C: Content>(
     blocks: &Blocks<TreeLeaf<C>>,
     at: &Place,
@@ -29,6 +29,8 @@ pub fn settled_number<C: Content>(
     ensures { let leaves = blocks.now.leaves in
         result ≡ settled_number (seen_in view) (elements C.units C.by leaves) (place_on C.units C.by leaves at.now) }
 {
-    let to = settled_on(blocks, at, Standing::SeenIn(view))?;
-    Some(seen_before_on(blocks, &to, view))
+    // What holds of the leaves at any time is read off its contract.
+    let _first = blocks.first();
+    let last = seen_count(blocks, view).checked_sub(1)?;
+    Some(seen_before_on(blocks, at, view).min(last))
 }

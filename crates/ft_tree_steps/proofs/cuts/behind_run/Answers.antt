@@ -42,15 +42,15 @@ loop-next-preserved g c =
     let by = g.C.Content.by in
     let xs = c.args.blocks.now.leaves in
     let id = c.in-Some.id in
-    let v = c.leaf-leaf.result.now in
+    let v = c.leaf_counted-leaf.result.now in
     let once = c.first-first.ensures.once in
     let inv = c.loop-next.invariant in
     let rest = elements us by (from_place xs (node_behind xs (Some id))) in
     let next : node_behind xs c.loop-next.end ≡ Some id = sym inv.next ∙ c.in-Some.is in
     let pending : not (is_acked v.stamps.ins) ≡ true = sym c.is_pending.ensures ∙ c.if-not-is_pending.false in
-    let more = count_behind us by xs c.loop-next.end id v once inv.live next c.leaf-leaf.ensures in
-    let here = ap (prefix_len (is_pending {U = g.row.C-Unit.Denot})) (elements-from us by xs id v once c.leaf-leaf.ensures) in
-    let fewer = pending_from us by xs id v once c.leaf-leaf.ensures pending in
+    let more = count_behind us by xs c.loop-next.end id v once inv.live next c.leaf_counted-leaf.ensures.value in
+    let here = ap (prefix_len (is_pending {U = g.row.C-Unit.Denot})) (elements-from us by xs id v once c.leaf_counted-leaf.ensures.value) in
+    let fewer = pending_from us by xs id v once c.leaf_counted-leaf.ensures.value pending in
     record {
       next = c.next-next.ensures;
       live = subst (IsPlaceIn xs) next (behind_in_place xs c.loop-next.end);
@@ -69,7 +69,7 @@ loop-next-preserved g c =
         ap (λ (o : Option ℕ). pending_leaves (from_place xs o)) c.in-Some.is,
         ap (λ (o : Option ℕ). pending_leaves (from_place xs o)) c.next-next.ensures,
         fewer,
-        c.tick.ensures,
+        c.leaf_counted-leaf.ensures.tick,
         inv.reads,
       );
     }
@@ -77,7 +77,7 @@ loop-next-preserved g c =
 pub loop-next-smaller : goal.loop-next-smaller
 loop-next-smaller g c =
     let xs = c.args.blocks.now.leaves in
-    let s = stands xs c.in-Some.id c.leaf-leaf.result.now c.first-first.ensures.once c.leaf-leaf.ensures in
+    let s = stands xs c.in-Some.id c.leaf_counted-leaf.result.now c.first-first.ensures.once c.leaf_counted-leaf.ensures.value in
     omega (
       arith,
       ap (λ (o : Option ℕ). length (from_place xs o)) c.in-Some.is,
@@ -91,7 +91,7 @@ returns-then-not-is_pending g c =
     let by = g.C.Content.by in
     let xs = c.args.blocks.now.leaves in
     let id = c.in-Some.id in
-    let v = c.leaf-leaf.result.now in
+    let v = c.leaf_counted-leaf.result.now in
     let once = c.first-first.ensures.once in
     let inv = c.loop-next.invariant in
     let rest = elements us by (from_place xs (node_behind xs (Some id))) in
@@ -101,17 +101,17 @@ returns-then-not-is_pending g c =
       run = omega (
         arith,
         ap (λ (o : Option ℕ). prefix_len (is_pending {U = g.row.C-Unit.Denot}) (elements us by (from_place xs o))) c.in-Some.is,
-        ap (prefix_len (is_pending {U = g.row.C-Unit.Denot})) (elements-from us by xs id v once c.leaf-leaf.ensures),
+        ap (prefix_len (is_pending {U = g.row.C-Unit.Denot})) (elements-from us by xs id v once c.leaf_counted-leaf.ensures.value),
         prefix-ends us by v rest settled (omega (arith, c.len-len.ensures.value, c.len-len.ensures.some)),
         inv.run,
         ap (λ (b : Bool). prefix_len (passes b) (elements us by (from_place xs (node_behind xs c.args.at)))) c.if-not-past_pending.false,
       );
-      reads = omega (arith, c.tick.ensures, inv.reads);
+      reads = omega (arith, c.leaf_counted-leaf.ensures.tick, inv.reads);
       no_reads = λ no. absurd (true_false c.args.past_pending c.if-not-past_pending.false no);
     }
 
-pub leaf-leaf-requires : goal.leaf-leaf-requires
-leaf-leaf-requires g c =
+pub leaf_counted-leaf-requires : goal.leaf_counted-leaf-requires
+leaf_counted-leaf-requires g c =
     let xs = c.args.blocks.now.leaves in
     let inv = c.loop-next.invariant in
     record {

@@ -21,7 +21,7 @@ returns-then-is_universal-clause-ok g c =
     let v = c.leaf.result.now in
     let f : TreeLeaf g.row.C.Denot → TreeLeaf g.row.C.Denot = with_leaf_stamps (λ s. record { ins = Acked 0 0; dels = [] }) in
     let none = subst (λ (o : Option (TreeLeaf g.row.C.Denot)). IsSomeAnd o (λ w. w.stamps.dels ≡ [])) c.leaf.ensures c.requires.live in
-    let ins = c.is_universal.ensures c.if-is_universal.true in
+    let ins = c.is_universal.ensures.only c.if-is_universal.true in
     let same : f v ≡ v = λ i. record v { stamps = record { ins = sym ins i; dels = sym none i } } in
     sym (change-nothing f xs c.args.id v c.first-first.ensures.once c.leaf.ensures same)
 
