@@ -126,6 +126,20 @@ impl<C: Content> Tree<C> {
         settled_number(self.blocks.list(), &at, LenView::Stage(stage))
     }
 
+    /// The number, among the elements seen at the stage, of the element that stage `from` sees with `p` seen ones before it, as
+    /// it is settled there: None exactly where the stage sees nothing. It takes no memory.
+    ///
+    /// The element is found from the root of the tree, and how many the stage sees before it by going up from its leaf.
+    pub fn place_after(&self, p: u64, from: u64, stage: u64) -> Option<u64>
+        requires usable { IsTrue self.now.usable }
+        requires inside { p < len (seen_in (Stage from)) (elements C.units C.by self.now.leaves) }
+        ensures { let list = elements C.units C.by self.now.leaves in
+            result ≡ option_and_then (settled_number (seen_in (Stage stage)) list) (place_at (seen_in (Stage from)) p list) }
+    {
+        let at = seen_offset(self.blocks.list(), p, LenView::Stage(from))?;
+        settled_number(self.blocks.list(), &at, LenView::Stage(stage))
+    }
+
     /// Makes a reference acknowledged, and slides it.
     pub fn settle_ref(&mut self, r: RefId)
         requires usable { IsTrue self.old.usable }
