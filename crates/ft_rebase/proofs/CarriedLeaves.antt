@@ -1,5 +1,5 @@
 -- The leaves after what is pending was taken off those whose insertion and a removal of it are sequenced.
-use Rattle.std.proofs.Common.{◌≡◌, ℕ, ◌-◌, Bool, true, false, cond, not, ◌&&◌, nat_lt, List, [], ◌∷◌, ◌++◌, Option, Some, None, map, filter, length, refl, sym, ◌∙◌, ap}
+use Rattle.std.proofs.Common.{◌≡◌, ℕ, ◌-◌, ◌≤◌, Bool, true, false, cond, not, ◌&&◌, nat_lt, List, [], ◌∷◌, ◌++◌, Option, Some, None, map, filter, length, refl, sym, ◌∙◌, ap, arith}
 use Rattle.std.proofs.lemmas.List.{map-append}
 use Rattle.std.specs.List.{list_any}
 use Rattle.std.specs.Option.{option_and_then, option_map}
@@ -24,6 +24,21 @@ all-sequenced [] h = refl
 all-sequenced (Acked s c ∷ ts) h = ap (λ us. Acked s c ∷ us) (all-sequenced ts h)
 all-sequenced (Local k ∷ ts) h = cc
 
+-- and the other way round
+fewer_sequenced : (ts : List Stamp) → length (filter is_acked ts) ≤ length ts
+fewer_sequenced [] = omega arith
+fewer_sequenced (Acked s c ∷ ts) = omega (arith, fewer_sequenced ts)
+fewer_sequenced (Local k ∷ ts) = omega (arith, fewer_sequenced ts)
+
+abbrev stamps_behind : List Stamp → List Stamp
+stamps_behind [] = []
+stamps_behind (t ∷ ts) = ts
+
+only-sequenced : (ts : List Stamp) → filter is_acked ts ≡ ts → list_any (λ t. not (is_acked t)) ts ≡ false
+only-sequenced [] h = refl
+only-sequenced (Acked s c ∷ ts) h = only-sequenced ts (ap stamps_behind h)
+only-sequenced (Local k ∷ ts) h = absurd (omega (arith, fewer_sequenced ts, ap length h))
+
 module _ {C : Type 0} where
   -- a leaf that is gone, and one that isn't
   pub carried-gone : (x : TreeLeaf C) → is_gone x.stamps ≡ true → carried_leaf x ≡ sequenced_leaf x
@@ -42,6 +57,9 @@ module _ {C : Type 0} where
         overlay = record { acked = x.overlay.acked; pending = pending };
       } in
       ap (λ ds. leaf ds []) (all-sequenced x.stamps.dels h) ∙ ap (leaf x.stamps.dels) (sym g)
+
+  pub bare-only : (x : TreeLeaf C) → sequenced_leaf x ≡ x → (list_any (λ t. not (is_acked t)) x.stamps.dels ≡ false) × (x.overlay.pending ≡ [])
+  bare-only x h = (only-sequenced x.stamps.dels (ap (λ (y : TreeLeaf C). y.stamps.dels) h), sym (ap (λ (y : TreeLeaf C). y.overlay.pending) h))
 
   same-content : (x : TreeLeaf C) → (carried_leaf x).content ≡ x.content
   same-content x = step (is_gone x.stamps)

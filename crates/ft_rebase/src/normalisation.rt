@@ -82,7 +82,8 @@ fn has_local(stamps: &[Stamp]) -> bool
 fn has_pending<C: Content>(tree: &Tree<C>, leaf: NodeId) -> bool
     requires usable { IsTrue tree.now.usable }
     requires live { IsLeafIn tree.now.leaves leaf }
-    ensures { IsFalse result → (v : TreeLeaf C) → value_at tree.now.leaves leaf ≡ Some v → sequenced_leaf v ≡ v }
+    ensures none { IsFalse result → (v : TreeLeaf C) → value_at tree.now.leaves leaf ≡ Some v → sequenced_leaf v ≡ v }
+    ensures some { (v : TreeLeaf C) → value_at tree.now.leaves leaf ≡ Some v → sequenced_leaf v ≡ v → IsFalse result }
 {
     let marked = has_local(tree.leaf_element(leaf).dels.as_slice());
     marked || tree.leaf_overlay(leaf).has_pending()

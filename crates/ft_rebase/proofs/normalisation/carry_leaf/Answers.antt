@@ -20,7 +20,7 @@ returns-then-not-is_gone-clause-leaves g c =
           carried-kept v.0 (ap is_gone stamps ∙ sym c.is_gone.ensures ∙ w.if-not-is_gone.true)
       | then-not-is_gone-via-else-not-is_gone+then-not-has_pending w ↦
           carried-gone v.0 (ap is_gone stamps ∙ sym c.is_gone.ensures ∙ w.if-not-is_gone.false)
-          ∙ w.has_pending.ensures w.if-not-has_pending.true v.0 v.1
+          ∙ w.has_pending.ensures.none w.if-not-has_pending.true v.0 v.1
     ]))
 
 pub returns-clause-leaves : goal.returns-clause-leaves
