@@ -100,6 +100,7 @@ impl Case {
             "room" => self.room = rest.parse().unwrap_or(ROOM),
             "repeat" => push_repeated(&mut self.input, rest)?,
             "written-by" => push_written(alloc, &mut self.input, rest)?,
+            "times" => push_times(alloc, &mut self.input, rest)?,
             "views" => self.views = true,
             "each-cut" => self.series = Series::Cuts,
             "each-failing-read" => self.series = Series::Reads(rest.parse().unwrap_or(0)),
@@ -239,5 +240,35 @@ fn push_repeated(bytes: &mut Vec<u8>, line: &str) -> Result<(), OutOfMemory> {
     let byte: u8 = byte.parse().unwrap_or(0);
     let count: usize = count.parse().unwrap_or(0);
     bytes.resize(bytes.len().saturating_add(count), byte)?;
+    Ok(())
+}
+
+// Adds a text for each number from a first one to a last one; the line has both numbers and the text.
+fn push_times(alloc: Global, bytes: &mut Vec<u8>, line: &str) -> Result<(), OutOfMemory> {
+    let (first, rest) = line.split_once(' ').unwrap_or((line, ""));
+    let (last, text) = rest.split_once(' ').unwrap_or((rest, ""));
+    let first: u64 = first.parse().unwrap_or(1);
+    let last: u64 = last.parse().unwrap_or(0);
+    for number in first..=last {
+        push_numbered(alloc, bytes, number, text)?;
+    }
+    Ok(())
+}
+
+// Adds a text with the number in the place of each `#`, and an LF in that of each `~`.
+fn push_numbered(
+    alloc: Global,
+    bytes: &mut Vec<u8>,
+    number: u64,
+    text: &str,
+) -> Result<(), OutOfMemory> {
+    let digits = format!(in alloc; "{number}")?;
+    for byte in text.as_bytes() {
+        match *byte {
+            b'#' => bytes.extend_from_slice(digits.as_bytes())?,
+            b'~' => bytes.push(b'\n')?,
+            other => bytes.push(other)?,
+        }
+    }
     Ok(())
 }

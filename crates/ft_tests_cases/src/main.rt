@@ -8,7 +8,8 @@
 //! with a byte and a count, which is input. The line `end-without-lf` ends an input whose last line has no
 //! LF. Lines that are empty or begin with `#` are passed outside of an input.
 //!
-//! Before the input, `written-by` puts into it what a run with the arguments behind it writes. With `views` only the
+//! Before the input, `written-by` puts into it what a run with the arguments behind it writes, and `times` a text for each number
+//! from a first one to a last one: both numbers stand before the text, in which `#` is the number and `~` an LF. With `views` only the
 //! number of views in the report is written, and how many of them show what the first one shows.
 //!
 //! One of three lines more makes a case run many times: `each-cut` with each beginning of its input, and

@@ -1,3 +1,4 @@
 mod MarkerLists
+mod NewLeaves
 mod PassingLaws
 mod PlayingLaws

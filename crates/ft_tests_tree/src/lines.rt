@@ -12,6 +12,8 @@ pub(crate) enum Verb {
     Compact,
     Sweep,
     Leaves,
+    Table,
+    Find,
     Normalise,
 }
 
@@ -70,6 +72,8 @@ impl<'a> Line<'a> {
             ("compact", 1) => Some(Verb::Compact),
             ("sweep", 2) => Some(Verb::Sweep),
             ("leaves", 0) => Some(Verb::Leaves),
+            ("table", 0) => Some(Verb::Table),
+            ("find", 0) => Some(Verb::Find),
             ("normalise", 0) => Some(Verb::Normalise),
             _ => None,
         }

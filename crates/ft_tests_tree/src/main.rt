@@ -13,6 +13,8 @@
 //! | `unmark STAGE` | what the stage marks of the first leaf is taken back |
 //! | `compact FLOOR`, `sweep FLOOR BUDGET` | compaction of all leaves, of so many; how many leaves they take out is written |
 //! | `leaves` | the leaves are written, each with its node, its insertion and its removals; and how many elements there are |
+//! | `table` | of a table of its own what four perspectives see is written |
+//! | `find` | where the 5000th of ten thousand leaves is found is written, in blocks of its own |
 //! | `normalise` | of a tree of its own the leaves are written, what is sent again of its two stages, and the leaves once it is normalised |
 //!
 //! Refused are positions above the length seen, perspectives and floors below the floor, and `acknowledge` after `unmark` and
@@ -27,6 +29,7 @@ mod normalising;
 mod progress;
 mod script;
 mod sights;
+mod tables;
 mod texts;
 mod upkeep;
 

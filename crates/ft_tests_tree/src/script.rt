@@ -3,12 +3,14 @@
 ghost use Rattle.std.specs.Prelude.{OnOk};
 ghost use Rattle.ft_tests_tree.specs.Playing.{GoesTogether};
 
+use crate::bounds::push_bound;
 use crate::edits::{Edit, Kind, make_edit};
 use crate::faults::StepFault;
 use crate::lines::{Line, Verb};
 use crate::normalising::push_normalised;
 use crate::progress::Progress;
 use crate::sights::push_leaves;
+use crate::tables::push_lengths;
 use crate::upkeep::{acknowledge_next, compact, unmark};
 use ft_base::OutOfMemory;
 use ft_tests_input::Program;
@@ -115,6 +117,14 @@ fn take_step(
         }
         Some(Verb::Leaves) => {
             push_leaves(tree, out)?;
+            Ok(true)
+        }
+        Some(Verb::Table) => {
+            push_lengths(alloc, out)?;
+            Ok(true)
+        }
+        Some(Verb::Find) => {
+            push_bound(alloc, out)?;
             Ok(true)
         }
         Some(Verb::Normalise) => {
