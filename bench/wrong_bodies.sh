@@ -30,7 +30,16 @@ for name in "${names[@]}"; do
     done
 done
 
+# What refused an edit: the file and the goal that isn't proved, or what was said.
 (cd "$room" && rt must-fail "${names[@]}") | awk -v missing="$missing" '
+    function refuser(told) {
+        if (match(told, /src\/[^:]+/) == 0)
+            return told
+        file = substr(told, RSTART, RLENGTH)
+        if (match(told, /\(`[^`]+`\)/) == 0)
+            return told
+        return file ", " substr(told, RSTART + 2, RLENGTH - 4)
+    }
     $1 " " $2 != "rt: must-fail" { next }
     {
         split($3, path, "/")
@@ -39,12 +48,13 @@ done
         is_twin = sub(/-twin$/, "", body)
         told = $0
         sub(/^rt: must-fail [^ ]+ /, "", told)
+        is_refused = sub(/^refused, as it must be: /, "", told)
     }
-    is_twin && told ~ /^NOT REFUSED/ { kept++; next }
-    is_twin { print path[1], body ": its twin: " told; bad++; next }
-    told ~ /^refused, as it must be: / { sub(/^refused, as it must be: /, "", told); print path[1], body ": " told; refused++; next }
-    { print path[1], body ": " told; bad++ }
+    is_twin && told ~ /^NOT REFUSED/ { accepted++; next }
+    is_twin { print path[1], body ": its twin: " told; others++; next }
+    is_refused { print path[1], body ": " refuser(told); refused++; next }
+    { print path[1], body ": " told; others++ }
     END {
-        printf "%d wrong bodies refused, %d twins accepted, %d others, %d without a twin\n", refused, kept, bad, missing
-        exit refused + kept == 0 || bad + missing > 0
+        printf "%d wrong bodies refused, %d twins accepted, %d others, %d without a twin\n", refused, accepted, others, missing
+        exit refused + accepted == 0 || others + missing > 0
     }'
