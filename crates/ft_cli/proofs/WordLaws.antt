@@ -1,6 +1,6 @@
 -- What the end of a run says is said of its arguments by its status.
 use Rattle.std.specs.Prelude.{⊤}
-use Rattle.std.proofs.Common.{◌≡◌, ℕ, List, [], Option, Some, None, Bool, true, false, Result, Ok, Err, refl, sym, subst, arith, inl, IfOk, OnOk}
+use Rattle.std.proofs.Common.{◌≡◌, ◌≢◌, ℕ, List, [], Option, Some, None, Bool, true, false, Result, Ok, Err, refl, sym, subst, arith, inl, IfOk, IsErrOf, OnOk}
 use Rattle.std.specs.Io.KnownBytes.{IsAtEnd}
 use Rattle.ft_io.specs.Streams.{Rose}
 use Rattle.ft_io.proofs.TakenAndLeft.{Appends-nil, Consumes-nil}
@@ -12,7 +12,7 @@ use Rattle.ft_replay.specs.LineForm.{Account}
 use Rattle.ft_replay.specs.Run.{Moves, Says}
 use Rattle.ft_replay.specs.Writing.{WritesBytes}
 use Rattle.ft_cli.specs.declared.statuses.Status.{Status}
-use Rattle.ft_cli.specs.declared.statuses.Status.TheVariants.{Usage}
+use Rattle.ft_cli.specs.declared.statuses.Status.TheVariants.{ReadFault, Usage, WriteFault}
 use Rattle.ft_cli.specs.declared.words.Form.{Form}
 use Rattle.ft_cli.specs.Report.{account_of}
 use Rattle.ft_cli.specs.Run.{EndsWhole, SaysByStatus, SaysForWords, SaysOfForm}
@@ -97,3 +97,21 @@ whole_steady A end status is h whole = by end h (subst EndsWhole is whole)
     by : (r : Result Ending Fault) → OnOk r A → EndsWhole (end_status r) → A
     by (Ok s) g w = g
     by (Err f) g w = fault-partial f w
+
+-- ---- which fault ended the run
+
+-- what holds where the end of a run isn't that a read failed holds where its status isn't ReadFault
+pub source_kept : (A : Type 0) (end : Result Ending Fault) (status : Status) → status ≡ end_status end → (¬ IsErrOf end fault.Read → A) → status ≢ ReadFault → A
+source_kept A (Ok ending) status is kept other = kept (λ e. cc)
+source_kept A (Err fault.Read) status is kept other = absurd (other is)
+source_kept A (Err fault.Write) status is kept other = kept (λ e. cc)
+source_kept A (Err fault.OutOfMemory) status is kept other = kept (λ e. cc)
+source_kept A (Err fault.InputLimit) status is kept other = kept (λ e. cc)
+
+-- the same of a write
+pub sink_kept : (A : Type 0) (end : Result Ending Fault) (status : Status) → status ≡ end_status end → (¬ IsErrOf end fault.Write → A) → status ≢ WriteFault → A
+sink_kept A (Ok ending) status is kept other = kept (λ e. cc)
+sink_kept A (Err fault.Write) status is kept other = absurd (other is)
+sink_kept A (Err fault.Read) status is kept other = kept (λ e. cc)
+sink_kept A (Err fault.OutOfMemory) status is kept other = kept (λ e. cc)
+sink_kept A (Err fault.InputLimit) status is kept other = kept (λ e. cc)

@@ -1,6 +1,6 @@
 //! A run: what the arguments ask for.
 
-ghost use Rattle.std.specs.Prelude.{◌≡◌, ◌↔◌, false, None, IfSome};
+ghost use Rattle.std.specs.Prelude.{◌≡◌, ◌≢◌, ◌↔◌, false, None, IfSome};
 ghost use Rattle.std.specs.Io.KnownBytes.{Appends};
 ghost use Rattle.ft_io.specs.Streams.{Rose};
 ghost use Rattle.ft_replay.specs.Run.{Moves};
@@ -25,8 +25,8 @@ use std::alloc::Global;
 /// `Done` or `SomeRefused` where the report is whole, `ReadFault` and `WriteFault` only where the count
 /// of faults of the source or the sink rose, `InputLimit` exactly where the source gave a 16,777,217th
 /// byte and no write failed before, and `OutOfMemory` where no memory was found. The first fault ends
-/// the run: in `Done` and `SomeRefused` no read and no write failed. Where one ended it, the bytes written
-/// begin the report, or what the ended lines write.
+/// the run: no read failed but where it returns `ReadFault`, and no write but where it returns `WriteFault`. Where
+/// a fault ended it, the bytes written begin the report, or what the ended lines write.
 pub fn run<S: Source, K: Sink>(
     alloc: Global,
     words: &Vec<String>,
@@ -50,8 +50,12 @@ pub fn run<S: Source, K: Sink>(
     ensures complete { IfSome (S.remaining src.old) (λ input. IsUndisturbed (texts_of words.now.items) input
         (Rose (S.faults src.old) (S.faults src.new)) (Rose (K.faults out.old) (K.faults out.new)) → EndsWholeOrWanting result) }
 
-    // After a fault nothing more is read or written: no whole report is one of which a read or a write failed.
+    // No whole report is one of which a read or a write failed.
     ensures steady { EndsWhole result → (S.faults src.new ≡ S.faults src.old) × (K.faults out.new ≡ K.faults out.old) }
+
+    // The first fault ends the run: no read failed but the one that `ReadFault` tells, and no write but that of `WriteFault`.
+    ensures source_kept { result ≢ Status.ReadFault → S.faults src.new ≡ S.faults src.old }
+    ensures sink_kept { result ≢ Status.WriteFault → K.faults out.new ≡ K.faults out.old }
 {
     match read_words(words) {
         Some(Form::Log) => ended(replay_log::<Client, S, K>(alloc, src, out)),

@@ -2,7 +2,7 @@ use Rattle.std.proofs.Common.{◌≡◌, Some, ap, refl, sym, ◌∙◌}
 use Rattle.ft_io.specs.Streams.{Rose}
 use Rattle.ft_cli.specs.declared.words.Form.TheVariants.{Gen, Load, Log, Map, Play, Session}
 use Rattle.ft_cli.specs.Words.{form_of, texts_of}
-use Rattle.ft_cli.proofs.WordLaws.{moves_read, moves_unread, moves_usage, whole_steady}
+use Rattle.ft_cli.proofs.WordLaws.{moves_read, moves_unread, moves_usage, sink_kept, source_kept, whole_steady}
 use Rattle.ft_cli.proofs.running.run.Goals as goal
 
 pub returns-in-None-clause-moves : goal.returns-in-None-clause-moves
@@ -60,3 +60,43 @@ returns-in-Some-Gen-clause-steady g c whole =
 pub returns-in-Some-Play-clause-steady : goal.returns-in-Some-Play-clause-steady
 returns-in-Some-Play-clause-steady g c whole =
     (refl, whole_steady (g.K.Sink.faults c.write_play.new.out ≡ g.K.Sink.faults c.args.out.now) c.write_play.result c.ended-in-Some-Play.result c.ended-in-Some-Play.ensures c.write_play.ensures.steady whole)
+
+pub returns-in-Some-Log-clause-source_kept : goal.returns-in-Some-Log-clause-source_kept
+returns-in-Some-Log-clause-source_kept g c =
+    source_kept (g.S.Source.faults c.replay_log.new.src ≡ g.S.Source.faults c.args.src.now) c.replay_log.result c.ended.result c.ended.ensures c.replay_log.ensures.source_kept
+
+pub returns-in-Some-Log-clause-sink_kept : goal.returns-in-Some-Log-clause-sink_kept
+returns-in-Some-Log-clause-sink_kept g c =
+    sink_kept (g.K.Sink.faults c.replay_log.new.out ≡ g.K.Sink.faults c.args.out.now) c.replay_log.result c.ended.result c.ended.ensures c.replay_log.ensures.sink_kept
+
+pub returns-in-Some-Load-clause-source_kept : goal.returns-in-Some-Load-clause-source_kept
+returns-in-Some-Load-clause-source_kept g c =
+    source_kept (g.S.Source.faults c.replay_load.new.src ≡ g.S.Source.faults c.args.src.now) c.replay_load.result c.ended-in-Some-Load.result c.ended-in-Some-Load.ensures c.replay_load.ensures.source_kept
+
+pub returns-in-Some-Load-clause-sink_kept : goal.returns-in-Some-Load-clause-sink_kept
+returns-in-Some-Load-clause-sink_kept g c =
+    sink_kept (g.K.Sink.faults c.replay_load.new.out ≡ g.K.Sink.faults c.args.out.now) c.replay_load.result c.ended-in-Some-Load.result c.ended-in-Some-Load.ensures c.replay_load.ensures.sink_kept
+
+pub returns-in-Some-Map-clause-source_kept : goal.returns-in-Some-Map-clause-source_kept
+returns-in-Some-Map-clause-source_kept g c =
+    source_kept (g.S.Source.faults c.replay_map.new.src ≡ g.S.Source.faults c.args.src.now) c.replay_map.result c.ended-in-Some-Map.result c.ended-in-Some-Map.ensures c.replay_map.ensures.source_kept
+
+pub returns-in-Some-Map-clause-sink_kept : goal.returns-in-Some-Map-clause-sink_kept
+returns-in-Some-Map-clause-sink_kept g c =
+    sink_kept (g.K.Sink.faults c.replay_map.new.out ≡ g.K.Sink.faults c.args.out.now) c.replay_map.result c.ended-in-Some-Map.result c.ended-in-Some-Map.ensures c.replay_map.ensures.sink_kept
+
+pub returns-in-Some-Session-clause-source_kept : goal.returns-in-Some-Session-clause-source_kept
+returns-in-Some-Session-clause-source_kept g c =
+    source_kept (g.S.Source.faults c.replay_session.new.src ≡ g.S.Source.faults c.args.src.now) c.replay_session.result c.ended-in-Some-Session.result c.ended-in-Some-Session.ensures c.replay_session.ensures.source_kept
+
+pub returns-in-Some-Session-clause-sink_kept : goal.returns-in-Some-Session-clause-sink_kept
+returns-in-Some-Session-clause-sink_kept g c =
+    sink_kept (g.K.Sink.faults c.replay_session.new.out ≡ g.K.Sink.faults c.args.out.now) c.replay_session.result c.ended-in-Some-Session.result c.ended-in-Some-Session.ensures c.replay_session.ensures.sink_kept
+
+pub returns-in-Some-Gen-clause-sink_kept : goal.returns-in-Some-Gen-clause-sink_kept
+returns-in-Some-Gen-clause-sink_kept g c =
+    sink_kept (g.K.Sink.faults c.write_generated.new.out ≡ g.K.Sink.faults c.args.out.now) c.write_generated.result c.ended-in-Some-Gen.result c.ended-in-Some-Gen.ensures c.write_generated.ensures.kept
+
+pub returns-in-Some-Play-clause-sink_kept : goal.returns-in-Some-Play-clause-sink_kept
+returns-in-Some-Play-clause-sink_kept g c =
+    sink_kept (g.K.Sink.faults c.write_play.new.out ≡ g.K.Sink.faults c.args.out.now) c.write_play.result c.ended-in-Some-Play.result c.ended-in-Some-Play.ensures c.write_play.ensures.kept
