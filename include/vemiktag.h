@@ -27,6 +27,7 @@ extern "C" {
 enum {
     VEMIKTAG_DONE = 0,          /* done; nothing was refused, no sub-operation skipped */
     VEMIKTAG_SOME_REFUSED = 1,  /* a line was refused, or a sub-operation skipped; of a client: the call was refused */
+    VEMIKTAG_UNTOLD = 2,        /* of a client: the call was refused, and there was no memory for the line that tells why */
     VEMIKTAG_TOO_SMALL = 4,     /* there are more bytes to write than there is room for */
     VEMIKTAG_OUT_OF_MEMORY = 5, /* there was no memory */
     VEMIKTAG_TOO_LONG = 6,      /* the input has more than 16,777,216 bytes, or the session has heard more lines, or a client is full */
@@ -94,6 +95,7 @@ uint32_t vemiktag_client_new(vemiktag_client *client);
  *
  * VEMIKTAG_DONE: it was done.
  * VEMIKTAG_SOME_REFUSED: it was refused, and nothing changed; a line that waits to be read then tells why.
+ * VEMIKTAG_UNTOLD: it was refused, and nothing changed; there was no memory for that line.
  * VEMIKTAG_OUT_OF_MEMORY: the client takes nothing more; what waits can still be read.
  * VEMIKTAG_TOO_LONG: a count would pass its greatest number (docs/CALLING.md), and nothing changed.
  * VEMIKTAG_CLOSED: it takes nothing more, or isn't open; nothing changed. */

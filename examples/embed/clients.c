@@ -79,8 +79,30 @@ static void try_client(void) {
     try_closed(&client);
 }
 
+/* A call that is refused, with each of its allocations failing in its turn: the client ends, or it goes on and the line alone is lost. */
+static void try_untold(void) {
+    long turn = 0, untold = 0;
+    for (bool failed = true; failed; turn++) {
+        vemiktag_client client = {0};
+        expect(vemiktag_client_new(&client) == VEMIKTAG_DONE && CALL(connect, &client, "a/1") == VEMIKTAG_DONE, "a client waits to be online");
+        expect(CALL(process, &client, join) == VEMIKTAG_DONE && CALL(edit, &client, typed) == VEMIKTAG_DONE, "it is, and types");
+        left = turn;
+        uint32_t status = CALL(edit, &client, astray);
+        failed = left < 0;
+        left = -1;
+        expect(status == VEMIKTAG_SOME_REFUSED || (failed && (status == VEMIKTAG_UNTOLD || status == VEMIKTAG_OUT_OF_MEMORY)), "it is refused, or has no memory");
+        if (status == VEMIKTAG_UNTOLD) {
+            expect(reads(&client, "") && vemiktag_client_view(&client) == VEMIKTAG_DONE && reads(&client, shown), "nothing but the line is lost");
+            untold++;
+        }
+        vemiktag_client_free(&client);
+    }
+    expect(untold > 0, "a line was lost");
+}
+
 int main(void) {
     try_client();
+    try_untold();
     long turn = 0;
     for (bool failed = true; failed; turn++) {
         vemiktag_client client = {0};

@@ -4,7 +4,7 @@ import ctypes
 import json
 import os
 
-DONE, SOME_REFUSED, TOO_SMALL, OUT_OF_MEMORY, TOO_LONG, CLOSED, NOTHING = 0, 1, 4, 5, 6, 7, 8
+DONE, SOME_REFUSED, UNTOLD, TOO_SMALL, OUT_OF_MEMORY, TOO_LONG, CLOSED, NOTHING = 0, 1, 2, 4, 5, 6, 7, 8
 
 _HERE = os.path.dirname(os.path.abspath(__file__))
 _lib = ctypes.CDLL(os.environ.get("VEMIKTAG_SO", os.path.join(_HERE, "libvemiktag.so")))
@@ -195,6 +195,8 @@ class Client:
             raise MemoryError
         if status in (TOO_LONG, CLOSED):
             raise ValueError("the client is full" if status == TOO_LONG else "the client takes nothing more")
+        if status == UNTOLD:
+            raise ValueError("refused, and there was no memory to tell why")
         if status == NOTHING:
             return None
         told = self._read()

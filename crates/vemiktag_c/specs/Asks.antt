@@ -11,17 +11,17 @@ use Rattle.vemiktag_c.specs.declared.asks.Ask.TheVariants as ask
 use Rattle.vemiktag_c.specs.declared.asks.Role.{Role}
 use Rattle.vemiktag_c.specs.declared.asks.Role.TheVariants as role
 
--- what the session `s` and the client `c` become that are asked this, with these bytes, and what is told of it
+-- what the session `s` and the client `c` become that are asked this, with these bytes, and what is told of it; the one that isn't asked stays
 abbrev pub Answers : {R : Type 0} {g : Ghosts R} → Ask → List ℕ → HeldSession R g → HeldClient R → HeldSession R g → HeldClient R
     → List ℕ → ℕ → ℕ → Type 0
-Answers ask.Line bytes s c s' c' room count status = HearsLine s s' bytes status
-Answers ask.Close bytes s c s' c' room count status = ClosesSession s s' status
-Answers ask.ReadReport bytes s c s' c' room count status = (status ≡ 0) × ReadsReport s s' room count
-Answers (ask.Call call) bytes s c s' c' room count status = CallsClient (call_step call bytes) (call_exceeds call bytes) c c' status
-Answers ask.Outgoing bytes s c s' c' room count status = SendsDraft c c' status
-Answers ask.View bytes s c s' c' room count status = ShowsClient c c' status
+Answers ask.Line bytes s c s' c' room count status = HearsLine s s' bytes status × (c' ≡ c)
+Answers ask.Close bytes s c s' c' room count status = ClosesSession s s' status × (c' ≡ c)
+Answers ask.ReadReport bytes s c s' c' room count status = (status ≡ 0) × ReadsReport s s' room count × (c' ≡ c)
+Answers (ask.Call call) bytes s c s' c' room count status = CallsClient (call_step call bytes) (call_exceeds call bytes) c c' status × (s' ≡ s)
+Answers ask.Outgoing bytes s c s' c' room count status = SendsDraft c c' status × (s' ≡ s)
+Answers ask.View bytes s c s' c' room count status = ShowsClient c c' status × (s' ≡ s)
 Answers ask.Waiting bytes s c s' c' room count status = (status ≡ 0) × (s' ≡ s) × (c' ≡ c)
-Answers ask.ReadTold bytes s c s' c' room count status = (status ≡ 0) × ReadsClient c c' room count
+Answers ask.ReadTold bytes s c s' c' room count status = (status ≡ 0) × ReadsClient c c' room count × (s' ≡ s)
 
 -- what the count is where that is asked, if so many bytes of the session wait then, and so many of the client
 abbrev pub Counts : Ask → ℕ → ℕ → List ℕ → ℕ → Type 0

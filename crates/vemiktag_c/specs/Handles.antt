@@ -31,18 +31,19 @@ pub record Opens (new : Handle) (status : ℕ) : Type 0 where
 
 -- a line was given to the session, and so many bytes wait to be read
 pub record Hears (old new : Handle) (line : List ℕ) (count status : ℕ) : Type 0 where
-  pub run : Calls (λ a b s. HearsLine a.session b.session line s) (held_run old) (held_run new) status
+  pub run : Calls (λ a b s. HearsLine a.session b.session line s × (b.client ≡ a.client)) (held_run old) (held_run new) status
   pub waits : count ≡ waiting (held_run new)
 
 -- the session was closed, and so many bytes wait to be read
 pub record Closes (old new : Handle) (count status : ℕ) : Type 0 where
-  pub run : Calls (λ a b s. ClosesSession a.session b.session s) (held_run old) (held_run new) status
+  pub run : Calls (λ a b s. ClosesSession a.session b.session s × (b.client ≡ a.client)) (held_run old) (held_run new) status
   pub waits : count ≡ waiting (held_run new)
 
--- so many bytes more were read
-pub record ReadsOn (old new : Handle) (room : List ℕ) (count status : ℕ) : Type 0 where
-  pub run : Calls (λ a b s. (s ≡ 0) × ReadsReport a.session b.session room count) (held_run old) (held_run new) status
+-- so many bytes more were read into the room, in which these bytes were before; none of a closed one
+pub record ReadsOn (old new : Handle) (before room : List ℕ) (count status : ℕ) : Type 0 where
+  pub run : Calls (λ a b s. (s ≡ 0) × ReadsReport a.session b.session room count × (b.client ≡ a.client)) (held_run old) (held_run new) status
   pub within : count ≤ length room
+  pub none : held_run old ≡ None → (count ≡ 0) × (room ≡ before)
 
 -- a new client; without memory there is none
 pub record OpensClient (new : Handle) (status : ℕ) : Type 0 where
@@ -60,10 +61,11 @@ pub record WaitsOn (old new : Handle) (count status : ℕ) : Type 0 where
   pub run : Calls (λ a b s. (s ≡ 0) × (b ≡ a)) (held_run old) (held_run new) status
   pub waits : count ≡ client_waiting (held_run new)
 
--- so many bytes more were read
-pub record ReadsOnClient (old new : Handle) (room : List ℕ) (count status : ℕ) : Type 0 where
-  pub run : Calls (λ a b s. (s ≡ 0) × ReadsClient a.client b.client room count) (held_run old) (held_run new) status
+-- the same of a client
+pub record ReadsOnClient (old new : Handle) (before room : List ℕ) (count status : ℕ) : Type 0 where
+  pub run : Calls (λ a b s. (s ≡ 0) × ReadsClient a.client b.client room count × (b.session ≡ a.session)) (held_run old) (held_run new) status
   pub within : count ≤ length room
+  pub none : held_run old ≡ None → (count ≡ 0) × (room ≡ before)
 
 -- what a handle answers that frees its run, if it has one
 abbrev pub freed_status : Option ClientRun → ℕ

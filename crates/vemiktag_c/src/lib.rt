@@ -4,7 +4,7 @@
 //! A session and a client are structs that C holds. Each call of a closed one returns `CLOSED`, and changes nothing.
 #![tactic(auto)]
 
-ghost use Rattle.std.specs.Prelude.{[], IfOk};
+ghost use Rattle.std.specs.Prelude.{◌≡◌, [], IfOk, None};
 ghost use Rattle.ft_door.specs.Clients.{CallsClient, SendsDraft, ShowsClient};
 ghost use Rattle.ft_door.specs.Editors.{call_exceeds, call_step};
 ghost use Rattle.ft_report.specs.Reports.{Tells};
@@ -32,7 +32,7 @@ use std::alloc::Global;
 ///
 /// Returns 0 where it is there, and nothing was refused or skipped, 1 where something was; 4 where it has more bytes than
 /// there is room for; 5 where there was no memory; and 6 where the input has more than 16,777,216 bytes. `count` is 0 in
-/// the last two.
+/// the last two, and `report` is as it was in the last three.
 #[unsafe(no_mangle)]
 pub extern "C" fn vemiktag_report(
     alloc: Global,
@@ -40,7 +40,7 @@ pub extern "C" fn vemiktag_report(
     report: &mut [u8],
     count: &mut usize,
 ) -> u32
-    ensures { Tells input.now report.new count.new result }
+    ensures { Tells input.now report.old report.new count.new result }
 {
     report_into::<Client>(alloc, input, report, count)
 }
@@ -88,7 +88,7 @@ pub extern "C" fn vemiktag_session_close(
 
 /// Reads the next bytes of the report into the first of `report`, as many as it has room for; `count` is how many.
 ///
-/// Returns 0, and 7 where the session is closed.
+/// Returns 0, and 7 where the session is closed: then `count` is 0.
 #[unsafe(no_mangle)]
 pub extern "C" fn vemiktag_session_read(
     alloc: Global,
@@ -96,7 +96,7 @@ pub extern "C" fn vemiktag_session_read(
     report: &mut [u8],
     count: &mut usize,
 ) -> u32
-    ensures { ReadsOn session.old session.new report.new count.new result }
+    ensures { ReadsOn session.old session.new report.old report.new count.new result }
 {
     asked(alloc, session, Ask::ReadReport, &[], report, count)
 }
@@ -129,12 +129,12 @@ pub extern "C" fn vemiktag_client_new(alloc: Global, client: &mut Handle) -> u32
 
 /// The client starts anew, from the summary that these bytes are. What it had is gone.
 ///
-/// Returns 0 where it did; 1 where the summary was refused, and then why waits to be read; 5 where there was no memory, and then the
-/// client takes nothing more; 6 where the number of its messages, and thrice that of the elements in its longest list, are
+/// Returns 0 where it did; 1 where the summary was refused, and then why waits to be read; 2 where it was, and there was no memory for that
+/// line; 5 where there was no memory, and then the client takes nothing more; 6 where the number of its messages, and thrice that of the elements in its longest list, are
 /// more than 2^52; 7 where it takes nothing, or is closed. In all but 0 and 5 the client is as it was.
 #[unsafe(no_mangle)]
 pub extern "C" fn vemiktag_client_load(alloc: Global, client: &mut Handle, summary: &[u8]) -> u32
-    ensures { Calls (λ a b s. CallsClient (call_step Call.Load summary.now) (call_exceeds Call.Load summary.now) a.client b.client s) (held_run client.old) (held_run client.new) result }
+    ensures { Calls (λ a b s. CallsClient (call_step Call.Load summary.now) (call_exceeds Call.Load summary.now) a.client b.client s × (b.session ≡ a.session)) (held_run client.old) (held_run client.new) result }
 {
     asked(
         alloc,
@@ -148,11 +148,11 @@ pub extern "C" fn vemiktag_client_load(alloc: Global, client: &mut Handle, summa
 
 /// The client waits for the join of the connection of this name, from which on it is online.
 ///
-/// Returns 0; 1 where it has a connection, or waits for one; 5 where there was no memory, and then the client takes nothing
-/// more; 7 where it takes nothing, or is closed.
+/// Returns 0; 1 where it has a connection, or waits for one; 2 where it has, and there was no memory for the line that says so; 5 where there
+/// was no memory, and then the client takes nothing more; 7 where it takes nothing, or is closed.
 #[unsafe(no_mangle)]
 pub extern "C" fn vemiktag_client_connect(alloc: Global, client: &mut Handle, name: &[u8]) -> u32
-    ensures { Calls (λ a b s. CallsClient (call_step Call.Connect name.now) (call_exceeds Call.Connect name.now) a.client b.client s) (held_run client.old) (held_run client.new) result }
+    ensures { Calls (λ a b s. CallsClient (call_step Call.Connect name.now) (call_exceeds Call.Connect name.now) a.client b.client s × (b.session ≡ a.session)) (held_run client.old) (held_run client.new) result }
 {
     asked(
         alloc,
@@ -166,21 +166,22 @@ pub extern "C" fn vemiktag_client_connect(alloc: Global, client: &mut Handle, na
 
 /// The client has no connection any more: its drafts that aren't sent are gone, its edits stay pending.
 ///
-/// Returns 0; 1 where it has none, and waits for none; 7 where it takes nothing, or is closed.
+/// Returns 0; 1 where it has none, and waits for none; 2 where it hasn't, and there was no memory for the line that says so; 7 where it takes
+/// nothing, or is closed.
 #[unsafe(no_mangle)]
 pub extern "C" fn vemiktag_client_drop(alloc: Global, client: &mut Handle) -> u32
-    ensures { Calls (λ a b s. CallsClient (call_step Call.Drop []) (call_exceeds Call.Drop []) a.client b.client s) (held_run client.old) (held_run client.new) result }
+    ensures { Calls (λ a b s. CallsClient (call_step Call.Drop []) (call_exceeds Call.Drop []) a.client b.client s × (b.session ≡ a.session)) (held_run client.old) (held_run client.new) result }
 {
     asked(alloc, client, Ask::Call(Call::Drop), &[], &mut [], &mut 0)
 }
 
 /// The client takes an edit of its own, which is the text of an event `edit`; the `client` in there is passed over.
 ///
-/// Returns 0 where it was taken; 1 where it was refused, and then why waits to be read; 5 where there was no memory, and then the
-/// client takes nothing more; 6 where its steps would cost more than 2^52; 7 where it takes nothing, or is closed.
+/// Returns 0 where it was taken; 1 where it was refused, and then why waits to be read; 2 where it was, and there was no memory for that line; 5
+/// where there was no memory, and then the client takes nothing more; 6 where its steps would cost more than 2^52; 7 where it takes nothing, or is closed.
 #[unsafe(no_mangle)]
 pub extern "C" fn vemiktag_client_edit(alloc: Global, client: &mut Handle, edit: &[u8]) -> u32
-    ensures { Calls (λ a b s. CallsClient (call_step Call.Edit edit.now) (call_exceeds Call.Edit edit.now) a.client b.client s) (held_run client.old) (held_run client.new) result }
+    ensures { Calls (λ a b s. CallsClient (call_step Call.Edit edit.now) (call_exceeds Call.Edit edit.now) a.client b.client s × (b.session ≡ a.session)) (held_run client.old) (held_run client.new) result }
 {
     asked(alloc, client, Ask::Call(Call::Edit), edit, &mut [], &mut 0)
 }
@@ -190,7 +191,7 @@ pub extern "C" fn vemiktag_client_edit(alloc: Global, client: &mut Handle, edit:
 /// Returns as `vemiktag_client_edit` does, and 6 also where it has seen 2^32 - 1 connections and this is the next message.
 #[unsafe(no_mangle)]
 pub extern "C" fn vemiktag_client_process(alloc: Global, client: &mut Handle, message: &[u8]) -> u32
-    ensures { Calls (λ a b s. CallsClient (call_step Call.Process message.now) (call_exceeds Call.Process message.now) a.client b.client s) (held_run client.old) (held_run client.new) result }
+    ensures { Calls (λ a b s. CallsClient (call_step Call.Process message.now) (call_exceeds Call.Process message.now) a.client b.client s × (b.session ≡ a.session)) (held_run client.old) (held_run client.new) result }
 {
     asked(
         alloc,
@@ -208,7 +209,7 @@ pub extern "C" fn vemiktag_client_process(alloc: Global, client: &mut Handle, me
 /// nothing changed.
 #[unsafe(no_mangle)]
 pub extern "C" fn vemiktag_client_outgoing(alloc: Global, client: &mut Handle) -> u32
-    ensures { Calls (λ a b s. SendsDraft a.client b.client s) (held_run client.old) (held_run client.new) result }
+    ensures { Calls (λ a b s. SendsDraft a.client b.client s × (b.session ≡ a.session)) (held_run client.old) (held_run client.new) result }
 {
     asked(alloc, client, Ask::Outgoing, &[], &mut [], &mut 0)
 }
@@ -218,7 +219,7 @@ pub extern "C" fn vemiktag_client_outgoing(alloc: Global, client: &mut Handle) -
 /// Returns 0; 5 where there was no memory; 7 where the client takes nothing, or is closed. In all but 0 nothing changed.
 #[unsafe(no_mangle)]
 pub extern "C" fn vemiktag_client_view(alloc: Global, client: &mut Handle) -> u32
-    ensures { Calls (λ a b s. ShowsClient a.client b.client s) (held_run client.old) (held_run client.new) result }
+    ensures { Calls (λ a b s. ShowsClient a.client b.client s × (b.session ≡ a.session)) (held_run client.old) (held_run client.new) result }
 {
     asked(alloc, client, Ask::View, &[], &mut [], &mut 0)
 }
@@ -247,7 +248,7 @@ pub extern "C" fn vemiktag_client_read(
     told: &mut [u8],
     count: &mut usize,
 ) -> u32
-    ensures { ReadsOnClient client.old client.new told.new count.new result }
+    ensures { ReadsOnClient client.old client.new told.old told.new count.new result }
 {
     asked(alloc, client, Ask::ReadTold, &[], told, count)
 }
@@ -262,7 +263,8 @@ pub extern "C" fn vemiktag_client_free(alloc: Global, client: &mut Handle) -> u3
     vemiktag_session_free(alloc, client)
 }
 
-// Asks this of the run of a handle, with these bytes, and room for what is read. A closed one answers `CLOSED`, and `count` is 0.
+// Asks this of the run of a handle, with these bytes, and room for what is read. A closed one answers `CLOSED`, `count` is 0, and the room is as
+// it was.
 fn asked(
     alloc: Global,
     handle: &mut Handle,
@@ -273,6 +275,7 @@ fn asked(
 ) -> u32
     ensures run { Calls (λ a b s. Answers ask bytes.now a.session a.client b.session b.client room.new count.new s) (held_run handle.old) (held_run handle.new) result }
     ensures count { Counts ask (waiting (held_run handle.new)) (client_waiting (held_run handle.new)) room.new count.new }
+    ensures closed { held_run handle.old ≡ None → (count.new ≡ 0) × (room.new ≡ room.old) }
 {
     *count = 0;
     let Some(mut held) = handle.take(alloc) else {
