@@ -1,10 +1,13 @@
 //! Vemiktag's program: its arguments, its standard input and its standard output, given to a run.
 //!
 //! It ends with 0 where nothing was refused or skipped, 1 where something was, 2 where the arguments are of
-//! no command, and then it tells the commands on standard error, 3 and 4 where the input or the output failed,
-//! 5 where no memory was found, 6 where the input is too long, and 7 where the system doesn't tell the
-//! arguments.
+//! no command, 3 and 4 where the input or the output failed, 5 where no memory was found, 6 where the input is
+//! too long, and 7 where the system doesn't tell the arguments. It writes nothing but what the run writes.
 #![tactic(auto)]
+
+ghost use Rattle.std.specs.Prelude.{◌≡◌};
+ghost use Rattle.std.specs.Process.{exit_status};
+ghost use Rattle.ft_cli.specs.Statuses.{status_code};
 
 use ft_cli::{Status, run};
 use ft_io::{StdSink, StdSource};
@@ -21,13 +24,13 @@ fn main(rt: HostRuntime) -> ExitCode {
     };
     let mut src = StdSource::new(rt.stdin());
     let mut out = StdSink::new(rt.stdout());
-    let status = run(rt.alloc(), &words, &mut src, &mut out);
-    if status == Status::Usage {
-        // The status says it too: a line that can't be written is no fault of the run.
-        let _ = eprintln!(rt;
-            "usage: vemiktag session|log|load|map, or gen|play CLIENTS EDITS SEED"
-        );
-    }
+    exit_code(run(rt.alloc(), &words, &mut src, &mut out))
+}
+
+// What the program ends with after a run of this status.
+fn exit_code(status: Status) -> ExitCode
+    ensures { exit_status result ≡ status_code status }
+{
     ExitCode::from(status.code())
 }
 
