@@ -33,7 +33,7 @@ returns-clause-sound g c =
     (λ row col. refl) c.requires.some
     c.args.target v c.in_ok-insert_own_units.ensures.sound (puts-used last_stage no_run (Local c.args.stage) c.args.pos c.args.count (units_at c.args.target c.args.self.now) v i) i.1.floor
     (own-put-pending c.args.self.now.stages.items c.push_behind.new.items.items c.args.stage op last_stage c.args.pos c.args.count (units_at c.args.target c.args.self.now) v
-    (behind-side c.args.target c.args.self.now v c.push_behind.new.items.items (splice_stage c.args.stage op) c.in_ok-push_behind.ensures) (λ h. h) i
+    (behind-side c.args.target c.args.self.now v c.push_behind.new.items.items (splice_stage c.args.stage op) c.in_ok-push_behind.ensures.items) (λ h. h) i
     (below-at c.args.target c.args.stage c.args.self.now c.requires.above) (pending-at c.args.target c.args.self.now c.requires.sound))
 
 pub returns-clause-above : goal.returns-clause-above

@@ -33,7 +33,7 @@ returns-clause-sound g c =
     (λ row col. refl) c.requires.some
     c.args.target v c.in_ok-remove_own_units.ensures.sound (marks-used last_stage (Local c.args.stage) c.args.pos1 c.args.pos2 (units_at c.args.target c.args.self.now) v i) i.1.floor
     (more-stages c.args.self.now.stages.items (splice_stage c.args.stage op ∷ []) c.push_behind.new.items.items (units_of v)
-    (behind-side c.args.target c.args.self.now v c.push_behind.new.items.items (splice_stage c.args.stage op) c.in_ok-push_behind.ensures)
+    (behind-side c.args.target c.args.self.now v c.push_behind.new.items.items (splice_stage c.args.stage op) c.in_ok-push_behind.ensures.items)
     (range-pending c.args.self.now.stages.items last_stage (Local c.args.stage) c.args.pos1 c.args.pos2 (units_at c.args.target c.args.self.now) v i
     (pending-at c.args.target c.args.self.now c.requires.sound)))
 
