@@ -3,6 +3,7 @@
 use ft_base::OutOfMemory;
 use ft_msg::{EditFault, LinkFault, ProcessFault, ViewFault};
 use ft_seqr::{LeaveFault, SubmitFault};
+use ft_sumdoc::SumFault;
 use std::alloc::AllocError;
 use thiserror::Error;
 
@@ -27,6 +28,9 @@ pub enum Fault {
     /// A client showed nothing.
     #[error("a view: {0}")]
     View(#[from] ViewFault),
+    /// A text is no summary.
+    #[error("a summary: {0}")]
+    Summary(#[from] SumFault),
     /// The sequencer refused a draft.
     #[error("a draft: {0}")]
     Submit(#[from] SubmitFault),

@@ -6,6 +6,7 @@ mod faults;
 mod server;
 mod showing;
 mod story;
+mod summary;
 
 use crate::story::tell;
 use ft_client::Client;

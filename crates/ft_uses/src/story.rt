@@ -4,16 +4,19 @@ use crate::edits::{insert, note, remove};
 use crate::faults::Fault;
 use crate::server::Server;
 use crate::showing::show;
+use crate::summary::blame;
 use ft_msg::Replica;
 use std::alloc::Global;
 
-/// Two new clients edit over one server; returns what they showed meanwhile.
+/// Two new clients edit over one server; returns what they showed meanwhile, and who inserted what in a client that starts
+/// from a summary.
 pub fn tell<R: Replica + Drop>(alloc: Global) -> Result<String, Fault> {
     let mut ann = R::start(alloc)?;
     let mut bob = R::start(alloc)?;
     let mut server = Server::new(alloc);
     let mut out = String::new(alloc);
     play(alloc, &mut server, &mut out, &mut ann, &mut bob)?;
+    blame::<R>(alloc, &mut out)?;
     Ok(out)
 }
 
