@@ -1,0 +1,20 @@
+use Rattle.ft_changes.proofs.LocalLaw.{told-edit-leads-on}
+use Rattle.ft_changes.proofs.NothingTold.{own-join-tells-nothing}
+use Rattle.ft_changes.proofs.ShownViews.{shown-is-content}
+use Rattle.ft_changes.proofs.ToldLaw.{lists-lead, told-leads-on}
+use Rattle.ft_changes.proofs.laws.telling.Goals as goal
+
+pub returns-clause-kept : goal.returns-clause-kept
+returns-clause-kept c = shown-is-content
+
+pub returns-clause-lists : goal.returns-clause-lists
+returns-clause-lists c = lists-lead
+
+pub returns-clause-leads : goal.returns-clause-leads
+returns-clause-leads c = told-leads-on
+
+pub returns-clause-edits : goal.returns-clause-edits
+returns-clause-edits c = told-edit-leads-on
+
+pub returns-clause-joins : goal.returns-clause-joins
+returns-clause-joins c = own-join-tells-nothing

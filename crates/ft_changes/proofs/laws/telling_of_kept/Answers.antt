@@ -1,0 +1,19 @@
+use Rattle.ft_changes.proofs.KeptClients.{kept-is-shown, told-by-stand-in}
+use Rattle.ft_changes.proofs.KeptTells.{kept-tells, kept-tells-edits}
+use Rattle.ft_changes.proofs.NamelessClients.{nameless-is-shown}
+use Rattle.ft_changes.proofs.laws.telling_of_kept.Goals as goal
+
+pub returns-clause-shown : goal.returns-clause-shown
+returns-clause-shown c = kept-is-shown
+
+pub returns-clause-leads : goal.returns-clause-leads
+returns-clause-leads c = told-by-stand-in
+
+pub returns-clause-tells : goal.returns-clause-tells
+returns-clause-tells c = kept-tells
+
+pub returns-clause-edits : goal.returns-clause-edits
+returns-clause-edits c = kept-tells-edits
+
+pub returns-clause-nameless : goal.returns-clause-nameless
+returns-clause-nameless c = nameless-is-shown

@@ -1,0 +1,76 @@
+-- What is told leads from what was shown to what is shown.
+use Rattle.std.specs.Prelude.{◌≡◌, true, [], Ok}
+use Rattle.ft_op.specs.declared.operations.ChannelOp.{ChannelOp}
+use Rattle.ft_msg.specs.declared.messages.Entry.{Entry}
+use Rattle.ft_msg.specs.Client.{NaiveClient, local_edit}
+use Rattle.ft_msg.specs.Content.{content}
+use Rattle.ft_msg.specs.ClientSteps.{has_fitting_body}
+use Rattle.ft_msg.specs.Compacted.{IsCompacted}
+use Rattle.ft_msg.specs.Indexed.{indexed_client}
+use Rattle.ft_msg.specs.Process.{after_entry, is_own_join, process}
+use Rattle.ft_msg.specs.Reached.{IsReached}
+use Rattle.ft_changes.specs.Shown.{after_changes, as_view, shown_content}
+use Rattle.ft_changes.specs.Told.{told_edit, told_lists, told_of_entry}
+
+-- what is kept as elements is the view
+abbrev pub ShownIsContent : Type 0
+ShownIsContent = (x : NaiveClient) → as_view (shown_content x) ≡ content x
+
+-- an editor that applies what it is told shows the view
+abbrev pub ToldLeadsOn : Type 0
+ToldLeadsOn =
+    (x y : NaiveClient) (entry : Entry) → IsReached x → process x entry ≡ Ok y
+    → after_changes (shown_content x) (told_of_entry x entry) ≡ shown_content y
+
+-- but for cells and intervals the changes of the lists lead there
+pub record ListsLead (x y : NaiveClient) (entry : Entry) : Type 0 where
+  pub elements : (after_changes (shown_content x) (told_lists x entry)).elements ≡ (shown_content y).elements
+  pub rows : (after_changes (shown_content x) (told_lists x entry)).rows ≡ (shown_content y).rows
+  pub cols : (after_changes (shown_content x) (told_lists x entry)).cols ≡ (shown_content y).cols
+
+abbrev pub ToldListsLead : Type 0
+ToldListsLead = (x y : NaiveClient) (entry : Entry) → IsReached x → process x entry ≡ Ok y → ListsLead x y entry
+
+-- and so it is with an edit of the client's own
+abbrev pub ToldEditLeadsOn : Type 0
+ToldEditLeadsOn =
+    (x y : NaiveClient) (op : ChannelOp) → IsReached x → local_edit x op ≡ Ok y
+    → after_changes (shown_content x) (told_edit x y op) ≡ shown_content y
+
+-- a client that shows what x shows, before the entry and after it, and takes the same messages for its own: what a replica keeps
+pub record ShowsInPlaceOf (kept x : NaiveClient) (entry : Entry) : Type 0 where
+  pub shown : shown_content kept ≡ shown_content x
+  pub after : shown_content (after_entry kept entry) ≡ shown_content (after_entry x entry)
+  pub link : kept.link ≡ x.link
+  pub conns : kept.conns ≡ x.conns
+
+-- what is told by such a client leads on too
+abbrev pub ToldInPlaceOf : Type 0
+ToldInPlaceOf =
+    (kept x y : NaiveClient) (entry : Entry) → IsReached x → ShowsInPlaceOf kept x entry → process x entry ≡ Ok y
+    → after_changes (shown_content x) (told_of_entry kept entry) ≡ shown_content y
+
+-- a client that keeps another but for what compaction takes away shows the same, if its view is the same
+abbrev pub KeptIsShown : Type 0
+KeptIsShown = (kept x : NaiveClient) → IsCompacted kept x → content kept ≡ content x → shown_content kept ≡ shown_content x
+
+-- so it is with what is told by a client that keeps x but for what compaction takes away, as a replica does
+abbrev pub KeptTells : Type 0
+KeptTells =
+    (kept x y : NaiveClient) (entry : Entry) → IsReached x → IsCompacted kept x → has_fitting_body entry ≡ true → process x entry ≡ Ok y
+    → after_changes (shown_content x) (told_of_entry kept entry) ≡ shown_content y
+
+-- what is told of an edit, by a client that keeps x and is z after it
+abbrev pub KeptTellsEdits : Type 0
+KeptTellsEdits =
+    (kept x y z : NaiveClient) (op : ChannelOp) → IsReached x → IsCompacted kept x → local_edit x op ≡ Ok y → local_edit kept op ≡ Ok z
+    → after_changes (shown_content x) (told_edit kept z op) ≡ shown_content y
+
+-- clients that are one but for the names of their elements show the same elements too, if their views are the same
+abbrev pub NamelessIsShown : Type 0
+NamelessIsShown = (p q : NaiveClient) → indexed_client p ≡ indexed_client q → content p ≡ content q → shown_content p ≡ shown_content q
+
+-- a client tells nothing of its own join
+abbrev pub OwnJoinTellsNothing : Type 0
+OwnJoinTellsNothing =
+    (x : NaiveClient) (entry : Entry) → IsReached x → is_own_join x.link entry.msg.kind entry.origin ≡ true → told_of_entry x entry ≡ []

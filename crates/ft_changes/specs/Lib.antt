@@ -1,0 +1,5 @@
+pub mod ShownRuns
+pub mod Shown
+pub mod Told
+pub mod Telling
+pub mod Laws

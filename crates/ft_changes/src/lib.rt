@@ -1,0 +1,9 @@
+//! What changed in a view: what a client is told of a step, so that an editor needn't ask for all of it.
+#![tactic(auto)]
+
+pub mod changes;
+pub mod laws;
+pub mod telling;
+
+pub use changes::{ViewChange, ViewChanges};
+pub use telling::Telling;
