@@ -135,12 +135,17 @@ class Crate:
         beside = os.path.join(source, 'wrong')
         self.bodies = {**edits(os.path.join(source, 'must-fail'), '.edit'), **edits(beside, '.edit')}
         self.twins = edits(beside, '.twin')
-        self.placed = {(it.file, it.old): it.new for twin in self.twins.values() for it in twin}
+        self.placed = {}
 
     def check(self):
         """Checks the crate as it stands, over what its checks before proved."""
         ran = subprocess.run(self.words, cwd=self.folder, stdin=subprocess.DEVNULL, stdout=subprocess.PIPE, stderr=subprocess.STDOUT, text=True, errors='replace')
         return ran.returncode, ran.stdout
+
+    def restore(self, source):
+        """Puts the sources back as they were kept."""
+        shutil.rmtree(f'{self.folder}/src')
+        shutil.copytree(source, f'{self.folder}/src')
 
     def tried(self, body, source):
         """Tries a wrong body in the place of its twin."""
@@ -150,26 +155,48 @@ class Crate:
             is_good, said = judged(*self.check())
         except ValueError as fault:
             is_good, said = False, f'NOT TRIED: {fault}'
-        shutil.rmtree(f'{self.folder}/src')
-        shutil.copytree(source, f'{self.folder}/src')
+        self.restore(source)
         return Tried(self.name, body, is_good, said)
 
-    def all_tried(self):
-        """Tries the twins at once, and then each wrong body."""
-        lacking = [Tried(self.name, body, False, 'has no twin') for body in self.bodies if body not in self.twins]
+    def place(self, twins):
+        """Puts these twins in, and tells what refuses the crate with them: None where it is proved."""
         try:
-            for twin in self.twins.values():
-                for it in twin:
+            for twin in twins:
+                for it in self.twins[twin]:
                     put(self.folder, it)
             status, output = self.check()
         except ValueError as fault:
-            status, output = 1, str(fault)
+            return str(fault)
         if status != 0:
-            told = [it for it in output.split('\n') if TOLD.match(it) and (': error' in it or it.startswith('note: '))] or [output[-300:]]
-            return lacking + [Tried(self.name, 'twins', False, 'refused: ' + refuser(told))]
-        source = f'{self.folder}/src.twins'
+            told = [it for it in output.split('\n') if TOLD.match(it) and (': error' in it or it.startswith('note: '))]
+            return refuser(told or [output[-300:]])
+        self.placed.update({(it.file, it.old): it.new for twin in twins for it in self.twins[twin]})
+        return None
+
+    def twins_tried(self, source):
+        """Puts all twins in at once, or one after another those that are accepted; the others are told."""
+        if self.place(self.twins) is None:
+            return []
+        self.restore(source)
+        refused = []
+        for twin in self.twins:
+            before = f'{self.folder}/src.before'
+            shutil.copytree(f'{self.folder}/src', before)
+            said = self.place([twin])
+            if said is not None:
+                refused.append(Tried(self.name, twin, False, f'its twin is refused: {said}'))
+                self.restore(before)
+            shutil.rmtree(before)
+        return refused
+
+    def all_tried(self):
+        """Tries the twins, and then each wrong body."""
+        found = [Tried(self.name, body, False, 'has no twin') for body in self.bodies if body not in self.twins]
+        source, with_twins = f'{self.folder}/src.plain', f'{self.folder}/src.twins'
         shutil.copytree(f'{self.folder}/src', source)
-        return lacking + [self.tried(body, source) for body in self.bodies]
+        found += self.twins_tried(source)
+        shutil.copytree(f'{self.folder}/src', with_twins)
+        return found + [self.tried(body, with_twins) for body in self.bodies]
 
 
 def tell(name, crates):
