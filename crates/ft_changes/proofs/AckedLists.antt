@@ -124,7 +124,7 @@ module _ (k last s c : ℕ) (low : k ≤ last) where
           ∙ sym (ap (list_any (has_occurred_at_stage last)) (sym (append-nil (dels ++ Local j ∷ []))) ∙ any-middle (has_occurred_at_stage last) (Local j) (at_last j e) dels [])
       by false e = ap (λ ds. list_any (has_occurred_at_stage last) (ds ++ Local j ∷ [])) (append-nil dels)
 
-  acked-seen : (n : ℕ) (e : ListElement) → seen last (acked_element k n s c e) ≡ seen last e
+  pub acked-seen : (n : ℕ) (e : ListElement) → seen last (acked_element k n s c e) ≡ seen last e
   acked-seen n e =
       ap (λ b. b && not (list_any (has_occurred_at_stage last) ((e.dels ++ acked_removal k s c e.removal_stage) ++ removal_stamp (remaining_removal k e.removal_stage)))) (acked-insertion e.ins)
       ∙ ap (λ b. has_occurred_at_stage last e.ins && not b) (acked-removals e.dels e.removal_stage)

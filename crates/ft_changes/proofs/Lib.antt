@@ -16,3 +16,8 @@ pub mod KeptClients
 pub mod KeptTells
 pub mod NamelessClients
 pub mod NothingTold
+pub mod AckedEnds
+pub mod AckedNames
+pub mod AckedIntervals
+pub mod AckedShown
+pub mod AckedClient

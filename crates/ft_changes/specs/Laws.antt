@@ -1,5 +1,5 @@
 -- What is told leads from what was shown to what is shown.
-use Rattle.std.specs.Prelude.{◌≡◌, true, [], Ok}
+use Rattle.std.specs.Prelude.{◌≡◌, true, ◌&&◌, [], Ok}
 use Rattle.ft_op.specs.declared.operations.ChannelOp.{ChannelOp}
 use Rattle.ft_msg.specs.declared.messages.Entry.{Entry}
 use Rattle.ft_msg.specs.Client.{NaiveClient, local_edit}
@@ -7,7 +7,7 @@ use Rattle.ft_msg.specs.Content.{content}
 use Rattle.ft_msg.specs.ClientSteps.{has_fitting_body}
 use Rattle.ft_msg.specs.Compacted.{IsCompacted}
 use Rattle.ft_msg.specs.Indexed.{indexed_client}
-use Rattle.ft_msg.specs.Process.{after_entry, is_own_join, process}
+use Rattle.ft_msg.specs.Process.{after_entry, is_op, is_own, is_own_join, process}
 use Rattle.ft_msg.specs.Reached.{IsReached}
 use Rattle.ft_changes.specs.Shown.{after_changes, as_view, shown_content}
 use Rattle.ft_changes.specs.Told.{told_edit, told_lists, told_of_entry}
@@ -74,3 +74,9 @@ NamelessIsShown = (p q : NaiveClient) → indexed_client p ≡ indexed_client q 
 abbrev pub OwnJoinTellsNothing : Type 0
 OwnJoinTellsNothing =
     (x : NaiveClient) (entry : Entry) → IsReached x → is_own_join x.link entry.msg.kind entry.origin ≡ true → told_of_entry x entry ≡ []
+
+-- an acknowledgement moves no interval: as its own message comes back, a client shows each where it was
+abbrev pub AckMovesNoInterval : Type 0
+AckMovesNoInterval =
+    (x y : NaiveClient) (entry : Entry) → IsReached x → has_fitting_body entry ≡ true → process x entry ≡ Ok y
+    → is_op entry.msg.body && is_own x entry ≡ true → (shown_content y).intervals ≡ (shown_content x).intervals

@@ -1,16 +1,17 @@
 //! Laws of what is told, each a clause of a function without code.
 
-ghost use Rattle.ft_changes.specs.Laws.{KeptIsShown, KeptTells, KeptTellsEdits, NamelessIsShown, OwnJoinTellsNothing, ShownIsContent, ToldEditLeadsOn, ToldInPlaceOf, ToldLeadsOn, ToldListsLead};
+ghost use Rattle.ft_changes.specs.Laws.{AckMovesNoInterval, KeptIsShown, KeptTells, KeptTellsEdits, NamelessIsShown, OwnJoinTellsNothing, ShownIsContent, ToldEditLeadsOn, ToldInPlaceOf, ToldLeadsOn, ToldListsLead};
 
 /// What an editor keeps of the text as elements is what the view has; and an editor that applies what it is told of an entry
 /// or of an edit of its own shows what the client shows after it. But for cells and intervals the changes of the lists lead there
-/// alone. Of its own join a client tells nothing.
+/// alone. Of its own join a client tells nothing, and its own message moves no interval as it comes back.
 pub fn telling()
     ensures kept { ShownIsContent }
     ensures lists { ToldListsLead }
     ensures leads { ToldLeadsOn }
     ensures edits { ToldEditLeadsOn }
     ensures joins { OwnJoinTellsNothing }
+    ensures acks { AckMovesNoInterval }
 {}
 
 /// A client that keeps another but for what compaction takes away shows the same as elements too; and what is told by one that

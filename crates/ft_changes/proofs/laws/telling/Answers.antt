@@ -1,3 +1,4 @@
+use Rattle.ft_changes.proofs.AckedClient.{ack-moves-none}
 use Rattle.ft_changes.proofs.LocalLaw.{told-edit-leads-on}
 use Rattle.ft_changes.proofs.NothingTold.{own-join-tells-nothing}
 use Rattle.ft_changes.proofs.ShownViews.{shown-is-content}
@@ -18,3 +19,6 @@ returns-clause-edits c = told-edit-leads-on
 
 pub returns-clause-joins : goal.returns-clause-joins
 returns-clause-joins c = own-join-tells-nothing
+
+pub returns-clause-acks : goal.returns-clause-acks
+returns-clause-acks c = ack-moves-none
