@@ -1,6 +1,6 @@
 -- Cells by the handles of their row and column: what a cell holds, and what each call makes of the cells. Whoever asks for a
 -- cell asks by `cell_at`.
-use Rattle.std.specs.Prelude.{ℕ, Bool, cond, not, ◌&&◌, nat_eq, List, [], ◌∷◌, ◌++◌, Option, Some, None, is_some, filter, codes, bytes_eq}
+use Rattle.std.specs.Prelude.{ℕ, ◌+◌, Bool, cond, not, ◌&&◌, nat_eq, nat_le, nat_lt, List, [], ◌∷◌, ◌++◌, Option, Some, None, is_some, filter, codes, bytes_eq}
 use Rattle.std.specs.BTreeMap.{is_at}
 use Rattle.std.specs.Map.{lookup}
 use Rattle.std.specs.Option.{option_or, option_and_then}
@@ -92,6 +92,18 @@ cleared_row row table r c = cond (nat_eq r row) empty_cell (table r c)
 -- the cells of this column are empty; each other cell stays
 abbrev pub cleared_col : ℕ → CellTable → ℕ → ℕ → CellState
 cleared_col col table r c = cond (nat_eq c col) empty_cell (table r c)
+
+-- whether the line is one of these: `count` lines from the first one on
+abbrev pub is_among : ℕ → ℕ → ℕ → Bool
+is_among first count line = nat_le first line && nat_lt line (first + count)
+
+-- the cells of these rows are empty; each other cell stays
+abbrev pub cleared_rows : ℕ → ℕ → CellTable → ℕ → ℕ → CellState
+cleared_rows first count table r c = cond (is_among first count r) empty_cell (table r c)
+
+-- the cells of these columns are empty; each other cell stays
+abbrev pub cleared_cols : ℕ → ℕ → CellTable → ℕ → ℕ → CellState
+cleared_cols first count table r c = cond (is_among first count c) empty_cell (table r c)
 
 -- by row, and then by column
 abbrev pub key_cmp : CellKey → CellKey → Ordering

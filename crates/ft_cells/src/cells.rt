@@ -3,13 +3,13 @@
 ghost use Rattle.std.specs.Prelude.{◌≡◌, ℕ, ◌<◌, All, IfOk, OnOk, OnErr, IsOk, option_copied};
 ghost use Rattle.std.specs.List.Sorted.{IsStrictlySortedBy};
 ghost use Rattle.ft_base.specs.Scan.{len, one_more_if};
-ghost use Rattle.ft_cells.specs.CellTables.{cell_at, changed_cell, cleared_col, cleared_row, empty_cell, holds_value, is_key, key_cmp};
+ghost use Rattle.ft_cells.specs.CellTables.{cell_at, changed_cell, cleared_col, cleared_cols, cleared_row, cleared_rows, empty_cell, holds_value, is_key, key_cmp};
 
 mod entries;
 
 use crate::crossings::Crossing;
 use crate::values::CellValues;
-use entries::{ack_at, clear_across, clear_line, drop_at, set_at, write_at};
+use entries::{ack_at, clear_across, clear_lines, drop_at, set_at, write_at};
 use ft_base::OutOfMemory;
 use ft_json::ValText;
 use std::alloc::Global;
@@ -27,8 +27,8 @@ pub struct CellKey {
 /// rising stage.
 ///
 /// They are kept in order of row and column; the places alone are kept in order of column and row too, and by stage.
-/// So `clear_row` and `clear_col` look at the cells of that line alone, and `ack` and `drop_pending` at the one cell
-/// that the stage writes; each look-up among n cells takes about log(n) steps. A pair whose pending writes were all taken
+/// So the calls that clear lines look at the cells of these lines alone, however many lines they are, and `ack` and
+/// `drop_pending` at the one cell that the stage writes; each look-up among n cells takes about log(n) steps. A pair whose pending writes were all taken
 /// out keeps its empty entry until its row or its column is cleared.
 #[derive(Drop)]
 pub struct Cells {
@@ -147,14 +147,28 @@ impl Cells {
     pub fn clear_row(&mut self, row: u64)
         ensures { (r c : ℕ) → cell_at self.new r c ≡ cleared_row row (cell_at self.old) r c }
     {
-        clear_line(&mut self.cells, &mut self.columns, row);
+        self.clear_rows(row, 1);
     }
 
     /// Takes all cells of that column out.
     pub fn clear_col(&mut self, col: u64)
         ensures { (r c : ℕ) → cell_at self.new r c ≡ cleared_col col (cell_at self.old) r c }
     {
-        clear_across(&mut self.cells, &mut self.columns, col);
+        self.clear_cols(col, 1);
+    }
+
+    /// Takes all cells of the `count` rows from `first` on out. It looks at the cells that are there, not at each row.
+    pub fn clear_rows(&mut self, first: u64, count: u64)
+        ensures { (r c : ℕ) → cell_at self.new r c ≡ cleared_rows first count (cell_at self.old) r c }
+    {
+        clear_lines(&mut self.cells, &mut self.columns, first, count);
+    }
+
+    /// Takes all cells of the `count` columns from `first` on out. It looks at the cells that are there, not at each column.
+    pub fn clear_cols(&mut self, first: u64, count: u64)
+        ensures { (r c : ℕ) → cell_at self.new r c ≡ cleared_cols first count (cell_at self.old) r c }
+    {
+        clear_across(&mut self.cells, &mut self.columns, first, count);
     }
 
     /// The pairs of handles that have an acknowledged or a pending value, null or not, by rising row and column.

@@ -2,7 +2,7 @@
 
 ghost use Rattle.std.specs.Prelude.{◌≡◌, ℕ, None, IfSome, IfNone, IsSome, true, false};
 ghost use Rattle.std.specs.BTreeMap as tree;
-ghost use Rattle.ft_cells.specs.CellTables.{crossing, crossing_cmp};
+ghost use Rattle.ft_cells.specs.CellTables.{crossing, crossing_cmp, is_among};
 ghost use Rattle.ft_cells.specs.Indexed.{has_place};
 
 use crate::values::CellValues;
@@ -15,27 +15,29 @@ pub struct Crossing {
     pub across: u64,
 }
 
-/// The first line across which the cells have an entry on that line.
-pub fn first_cell(cells: &BTreeMap<Crossing, CellValues>, line: u64) -> Option<u64>
-    ensures some { IfSome result (λ across. IsSome (tree.get crossing_cmp cells.now (crossing line across))) }
-    ensures none { IfNone result ((across : ℕ) → tree.get crossing_cmp cells.now (crossing line across) ≡ None) }
+/// The first place at which the cells have an entry on one of the `count` lines from this one on.
+pub fn first_cell(cells: &BTreeMap<Crossing, CellValues>, line: u64, count: u64) -> Option<Crossing>
+    ensures some { IfSome result (λ place. IsSome (tree.get crossing_cmp cells.now place)) }
+    ensures none { IfNone result ((i across : ℕ) → is_among line count i ≡ true → tree.get crossing_cmp cells.now (crossing i across) ≡ None) }
+    ensures among { IfSome result (λ place. is_among line count place.line ≡ true) }
 {
     let (place, _) = cells.range(Crossing { line, across: 0 }..).next()?;
-    if place.line == line {
-        Some(place.across)
+    if place.line - line < count {
+        Some(*place)
     } else {
         None
     }
 }
 
-/// The first line across which the places have one on that line.
-pub fn first_place(places: &BTreeSet<Crossing>, line: u64) -> Option<u64>
-    ensures some { IfSome result (λ across. has_place places.now line across ≡ true) }
-    ensures none { IfNone result ((across : ℕ) → has_place places.now line across ≡ false) }
+/// The first of the places that is on one of the `count` lines from this one on.
+pub fn first_place(places: &BTreeSet<Crossing>, line: u64, count: u64) -> Option<Crossing>
+    ensures some { IfSome result (λ place. has_place places.now place.line place.across ≡ true) }
+    ensures none { IfNone result ((i across : ℕ) → is_among line count i ≡ true → has_place places.now i across ≡ false) }
+    ensures among { IfSome result (λ place. is_among line count place.line ≡ true) }
 {
     let place = places.range(Crossing { line, across: 0 }..).next()?;
-    if place.line == line {
-        Some(place.across)
+    if place.line - line < count {
+        Some(*place)
     } else {
         None
     }

@@ -4,7 +4,7 @@ ghost use Rattle.std.specs.Prelude.{◌≡◌, ℕ, ◌<◌, ◌&&◌, IsSome, O
 ghost use Rattle.std.specs.BTreeMap as tree;
 ghost use Rattle.std.specs.BTreeMap.{btree_map_len};
 ghost use Rattle.std.specs.BTreeSet.{btree_set_len};
-ghost use Rattle.ft_cells.specs.CellTables.{acked_write, changed_cell, cleared_col, cleared_row, crossing, crossing_cmp, empty_cell, with_acked, with_write, without_write};
+ghost use Rattle.ft_cells.specs.CellTables.{acked_write, changed_cell, cleared_cols, cleared_rows, crossing, crossing_cmp, empty_cell, with_acked, with_write, without_write};
 ghost use Rattle.ft_cells.specs.Indexed.{IsColumned, has_place, table_of};
 
 use crate::crossings::{Crossing, first_cell, first_place};
@@ -84,32 +84,34 @@ fn take_out(
     });
 }
 
-/// Takes the cells of that row out.
-pub fn clear_line(
+/// Takes the cells of the `count` rows from this one on out.
+pub fn clear_lines(
     cells: &mut BTreeMap<Crossing, CellValues>,
     columns: &mut BTreeSet<Crossing>,
     row: u64,
+    count: u64,
 )
     requires { IsColumned (table_of cells.old) columns.old }
-    ensures cells { (r c : ℕ) → table_of cells.new r c ≡ cleared_row row (table_of cells.old) r c }
+    ensures cells { (r c : ℕ) → table_of cells.new r c ≡ cleared_rows row count (table_of cells.old) r c }
     ensures columns { IsColumned (table_of cells.new) columns.new }
 {
-    while let Some(col) = first_cell(cells, row) {
-        take_out(cells, columns, row, col);
+    while let Some(place) = first_cell(cells, row, count) {
+        take_out(cells, columns, place.line, place.across);
     }
 }
 
-/// Takes the cells of that column out.
+/// Takes the cells of the `count` columns from this one on out.
 pub fn clear_across(
     cells: &mut BTreeMap<Crossing, CellValues>,
     columns: &mut BTreeSet<Crossing>,
     col: u64,
+    count: u64,
 )
     requires { IsColumned (table_of cells.old) columns.old }
-    ensures cells { (r c : ℕ) → table_of cells.new r c ≡ cleared_col col (table_of cells.old) r c }
+    ensures cells { (r c : ℕ) → table_of cells.new r c ≡ cleared_cols col count (table_of cells.old) r c }
     ensures columns { IsColumned (table_of cells.new) columns.new }
 {
-    while let Some(row) = first_place(columns, col) {
-        take_out(cells, columns, row, col);
+    while let Some(place) = first_place(columns, col, count) {
+        take_out(cells, columns, place.across, place.line);
     }
 }
