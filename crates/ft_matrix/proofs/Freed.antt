@@ -1,7 +1,6 @@
 -- Handles that are freed one run after another, with the cells of their lines.
-use Rattle.std.proofs.Common.{◌≡◌, ℕ, ◌+◌, ◌≤◌, All, Bool, true, false, cond, not, ◌&&◌, ◌||◌, nat_eq, nat_le, nat_lt, List, [], ◌∷◌, ◌++◌, refl, sym, ◌∙◌, ap, subst, arith}
+use Rattle.std.proofs.Common.{◌≡◌, ℕ, ◌+◌, ◌≤◌, All, Bool, true, false, cond, not, ◌&&◌, ◌||◌, List, [], ◌∷◌, ◌++◌, refl, sym, ◌∙◌, ap, subst, arith}
 use Rattle.std.proofs.lemmas.Bool.{or_left, or_right}
-use Rattle.std.proofs.lemmas.Bool.Decides.{nat_tests}
 use Rattle.std.proofs.lemmas.List.Elements.{All-from_recursion, recursion_from_All}
 use Rattle.ft_base.specs.Scan.{one_more_if}
 use Rattle.ft_tree_leaves.specs.Elements.{TreeElement}
@@ -11,69 +10,30 @@ use Rattle.ft_op.specs.declared.operations.Target.{Target}
 use Rattle.ft_op.specs.declared.operations.Target.TheVariants.{Rows, Cols}
 use Rattle.ft_cells.specs.CellTables.{cell_at, empty_cell}
 use Rattle.ft_matrix.specs.declared.grid.Grid.{Grid}
-use Rattle.ft_matrix.specs.Compacted.{AreGone, FreesUnits, is_in_runs, line_of}
+use Rattle.ft_matrix.specs.Compacted.{AreGone, ClearsRun, FreesUnits, is_in_runs, line_of}
 use Rattle.ft_matrix.specs.Sides.{units_at, with_units_at}
 use Rattle.ft_matrix.specs.Units.{units_of}
 use Rattle.ft_matrix.proofs.SideLaws.{at-side, same-side, side-again, side-cells, side-rest}
 use Rattle.ft_matrix.proofs.SoundVectors.{all-weaker}
 
--- ---- the lines of a run, one after another
+-- ---- the lines of a run
 
-none-yet : (f r : ℕ) → nat_le f r && nat_lt r f ≡ false
-none-yet f r = step (nat_le f r) refl
-  where
-    step : (b : Bool) → nat_le f r ≡ b → b && nat_lt r f ≡ false
-    step true e = grind (arith, nat_tests)
-    step false e = refl
-
-pub cleared-none : {A : Type 0} (f r : ℕ) (x y : A) → y ≡ cond (nat_le f r && nat_lt r f) x y
-cleared-none f r x y = ap (λ b. cond b x y) (sym (none-yet f r))
-
-not-last : (r n : ℕ) → nat_eq r n ≡ false → nat_lt r n ≡ nat_lt r (n + 1)
-not-last r n e = step (nat_lt r n) refl
-  where
-    step : (b : Bool) → nat_lt r n ≡ b → b ≡ nat_lt r (n + 1)
-    step true h = grind (arith, nat_tests)
-    step false h = grind (arith, nat_tests)
-
-pub cleared-more : {A : Type 0} (f r n : ℕ) (x y : A) → f ≤ n
-    → cond (nat_eq r n) x (cond (nat_le f r && nat_lt r n) x y) ≡ cond (nat_le f r && nat_lt r (n + 1)) x y
-cleared-more f r n x y l = step (nat_eq r n) refl
-  where
-    step : (b : Bool) → nat_eq r n ≡ b → cond b x (cond (nat_le f r && nat_lt r n) x y) ≡ cond (nat_le f r && nat_lt r (n + 1)) x y
-    step true e = sym (ap (λ b. cond (b && nat_lt r (n + 1)) x y) low ∙ ap (λ b. cond b x y) high)
-      where
-        low : nat_le f r ≡ true
-        low = grind (arith, nat_tests)
-
-        high : nat_lt r (n + 1) ≡ true
-        high = grind (arith, nat_tests)
-    step false e = ap (λ b. cond (nat_le f r && b) x y) (not-last r n e)
-
-row-end : (f n row end : ℕ) → end ≡ f + n → end ≤ row → (f ≤ end → row ≤ end) → row ≡ f + n
-row-end f n row end e l m = let k = m (omega (arith, e)) in omega (arith, e)
-
-in-run-same : (f n row end : ℕ) (run : HandleRun) → record { first = f; count = n } ≡ run → end ≡ f + n → end ≤ row → (f ≤ end → row ≤ end)
-    → (r : ℕ) → nat_le f r && nat_lt r row ≡ in_run r run
-in-run-same f n row end run e p l m r = ap (λ i. nat_le f r && nat_lt r i) (row-end f n row end p l m) ∙ ap (in_run r) e
-
-module _ (f n row end : ℕ) (run : HandleRun) (same-run : record { first = f; count = n } ≡ run) (is-end : end ≡ f + n) (least : end ≤ row) (most : f ≤ end → row ≤ end) (old mid : Grid)
-    (rest : mid ≡ record old { cells = mid.cells }) where
-  pub freed-units : (target : Target) (v : VectorState) → ((r c : ℕ) → cell_at mid.cells r c ≡ cond (nat_le f (line_of target r c) && nat_lt (line_of target r c) row) empty_cell (cell_at old.cells r c))
+module _ (run : HandleRun) (old mid : Grid) (target : Target) (clears : ClearsRun target run old mid) where
+  pub freed-units : (v : VectorState)
       → ((h : ℕ) → in_use v h ≡ (in_use (units_at target mid) h && not (in_run h run))) → v.tree ≡ (units_at target mid).tree
       → v.next ≡ (units_at target mid).next
       → (All (λ (e : TreeElement ℕ). in_run e.unit run ≡ false) (units_of (units_at target mid)) → IsProper (units_at target mid) → IsProper v)
       → All (λ (e : TreeElement ℕ). in_run e.unit run ≡ false) (units_of (units_at target old)) → IsProper (units_at target old)
       → FreesUnits target (λ h. in_run h run) old (with_units_at target mid v)
-  freed-units target v cells used tree next proper gone p =
-      freed-side (at-side target mid v) (side-cells target mid v) (ap (λ (x : Grid). units_at target x) rest ∙ side-rest target old mid.cells) (side-again target old mid v rest)
+  freed-units v used tree next proper gone p =
+      freed-side (at-side target mid v) (side-cells target mid v)
+      (ap (λ (x : Grid). units_at target x) clears.rest ∙ side-rest target old mid.cells) (side-again target old mid v clears.rest)
     where
       freed-side : units_at target (with_units_at target mid v) ≡ v → (with_units_at target mid v).cells ≡ mid.cells → units_at target mid ≡ units_at target old
           → with_units_at target mid v ≡ record (with_units_at target old v) { cells = mid.cells }
           → FreesUnits target (λ h. in_run h run) old (with_units_at target mid v)
       freed-side is same kept again = record {
-        cells = λ r c. ap (λ t. cell_at t r c) same ∙ cells r c
-            ∙ ap (λ b. cond b empty_cell (cell_at old.cells r c)) (in-run-same f n row end run same-run is-end least most (line_of target r c));
+        cells = λ r c. ap (λ t. cell_at t r c) same ∙ clears.cells r c;
         used = λ h. ap (λ w. in_use w h) is ∙ used h ∙ ap (λ w. in_use w h && not (in_run h run)) kept;
         tree = ap (λ (w : VectorState). w.tree) is ∙ tree ∙ ap (λ (w : VectorState). w.tree) kept;
         next = ap (λ (w : VectorState). w.next) is ∙ next ∙ ap (λ (w : VectorState). w.next) kept;

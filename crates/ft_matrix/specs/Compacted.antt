@@ -46,9 +46,9 @@ abbrev pub line_of : Target → ℕ → ℕ → ℕ
 line_of Rows r c = r
 line_of Cols r c = c
 
--- a row or a column has no cells
-pub record ClearsLine (target : Target) (h : ℕ) (old new : Grid) : Type 0 where
-  pub cells : (r c : ℕ) → cell_at new.cells r c ≡ cond (nat_eq (line_of target r c) h) empty_cell (cell_at old.cells r c)
+-- the rows or columns of a run have no cells
+pub record ClearsRun (target : Target) (run : HandleRun) (old new : Grid) : Type 0 where
+  pub cells : (r c : ℕ) → cell_at new.cells r c ≡ cond (in_run (line_of target r c) run) empty_cell (cell_at old.cells r c)
   pub rest : new ≡ record old { cells = new.cells }
 
 -- rows or columns of these handles have no cells, and the handles are free

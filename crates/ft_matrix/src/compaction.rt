@@ -5,7 +5,7 @@ ghost use Rattle.std.specs.Prelude.{◌≡◌, ◌≤◌, ℕ, All, IfOk, OnOk, 
 ghost use Rattle.ft_perm.specs.Handles.{in_run};
 ghost use Rattle.ft_perm.specs.Vectors.{IsProper, in_use};
 ghost use Rattle.ft_zamboni.specs.Scours.{is_collectable};
-ghost use Rattle.ft_matrix.specs.Compacted.{AreGone, ClearsLine, CompactsGrid, FreesUnits, ScoursUnits, is_in_runs};
+ghost use Rattle.ft_matrix.specs.Compacted.{AreGone, ClearsRun, CompactsGrid, FreesUnits, ScoursUnits, is_in_runs};
 ghost use Rattle.ft_matrix.specs.Units.{units_of};
 ghost use Rattle.ft_matrix.specs.Conditions.{AreFreeUnits, HasNoTombstone};
 ghost use Rattle.ft_matrix.specs.GridStates.{grid_state};
@@ -13,7 +13,6 @@ ghost use Rattle.ft_matrix.specs.Sides.{units_at};
 ghost use Rattle.ft_matrix.specs.Sound.{IsSound, IsSoundVector};
 
 use crate::grid::Grid;
-use crate::messages::more;
 use ft_base::OutOfMemory;
 use ft_op::Target;
 use ft_perm::{Handles, Vector};
@@ -107,19 +106,17 @@ impl Grid {
         requires proper { IsProper (units_at target self.old) }
         ensures { OnOk result (FreesUnits target (λ h. in_run h run) self.old self.new) }
     {
-        for handle in run.first..more(run.first, run.count)? {
-            self.clear_line(target, handle);
-        }
+        self.clear_run(target, &run);
         self.units_mut(target).recycle(run)
     }
 
-    // Takes the cells of a row or of a column out.
-    fn clear_line(&mut self, target: Target, handle: u64)
-        ensures { ClearsLine target handle self.old self.new }
+    // Takes the cells of a run of rows or columns out.
+    fn clear_run(&mut self, target: Target, run: &Handles)
+        ensures { ClearsRun target run.now self.old self.new }
     {
         match target {
-            Target::Rows => self.cells.clear_row(handle),
-            Target::Cols => self.cells.clear_col(handle),
+            Target::Rows => self.cells.clear_rows(run.first, run.count),
+            Target::Cols => self.cells.clear_cols(run.first, run.count),
         }
     }
 }
