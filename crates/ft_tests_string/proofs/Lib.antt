@@ -1,1 +1,2 @@
 mod PlayingLaws
+mod SharingLaws

@@ -10,6 +10,8 @@ pub(crate) enum Verb {
     Acknowledge,
     Show,
     Find,
+    Pass,
+    Reconnect,
 }
 
 /// A step as it is written: its first word, its numbers in order, and its last two words that are none.
@@ -68,6 +70,8 @@ impl<'a> Line<'a> {
             ("acknowledge", 1) => Some(Verb::Acknowledge),
             ("show", 0) => Some(Verb::Show),
             ("find", 0) => Some(Verb::Find),
+            ("pass", 1) => Some(Verb::Pass),
+            ("reconnect", 1) => Some(Verb::Reconnect),
             _ => None,
         }
     }

@@ -9,6 +9,7 @@ use crate::faults::StepFault;
 use crate::hearing::hear;
 use crate::lines::{Line, Verb};
 use crate::progress::Progress;
+use crate::shared::play_shared;
 use crate::sights::{push_found, push_shown};
 use ft_base::OutOfMemory;
 use ft_interval::Collections;
@@ -38,7 +39,11 @@ impl Program for Scripts {
 fn played(alloc: Global, script: &str) -> Result<String, StepFault> {
     let mut out = String::new(alloc);
     for case in script.split("\n\n") {
-        play_case(alloc, case, &mut out)?;
+        if case.starts_with("string ") {
+            play_shared(alloc, case, &mut out)?;
+        } else {
+            play_case(alloc, case, &mut out)?;
+        }
     }
     Ok(out)
 }
@@ -69,7 +74,7 @@ fn play_lines(
 }
 
 // Adds a line behind a word.
-fn push_line(out: &mut String, word: &str, line: &str) -> Result<(), OutOfMemory> {
+pub(crate) fn push_line(out: &mut String, word: &str, line: &str) -> Result<(), OutOfMemory> {
     out.push_str(word)?;
     out.push_str(line)?;
     out.push_str("\n")?;
@@ -125,12 +130,12 @@ fn take_step(
             push_found(alloc, tree, intervals, line.before(), line.text(), out)?;
             Ok(true)
         }
-        None => Ok(false),
+        Some(Verb::Pass) | Some(Verb::Reconnect) | None => Ok(false),
     }
 }
 
 // The operation that a text is: None where it is none.
-fn operation(alloc: Global, text: &str) -> Option<TextOp>
+pub(crate) fn operation(alloc: Global, text: &str) -> Option<TextOp>
     ensures { IfSome result (λ op. IsWellFormedText op) }
 {
     let value = read_line(alloc, text.as_bytes()).ok()?;

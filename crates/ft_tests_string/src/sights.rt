@@ -53,8 +53,8 @@ fn push_leaf(tree: &Tree<TextContent>, id: NodeId, out: &mut String) -> Result<(
     Ok(())
 }
 
-// Adds a line for each interval.
-fn push_intervals(all: &[IntervalRec], out: &mut String) -> Result<(), OutOfMemory> {
+/// Adds a line for each interval.
+pub(crate) fn push_intervals(all: &[IntervalRec], out: &mut String) -> Result<(), OutOfMemory> {
     for interval in all {
         let (label, id) = (interval.label.as_str(), interval.id.as_str());
         let (start, end) = (interval.ends.start, interval.ends.end);
