@@ -1,7 +1,7 @@
 -- A shared text holds the document of a client after each call.
-use Rattle.std.proofs.Common.{◌≡◌, ◌≢◌, ℕ, zero, suc, ◌≤◌, ◌<◌, ◌+◌, ◌-◌, Bool, true, false, cond, not, ◌||◌, ◌&&◌, nat_eq, nat_le, nat_lt, List, [], ◌∷◌, ◌++◌, All, None, Some, Option, map, append-nil, append_assoc, length, pos, refl, sym, ◌∙◌, ap, subst, arith}
+use Rattle.std.proofs.Common.{◌≡◌, ◌≢◌, ℕ, ◌≤◌, ◌<◌, ◌+◌, ◌-◌, Bool, true, false, cond, not, ◌||◌, ◌&&◌, nat_eq, nat_le, nat_lt, List, [], ◌∷◌, ◌++◌, All, None, Some, Option, map, append-nil, append_assoc, length, pos, refl, sym, ◌∙◌, ap, subst, arith}
 use Rattle.std.specs.List.{list_all, list_any, flat_map}
-use Rattle.std.specs.Prelude.{Result, Ok, Err, IsTrue, OnOk, ◌^◌, ⊤, int_lt}
+use Rattle.std.specs.Prelude.{Result, Ok, Err, IsTrue, OnOk, ◌^◌, ⊤}
 use Rattle.std.proofs.lemmas.Bool.Decides.{nat_tests}
 use Rattle.std.proofs.lemmas.Grind.{flat_map-append}
 use Rattle.std.proofs.lemmas.List.Elements.{All-append, All-cons, All-head, All-nil, All-tail, All-weaker}
@@ -21,7 +21,7 @@ use Rattle.ft_op.specs.declared.operations.TextOp.{TextOp}
 use Rattle.ft_op.specs.declared.operations.TextOp.TheVariants.{One, Group, IntervalAdd, IntervalChange, IntervalDelete}
 use Rattle.ft_op.specs.Document.{Document, effects, elements_at_given_ends, empty, ends_of, given_ends_fit}
 use Rattle.ft_op.specs.Intervals.{NamedElements, no_elements, settle_elements}
-use Rattle.ft_op.specs.Operation.{OnGrid, OnIntervals, OnText, SubOperation, segment_contents, sub_operations, text_sub_operations}
+use Rattle.ft_op.specs.Operation.{OnGrid, OnIntervals, OnText, SubOperation, text_sub_operations}
 use Rattle.ft_op.specs.Stages.{Stage, shown_intervals}
 use Rattle.ft_props.specs.Element.{ElementId, seen}
 use Rattle.ft_laws_agreement.proofs.CountedEntries.{after_first, with_first}
@@ -31,9 +31,9 @@ use Rattle.ft_laws_compaction.proofs.FloorSteps.{kept-next, references-kept}
 use Rattle.ft_msg.specs.declared.faults.EditFault.{EditFault}
 use Rattle.ft_msg.specs.declared.faults.EditFault.TheVariants.{OutOfRange}
 use Rattle.ft_msg.specs.Acknowledgement.{ack_stages, renamed_edit, renamed_stage}
-use Rattle.ft_msg.specs.Client.{EditResult, NaiveClient, PendingEdit, SentAs, after_edit, client_over, id_fault, if_in_range, local_edit, local_interval, local_sub_operation, local_sub_operations, local_text, stages_of, unless_fault}
+use Rattle.ft_msg.specs.Client.{EditResult, NaiveClient, PendingEdit, SentAs, after_edit, client_over, id_fault, if_in_range, local_interval, local_sub_operation, local_sub_operations, local_text, stages_of, unless_fault}
 use Rattle.ft_msg.specs.ClientSteps.{Connects, Drops, Edits, Takes, after_step, after_steps, unless_refused}
-use Rattle.ft_msg.specs.Reached.{IsReached, from_nothing}
+use Rattle.ft_msg.specs.Reached.{from_nothing}
 use Rattle.ft_msg.specs.Reconnection.{carried_stage, rebuilt, rebuilt_document, regenerated_edit, resubmitted_edit, resubmitted_edits}
 use Rattle.ft_msg.proofs.ReplicaStarts.{keeps-itself}
 use Rattle.ft_msg.specs.declared.faults.ProcessFault.{ProcessFault}
@@ -44,7 +44,7 @@ use Rattle.ft_op.specs.Pieces.{grid_pieces, op_of, pieces}
 use Rattle.ft_op.specs.declared.operations.CellOp.{CellOp}
 use Rattle.ft_op.specs.declared.operations.CellOp.TheVariants.{Set, SpliceIn, SpliceOut}
 use Rattle.ft_op.specs.declared.operations.Target.TheVariants.{Cols, Rows}
-use Rattle.ft_string.specs.Calls.{AnswersEdit, AreBelow, AreFrom, AreNext, AreOldest, AreWithin, HoldsAcked, HoldsAllGiven, HoldsGiven, HoldsOldest, HoldsRejoined, HoldsSomeGiven, IsApplied, TakesEdit, is_interval_at, is_one_edit}
+use Rattle.ft_string.specs.Calls.{AnswersEdit, AreBelow, AreFrom, AreNext, AreOldest, AreWithin, HoldsAcked, HoldsAllGiven, HoldsGiven, HoldsOldest, HoldsRejoined, HoldsSomeGiven, IsApplied, is_interval_at, is_one_edit}
 use Rattle.ft_string.specs.Holds.{HoldsSome, HoldsText, IsTextSound, is_on_elements, is_on_text}
 use Rattle.ft_string.specs.State.{KeepsRest, TextState}
 use Rattle.ft_string.proofs.SoundTexts.{client-sound}

@@ -2,7 +2,7 @@
 use Rattle.std.specs.Prelude.{◌≡◌, ◌≤◌, ◌<◌, ◌^◌, ◌+◌, ◌++◌, ℕ, IsTrue, nat_eq, true, List, [], ◌∷◌, Option, Some, None, flat_map}
 use Rattle.std.specs.List.{list_any}
 use Rattle.ft_laws_compaction.specs.Keeping.{IsMadeOrKept}
-use Rattle.ft_msg.specs.Client.{NaiveClient, PendingEdit, SentAs, stages_of}
+use Rattle.ft_msg.specs.Client.{NaiveClient, PendingEdit, SentAs}
 use Rattle.ft_msg.specs.declared.messages.Draft.{Draft}
 use Rattle.ft_msg.specs.declared.views.Link.{Link}
 use Rattle.ft_msg.specs.declared.views.Link.TheVariants.{Online, Joining}

@@ -1,4 +1,4 @@
-use Rattle.std.proofs.Common.{◌+◌, ◌++◌, List, Option, Some, None, append-nil, arith, subst, sym, rules}
+use Rattle.std.proofs.Common.{◌+◌, ◌++◌, List, Option, append-nil, arith, subst, sym}
 use Rattle.ft_op.specs.declared.operations.TextOp.{TextOp}
 use Rattle.ft_tests_string.specs.declared.sharing.Span.{Span}
 use Rattle.ft_tests_string.specs.Sharing.{Rejoins, span_of}
