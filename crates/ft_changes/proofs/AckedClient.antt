@@ -1,20 +1,19 @@
 -- The intervals that a client shows stay where they are as its own message comes back.
-use Rattle.std.proofs.Common.{◌≡◌, ℕ, ◌<◌, Bool, true, false, cond, ◌&&◌, List, [], ◌∷◌, ◌++◌, Option, Some, None, Result, Ok, Err, refl, sym, ◌∙◌, ap, subst, arith, flat_map, map}
+use Rattle.std.proofs.Common.{◌≡◌, ℕ, ◌<◌, Bool, true, false, cond, ◌&&◌, List, [], ◌∷◌, ◌++◌, Ok, refl, sym, ◌∙◌, ap, subst, arith, flat_map, map}
 use Rattle.ft_props.specs.Element.{ElementId}
 use Rattle.ft_op.specs.Document.{Document}
 use Rattle.ft_op.specs.Stages.{Stage}
 use Rattle.ft_sumdoc.specs.declared.summary.IntervalRec.{IntervalRec}
-use Rattle.ft_msg.specs.declared.faults.ProcessFault.{ProcessFault}
 use Rattle.ft_msg.specs.declared.messages.Entry.{Entry}
 use Rattle.ft_msg.specs.Acknowledgement.{ack_stages, after_own_message, renamed_edit, renamed_stage}
 use Rattle.ft_msg.specs.Client.{NaiveClient, PendingEdit}
 use Rattle.ft_msg.specs.ClientSteps.{has_fitting_body}
 use Rattle.ft_msg.specs.Content.{ViewContent, content}
-use Rattle.ft_msg.specs.Process.{after_entry, after_foreign_message, come_online, is_oldest, is_op, is_op_kind, is_own, is_own_join, is_sent_as, process, process_fault}
+use Rattle.ft_msg.specs.Process.{after_foreign_message, come_online, is_oldest, is_op, is_op_kind, is_own, is_own_join, is_sent_as, process}
 use Rattle.ft_msg.specs.Reached.{IsReached}
 use Rattle.ft_base.proofs.Booleans.{both}
 use Rattle.ft_laws_agreement.proofs.ClientHolds.{ClientHolds, flat, sent-facts, told-unrenamed}
-use Rattle.ft_laws_agreement.proofs.ClientsAgree.{Accepted, accepted, all-stepped-from, op-kind}
+use Rattle.ft_laws_agreement.proofs.ClientsAgree.{accepted, all-stepped-from, op-kind}
 use Rattle.ft_laws_agreement.proofs.EveryClientReady.{join-changes_nothing-from}
 use Rattle.ft_laws_agreement.proofs.HoldsAfterForeign.{holds-more}
 use Rattle.ft_laws_agreement.proofs.MarksOfStages.{bare_stages}
@@ -22,7 +21,7 @@ use Rattle.ft_laws_agreement.proofs.RebuiltDocument.{edits-stages}
 use Rattle.ft_laws_agreement.proofs.SummaryStarts.{reached-run}
 use Rattle.ft_laws_agreement.proofs.ToldStages.{Holds, ToldStage, renamed_told}
 use Rattle.ft_changes.proofs.AckedShown.{edit-shown, intervals_shown}
-use Rattle.ft_changes.proofs.ToldLaw.{processed}
+use Rattle.ft_changes.proofs.ToldLaw.{passed, processed}
 
 map-append : (f : Stage → Stage) (ts us : List Stage) → map f (ts ++ us) ≡ map f ts ++ map f us
 map-append f [] us = refl
@@ -32,7 +31,7 @@ bare-append : (gs hs : List ToldStage) → bare_stages (gs ++ hs) ≡ bare_stage
 bare-append [] hs = refl
 bare-append (g ∷ gs) hs = ap (λ vs. g.stage ∷ vs) (bare-append gs hs)
 
-edits-renamed : (f : ElementId → ElementId) (edits : List PendingEdit) → flat_map (λ e. e.stages) (map (renamed_edit f) edits) ≡ map (renamed_stage f) (flat_map (λ e. e.stages) edits)
+pub edits-renamed : (f : ElementId → ElementId) (edits : List PendingEdit) → flat_map (λ e. e.stages) (map (renamed_edit f) edits) ≡ map (renamed_stage f) (flat_map (λ e. e.stages) edits)
 edits-renamed f [] = refl
 edits-renamed f (e ∷ edits) = ap (λ ts. map (renamed_stage f) e.stages ++ ts) (edits-renamed f edits) ∙ sym (map-append (renamed_stage f) e.stages (flat_map (λ (d : PendingEdit). d.stages) edits))
 
@@ -71,14 +70,6 @@ own-edits bound c gss x entry [] h l oldest = (cc)
 own-edits bound c [] x entry (edit ∷ edits) h l oldest = absurd h.edits
 own-edits bound c (gs ∷ gss) x entry (edit ∷ edits) h l oldest = own-step bound c gs gss x entry edit edits h l oldest
 
-accepted-by : (x y : NaiveClient) (entry : Entry) → process x entry ≡ Ok y → Accepted x entry
-accepted-by x y entry e = by (process_fault x entry) refl e
-  where
-    by : (o : Option ProcessFault) → process_fault x entry ≡ o → elim o as (λ _. Result NaiveClient ProcessFault) [ Some fault ↦ Err fault | None ↦ Ok (after_entry x entry) ] ≡ Ok y
-        → Accepted x entry
-    by None f g = accepted x entry f
-    by (Some fault) f g = absurd (cc)
-
 pub ack-moves-none : (x y : NaiveClient) (entry : Entry) → IsReached x → has_fitting_body entry ≡ true → process x entry ≡ Ok y
     → is_op entry.msg.body && is_own x entry ≡ true → (content y).intervals ≡ (content x).intervals
 ack-moves-none x y entry reached fits e own =
@@ -86,7 +77,7 @@ ack-moves-none x y entry reached fits e own =
   where
     after : (content (after_own_message x entry)).intervals ≡ (content x).intervals
     after =
-        let a = accepted-by x y entry e in
+        let a = accepted x entry (passed x y entry e) in
         let p = both (is_op entry.msg.body) (is_own x entry) own in
         let op = op-kind (is_op_kind entry.msg.kind) entry.msg.body fits p.0 in
         let s = all-stepped-from reached.start reached.steps x (reached-run x reached) in

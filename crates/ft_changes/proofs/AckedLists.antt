@@ -60,7 +60,7 @@ further-above : (k j : ℕ) (qs : List (ℕ × Changes)) → k ≤ j → IsBelow
 further-above k j [] le h = tt
 further-above k j ((i, c) ∷ qs) le h = let less = h.0 in (omega arith, further-above k j qs le h.1)
 
-neither : (a b : Bool) → a || b ≡ false → (a ≡ false) × (b ≡ false)
+pub neither : (a b : Bool) → a || b ≡ false → (a ≡ false) × (b ≡ false)
 neither true b h = (cc)
 neither false b h = (refl, h)
 

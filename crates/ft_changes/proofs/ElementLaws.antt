@@ -4,10 +4,10 @@ use Rattle.std.specs.List.{list_any}
 use Rattle.ft_base.specs.declared.stamps.Stamp.{Stamp}
 use Rattle.ft_base.specs.declared.stamps.Stamp.TheVariants.{Acked}
 use Rattle.ft_base.specs.Scan.{change_range}
-use Rattle.ft_base.specs.Visibility.{has_occurred_at_stage}
+use Rattle.ft_base.specs.Visibility.{has_occurred_at_stage, is_acked}
 use Rattle.ft_props.specs.declared.properties.Changes.{Changes}
 use Rattle.ft_props.specs.Properties.{PropertyList}
-use Rattle.ft_props.specs.Element.{ElementContent, ListElement, is_pending, new_elements, removal_stamp, seen, seen_by, with_annotation, with_removal}
+use Rattle.ft_props.specs.Element.{ElementContent, ListElement, is_pending, is_unremoved, new_elements, removal_stamp, seen, seen_by, with_annotation, with_removal}
 use Rattle.ft_props.specs.Steps.{Sequence, after_insertion, after_removal}
 use Rattle.ft_changes.specs.ShownRuns.{changed_runs, gone_runs, place_of_insertion, put_in, with_runs, without_runs}
 use Rattle.ft_changes.specs.Shown.{restyled, shown_element, shown_elements, shown_properties, styled_elements}
@@ -25,6 +25,10 @@ and-not false c e = refl
 -- an element with a sequenced removal isn't seen at any stage
 pub removed-hidden : (k s c : ℕ) (e : ListElement) → seen k (with_removal s c e) ≡ false
 removed-hidden k s c e = and-not (has_occurred_at_stage k e.ins) _ (any-middle (has_occurred_at_stage k) (Acked s c) refl e.dels (removal_stamp e.removal_stage))
+
+-- nor is it unremoved
+pub removed-gone : (s c : ℕ) (e : ListElement) → is_unremoved (with_removal s c e) ≡ false
+removed-gone s c e = and-not (is_acked e.ins) _ (any-middle is_acked (Acked s c) refl e.dels (removal_stamp e.removal_stage))
 
 new-shown : (k n s c : ℕ) (by : Option Stamp) (props : PropertyList) (bs : List ElementContent)
     → shown_elements k (new_elements n (Acked s c) [] by props bs) ≡ styled_elements props bs

@@ -110,7 +110,7 @@ own-lists x entry reached e =
     subst (λ cs. HasLists (after_changes (shown_content x) cs) (shown_content (after_entry x entry))) lists
     (from-shows x.last_stage _ (after_entry x entry) (after-lists x entry reached) (same-stage x entry))
 
-sent-lists : (x : NaiveClient) (entry : Entry) → IsReached x → is_own_join x.link entry.msg.kind entry.origin ≡ false → is_op entry.msg.body && is_own x entry ≡ true
+pub sent-lists : (x : NaiveClient) (entry : Entry) → IsReached x → is_own_join x.link entry.msg.kind entry.origin ≡ false → is_op entry.msg.body && is_own x entry ≡ true
     → HasLists (shown_content x) (shown_content (after_entry x entry))
 sent-lists x entry reached e d =
     let foreign = told_body x.last_stage x.doc entry.msg.seq entry.origin (reference_number entry.msg.ref_seq) entry.msg.body in

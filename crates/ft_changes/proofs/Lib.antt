@@ -21,3 +21,4 @@ pub mod AckedNames
 pub mod AckedIntervals
 pub mod AckedShown
 pub mod AckedClient
+pub mod AckedCells

@@ -23,7 +23,7 @@ module _ {A B : Type 0} (seen past shown : A → Bool) (f : A → B) where
 
 -- ---- behind a front that is left alone
 
-take_out-none : {A : Type 0} (p : ℕ) (xs : List A) → take_out p 0 xs ≡ xs
+pub take_out-none : {A : Type 0} (p : ℕ) (xs : List A) → take_out p 0 xs ≡ xs
 take_out-none zero xs = refl
 take_out-none (suc p) [] = refl
 take_out-none (suc p) (x ∷ xs) = ap (λ ys. x ∷ ys) (take_out-none p xs)
@@ -33,7 +33,7 @@ take_out-one_more : {A : Type 0} (n : ℕ) (x : A) (front xs : List A) → take_
 take_out-one_more n x [] xs = refl
 take_out-one_more n x (y ∷ front) xs = ap (λ ys. y ∷ ys) (take_out-one_more n x front xs)
 
-take_out-one : {A : Type 0} (x : A) (front xs : List A) → take_out (length front) 1 (front ++ x ∷ xs) ≡ front ++ xs
+pub take_out-one : {A : Type 0} (x : A) (front xs : List A) → take_out (length front) 1 (front ++ x ∷ xs) ≡ front ++ xs
 take_out-one x front xs = take_out-one_more 0 x front xs ∙ take_out-none (length front) (front ++ xs)
 
 with_gone-front : {A : Type 0} (runs : List GoneRun) (x : A) (front xs : List A) → without_runs (with_gone true (length front) runs) (front ++ x ∷ xs) ≡ without_runs runs (front ++ xs)
@@ -48,7 +48,7 @@ with_gone-front (run ∷ runs) x front xs = by (nat_eq run.place (length front))
 
 -- ---- removals
 
-next-front : {A : Type 0} (x : A) (front xs : List A) → (front ++ x ∷ []) ++ xs ≡ front ++ x ∷ xs
+pub next-front : {A : Type 0} (x : A) (front xs : List A) → (front ++ x ∷ []) ++ xs ≡ front ++ x ∷ xs
 next-front x [] xs = refl
 next-front x (y ∷ front) xs = ap (λ ys. y ∷ ys) (next-front x front xs)
 

@@ -126,6 +126,14 @@ told-leads x entry reached =
     ∙ ap (λ i. made z.elements i m.cols) (a.rows ∙ ap (λ i. len (seen i) y.doc.rows.items) (sym k))
     ∙ ap (λ i. made z.elements z.rows i) (a.cols ∙ ap (λ i. len (seen i) y.doc.cols.items) (sym k))
 
+-- what is taken isn't refused
+pub passed : (x y : NaiveClient) (entry : Entry) → process x entry ≡ Ok y → process_fault x entry ≡ None
+passed x y entry e = by (process_fault x entry) e
+  where
+    by : (o : Option ProcessFault) → elim o as (λ _. Result NaiveClient ProcessFault) [ Some fault ↦ Err fault | None ↦ Ok (after_entry x entry) ] ≡ Ok y → o ≡ None
+    by None d = refl
+    by (Some fault) d = absurd (cc)
+
 -- what process answers is the client after the entry
 pub processed : (x y : NaiveClient) (entry : Entry) → process x entry ≡ Ok y → after_entry x entry ≡ y
 processed x y entry e = by (process_fault x entry) e

@@ -9,12 +9,16 @@ use Rattle.ft_msg.specs.Compacted.{IsCompacted}
 use Rattle.ft_msg.specs.Indexed.{indexed_client}
 use Rattle.ft_msg.specs.Process.{after_entry, is_op, is_own, is_own_join, process}
 use Rattle.ft_msg.specs.Reached.{IsReached}
-use Rattle.ft_changes.specs.Shown.{after_changes, as_view, shown_content}
+use Rattle.ft_changes.specs.Shown.{ShownContent, after_changes, as_view, shown_content}
 use Rattle.ft_changes.specs.Told.{told_edit, told_lists, told_of_entry}
 
 -- what is kept as elements is the view
 abbrev pub ShownIsContent : Type 0
 ShownIsContent = (x : NaiveClient) → as_view (shown_content x) ≡ content x
+
+-- what an editor shows once it has applied what it is told of the lists, before cells and intervals
+abbrev pub after_lists : NaiveClient → Entry → ShownContent
+after_lists x entry = after_changes (shown_content x) (told_lists x entry)
 
 -- an editor that applies what it is told shows the view
 abbrev pub ToldLeadsOn : Type 0
@@ -24,9 +28,9 @@ ToldLeadsOn =
 
 -- but for cells and intervals the changes of the lists lead there
 pub record ListsLead (x y : NaiveClient) (entry : Entry) : Type 0 where
-  pub elements : (after_changes (shown_content x) (told_lists x entry)).elements ≡ (shown_content y).elements
-  pub rows : (after_changes (shown_content x) (told_lists x entry)).rows ≡ (shown_content y).rows
-  pub cols : (after_changes (shown_content x) (told_lists x entry)).cols ≡ (shown_content y).cols
+  pub elements : (after_lists x entry).elements ≡ (shown_content y).elements
+  pub rows : (after_lists x entry).rows ≡ (shown_content y).rows
+  pub cols : (after_lists x entry).cols ≡ (shown_content y).cols
 
 abbrev pub ToldListsLead : Type 0
 ToldListsLead = (x y : NaiveClient) (entry : Entry) → IsReached x → process x entry ≡ Ok y → ListsLead x y entry
@@ -80,3 +84,20 @@ abbrev pub AckMovesNoInterval : Type 0
 AckMovesNoInterval =
     (x y : NaiveClient) (entry : Entry) → IsReached x → has_fitting_body entry ≡ true → process x entry ≡ Ok y
     → is_op entry.msg.body && is_own x entry ≡ true → (shown_content y).intervals ≡ (shown_content x).intervals
+
+-- so it tells nothing of it
+abbrev pub AckTellsNothing : Type 0
+AckTellsNothing =
+    (x y : NaiveClient) (entry : Entry) → IsReached x → has_fitting_body entry ≡ true → process x entry ≡ Ok y
+    → is_op entry.msg.body && is_own x entry ≡ true → told_of_entry x entry ≡ []
+
+-- nor does one that keeps x but for what compaction takes away, of its own join and of its own messages
+abbrev pub KeptJoinTellsNothing : Type 0
+KeptJoinTellsNothing =
+    (kept x y : NaiveClient) (entry : Entry) → IsReached x → IsCompacted kept x → has_fitting_body entry ≡ true → process x entry ≡ Ok y
+    → is_own_join kept.link entry.msg.kind entry.origin ≡ true → told_of_entry kept entry ≡ []
+
+abbrev pub KeptAckTellsNothing : Type 0
+KeptAckTellsNothing =
+    (kept x y : NaiveClient) (entry : Entry) → IsReached x → IsCompacted kept x → has_fitting_body entry ≡ true → process x entry ≡ Ok y
+    → is_op entry.msg.body && is_own kept entry ≡ true → told_of_entry kept entry ≡ []

@@ -1,6 +1,6 @@
 use Rattle.ft_changes.proofs.AckedClient.{ack-moves-none}
 use Rattle.ft_changes.proofs.LocalLaw.{told-edit-leads-on}
-use Rattle.ft_changes.proofs.NothingTold.{own-join-tells-nothing}
+use Rattle.ft_changes.proofs.NothingTold.{ack-tells-nothing, own-join-tells-nothing}
 use Rattle.ft_changes.proofs.ShownViews.{shown-is-content}
 use Rattle.ft_changes.proofs.ToldLaw.{lists-lead, told-leads-on}
 use Rattle.ft_changes.proofs.laws.telling.Goals as goal
@@ -22,3 +22,6 @@ returns-clause-joins c = own-join-tells-nothing
 
 pub returns-clause-acks : goal.returns-clause-acks
 returns-clause-acks c = ack-moves-none
+
+pub returns-clause-own : goal.returns-clause-own
+returns-clause-own c = ack-tells-nothing

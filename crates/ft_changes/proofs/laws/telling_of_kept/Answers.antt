@@ -1,5 +1,5 @@
 use Rattle.ft_changes.proofs.KeptClients.{kept-is-shown, told-by-stand-in}
-use Rattle.ft_changes.proofs.KeptTells.{kept-tells, kept-tells-edits}
+use Rattle.ft_changes.proofs.KeptTells.{kept-ack-tells-nothing, kept-join-tells-nothing, kept-tells, kept-tells-edits}
 use Rattle.ft_changes.proofs.NamelessClients.{nameless-is-shown}
 use Rattle.ft_changes.proofs.laws.telling_of_kept.Goals as goal
 
@@ -17,3 +17,9 @@ returns-clause-edits c = kept-tells-edits
 
 pub returns-clause-nameless : goal.returns-clause-nameless
 returns-clause-nameless c = nameless-is-shown
+
+pub returns-clause-joins : goal.returns-clause-joins
+returns-clause-joins c = kept-join-tells-nothing
+
+pub returns-clause-acks : goal.returns-clause-acks
+returns-clause-acks c = kept-ack-tells-nothing
