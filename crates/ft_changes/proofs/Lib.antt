@@ -22,3 +22,4 @@ pub mod AckedIntervals
 pub mod AckedShown
 pub mod AckedClient
 pub mod AckedCells
+pub mod KeptTold

@@ -101,3 +101,9 @@ abbrev pub KeptAckTellsNothing : Type 0
 KeptAckTellsNothing =
     (kept x y : NaiveClient) (entry : Entry) → IsReached x → IsCompacted kept x → has_fitting_body entry ≡ true → process x entry ≡ Ok y
     → is_op entry.msg.body && is_own kept entry ≡ true → told_of_entry kept entry ≡ []
+
+-- a client that keeps x but for what compaction takes away tells just what x tells
+abbrev pub KeptTellsTheSame : Type 0
+KeptTellsTheSame =
+    (kept x y : NaiveClient) (entry : Entry) → IsReached x → IsCompacted kept x → has_fitting_body entry ≡ true → process x entry ≡ Ok y
+    → told_of_entry kept entry ≡ told_of_entry x entry

@@ -1,6 +1,6 @@
 //! Laws of what is told, each a clause of a function without code.
 
-ghost use Rattle.ft_changes.specs.Laws.{AckMovesNoInterval, AckTellsNothing, KeptAckTellsNothing, KeptIsShown, KeptJoinTellsNothing, KeptTells, KeptTellsEdits, NamelessIsShown, OwnJoinTellsNothing, ShownIsContent, ToldEditLeadsOn, ToldInPlaceOf, ToldLeadsOn, ToldListsLead};
+ghost use Rattle.ft_changes.specs.Laws.{AckMovesNoInterval, AckTellsNothing, KeptAckTellsNothing, KeptIsShown, KeptJoinTellsNothing, KeptTells, KeptTellsEdits, KeptTellsTheSame, NamelessIsShown, OwnJoinTellsNothing, ShownIsContent, ToldEditLeadsOn, ToldInPlaceOf, ToldLeadsOn, ToldListsLead};
 
 /// What an editor keeps of the text as elements is what the view has; and an editor that applies what it is told of an entry
 /// or of an edit of its own shows what the client shows after it. But for cells and intervals the changes of the lists lead there
@@ -16,7 +16,7 @@ pub fn telling()
     ensures own { AckTellsNothing }
 {}
 
-/// A client that keeps another but for what compaction takes away shows the same as elements too; and what
+/// A client that keeps another but for what compaction takes away shows the same as elements too, and tells just the same; and what
 /// is told by one that shows the same before and after an entry leads on the editor of the whole one. So what a compacted client tells
 /// of entries and of edits leads it on, and it tells nothing where the whole one doesn't. And what is shown doesn't depend on the names of elements.
 pub fn telling_of_kept()
@@ -27,4 +27,5 @@ pub fn telling_of_kept()
     ensures nameless { NamelessIsShown }
     ensures joins { KeptJoinTellsNothing }
     ensures acks { KeptAckTellsNothing }
+    ensures same { KeptTellsTheSame }
 {}

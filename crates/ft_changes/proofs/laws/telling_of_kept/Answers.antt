@@ -1,5 +1,6 @@
 use Rattle.ft_changes.proofs.KeptClients.{kept-is-shown, told-by-stand-in}
 use Rattle.ft_changes.proofs.KeptTells.{kept-ack-tells-nothing, kept-join-tells-nothing, kept-tells, kept-tells-edits}
+use Rattle.ft_changes.proofs.KeptTold.{kept-tells-the-same}
 use Rattle.ft_changes.proofs.NamelessClients.{nameless-is-shown}
 use Rattle.ft_changes.proofs.laws.telling_of_kept.Goals as goal
 
@@ -23,3 +24,6 @@ returns-clause-joins c = kept-join-tells-nothing
 
 pub returns-clause-acks : goal.returns-clause-acks
 returns-clause-acks c = kept-ack-tells-nothing
+
+pub returns-clause-same : goal.returns-clause-same
+returns-clause-same c = kept-tells-the-same
