@@ -23,3 +23,6 @@ pub mod AckedShown
 pub mod AckedClient
 pub mod AckedCells
 pub mod KeptTold
+pub mod MovedCells
+pub mod CellsLead
+pub mod CellsTold

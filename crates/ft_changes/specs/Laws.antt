@@ -1,6 +1,11 @@
 -- What is told leads from what was shown to what is shown.
-use Rattle.std.specs.Prelude.{◌≡◌, true, ◌&&◌, [], Ok}
+use Rattle.std.specs.Prelude.{◌≡◌, Bool, true, false, ◌&&◌, [], Ok}
+use Rattle.std.specs.List.{list_any}
+use Rattle.ft_op.specs.declared.operations.CellOp.TheVariants.{Set}
 use Rattle.ft_op.specs.declared.operations.ChannelOp.{ChannelOp}
+use Rattle.ft_op.specs.Operation.{OnGrid, SubOperation, sub_operations}
+use Rattle.ft_msg.specs.declared.messages.Body.{Body}
+use Rattle.ft_msg.specs.declared.messages.Body.TheVariants.{Op}
 use Rattle.ft_msg.specs.declared.messages.Entry.{Entry}
 use Rattle.ft_msg.specs.Client.{NaiveClient, local_edit}
 use Rattle.ft_msg.specs.Content.{content}
@@ -10,7 +15,7 @@ use Rattle.ft_msg.specs.Indexed.{indexed_client}
 use Rattle.ft_msg.specs.Process.{after_entry, is_op, is_own, is_own_join, process}
 use Rattle.ft_msg.specs.Reached.{IsReached}
 use Rattle.ft_changes.specs.Shown.{ShownContent, after_changes, as_view, shown_content}
-use Rattle.ft_changes.specs.Told.{told_edit, told_lists, told_of_entry}
+use Rattle.ft_changes.specs.Told.{told_cells, told_edit, told_lists, told_of_entry}
 
 -- what is kept as elements is the view
 abbrev pub ShownIsContent : Type 0
@@ -107,3 +112,26 @@ abbrev pub KeptTellsTheSame : Type 0
 KeptTellsTheSame =
     (kept x y : NaiveClient) (entry : Entry) → IsReached x → IsCompacted kept x → has_fitting_body entry ≡ true → process x entry ≡ Ok y
     → told_of_entry kept entry ≡ told_of_entry x entry
+
+-- whether a sub-operation sets a cell
+abbrev pub sets_cell : SubOperation → Bool
+sets_cell (OnGrid (Set i j value)) = true
+sets_cell _ = false
+
+-- whether a message has such a sub-operation
+abbrev pub has_sub_operation : (SubOperation → Bool) → Body → Bool
+has_sub_operation test (Op op) = list_any test (sub_operations op)
+has_sub_operation test _ = false
+
+-- of a message that sets no cell none is told: the changes of the lists lead to the cells that are shown after it
+abbrev pub UnsetCellsTellNothing : Type 0
+UnsetCellsTellNothing =
+    (x y : NaiveClient) (entry : Entry) → IsReached x → has_fitting_body entry ≡ true → process x entry ≡ Ok y
+    → has_sub_operation sets_cell entry.msg.body ≡ false → told_cells (after_lists x entry).cells (shown_content y).cells ≡ []
+
+-- so it is with a client that keeps x but for what compaction takes away
+abbrev pub KeptUnsetCellsTellNothing : Type 0
+KeptUnsetCellsTellNothing =
+    (kept x y : NaiveClient) (entry : Entry) → IsReached x → IsCompacted kept x → has_fitting_body entry ≡ true → process x entry ≡ Ok y
+    → has_sub_operation sets_cell entry.msg.body ≡ false
+    → told_cells (after_lists kept entry).cells (shown_content (after_entry kept entry)).cells ≡ []

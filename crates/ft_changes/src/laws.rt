@@ -1,11 +1,11 @@
 //! Laws of what is told, each a clause of a function without code.
 
-ghost use Rattle.ft_changes.specs.Laws.{AckMovesNoInterval, AckTellsNothing, KeptAckTellsNothing, KeptIsShown, KeptJoinTellsNothing, KeptTells, KeptTellsEdits, KeptTellsTheSame, NamelessIsShown, OwnJoinTellsNothing, ShownIsContent, ToldEditLeadsOn, ToldInPlaceOf, ToldLeadsOn, ToldListsLead};
+ghost use Rattle.ft_changes.specs.Laws.{AckMovesNoInterval, AckTellsNothing, KeptAckTellsNothing, KeptIsShown, KeptJoinTellsNothing, KeptTells, KeptTellsEdits, KeptTellsTheSame, KeptUnsetCellsTellNothing, NamelessIsShown, OwnJoinTellsNothing, ShownIsContent, ToldEditLeadsOn, ToldInPlaceOf, ToldLeadsOn, ToldListsLead, UnsetCellsTellNothing};
 
 /// What an editor keeps of the text as elements is what the view has; and an editor that applies what it is told of an entry
 /// or of an edit of its own shows what the client shows after it. But for cells and intervals the changes of the lists lead there
 /// alone. Of its own join a client tells nothing, and its own message moves no interval as it comes back, so it tells nothing of that
-/// either.
+/// either. Of a message that sets no cell none is told.
 pub fn telling()
     ensures kept { ShownIsContent }
     ensures lists { ToldListsLead }
@@ -14,6 +14,7 @@ pub fn telling()
     ensures joins { OwnJoinTellsNothing }
     ensures acks { AckMovesNoInterval }
     ensures own { AckTellsNothing }
+    ensures cells { UnsetCellsTellNothing }
 {}
 
 /// A client that keeps another but for what compaction takes away shows the same as elements too, and tells just the same; and what
@@ -28,4 +29,5 @@ pub fn telling_of_kept()
     ensures joins { KeptJoinTellsNothing }
     ensures acks { KeptAckTellsNothing }
     ensures same { KeptTellsTheSame }
+    ensures cells { KeptUnsetCellsTellNothing }
 {}

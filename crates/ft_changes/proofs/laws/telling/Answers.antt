@@ -1,4 +1,5 @@
 use Rattle.ft_changes.proofs.AckedClient.{ack-moves-none}
+use Rattle.ft_changes.proofs.CellsTold.{unset-cells-tell-nothing}
 use Rattle.ft_changes.proofs.LocalLaw.{told-edit-leads-on}
 use Rattle.ft_changes.proofs.NothingTold.{ack-tells-nothing, own-join-tells-nothing}
 use Rattle.ft_changes.proofs.ShownViews.{shown-is-content}
@@ -25,3 +26,6 @@ returns-clause-acks c = ack-moves-none
 
 pub returns-clause-own : goal.returns-clause-own
 returns-clause-own c = ack-tells-nothing
+
+pub returns-clause-cells : goal.returns-clause-cells
+returns-clause-cells c = unset-cells-tell-nothing

@@ -1,3 +1,4 @@
+use Rattle.ft_changes.proofs.CellsTold.{kept-unset-cells-tell-nothing}
 use Rattle.ft_changes.proofs.KeptClients.{kept-is-shown, told-by-stand-in}
 use Rattle.ft_changes.proofs.KeptTells.{kept-ack-tells-nothing, kept-join-tells-nothing, kept-tells, kept-tells-edits}
 use Rattle.ft_changes.proofs.KeptTold.{kept-tells-the-same}
@@ -27,3 +28,6 @@ returns-clause-acks c = kept-ack-tells-nothing
 
 pub returns-clause-same : goal.returns-clause-same
 returns-clause-same c = kept-tells-the-same
+
+pub returns-clause-cells : goal.returns-clause-cells
+returns-clause-cells c = kept-unset-cells-tell-nothing
