@@ -26,3 +26,7 @@ pub mod KeptTold
 pub mod MovedCells
 pub mod CellsLead
 pub mod CellsTold
+pub mod MovedEnds
+pub mod SlidNumbers
+pub mod IntervalsLead
+pub mod QuietIntervals

@@ -3,11 +3,11 @@ use Rattle.std.specs.Prelude.{◌≡◌, Bool, true, false, ◌&&◌, [], Ok}
 use Rattle.std.specs.List.{list_any}
 use Rattle.ft_op.specs.declared.operations.CellOp.TheVariants.{Set}
 use Rattle.ft_op.specs.declared.operations.ChannelOp.{ChannelOp}
-use Rattle.ft_op.specs.Operation.{OnGrid, SubOperation, sub_operations}
+use Rattle.ft_op.specs.Operation.{OnGrid, OnIntervals, SubOperation, sub_operations}
 use Rattle.ft_msg.specs.declared.messages.Body.{Body}
 use Rattle.ft_msg.specs.declared.messages.Body.TheVariants.{Op}
 use Rattle.ft_msg.specs.declared.messages.Entry.{Entry}
-use Rattle.ft_msg.specs.Client.{NaiveClient, local_edit}
+use Rattle.ft_msg.specs.Client.{NaiveClient, local_edit, stages_of}
 use Rattle.ft_msg.specs.Content.{content}
 use Rattle.ft_msg.specs.ClientSteps.{has_fitting_body}
 use Rattle.ft_msg.specs.Compacted.{IsCompacted}
@@ -15,7 +15,7 @@ use Rattle.ft_msg.specs.Indexed.{indexed_client}
 use Rattle.ft_msg.specs.Process.{after_entry, is_op, is_own, is_own_join, process}
 use Rattle.ft_msg.specs.Reached.{IsReached}
 use Rattle.ft_changes.specs.Shown.{ShownContent, after_changes, as_view, shown_content}
-use Rattle.ft_changes.specs.Told.{told_cells, told_edit, told_lists, told_of_entry}
+use Rattle.ft_changes.specs.Told.{told_cells, told_edit, told_intervals, told_lists, told_of_entry}
 
 -- what is kept as elements is the view
 abbrev pub ShownIsContent : Type 0
@@ -118,6 +118,11 @@ abbrev pub sets_cell : SubOperation → Bool
 sets_cell (OnGrid (Set i j value)) = true
 sets_cell _ = false
 
+-- whether it is one of the intervals
+abbrev pub changes_intervals : SubOperation → Bool
+changes_intervals (OnIntervals op) = true
+changes_intervals _ = false
+
 -- whether a message has such a sub-operation
 abbrev pub has_sub_operation : (SubOperation → Bool) → Body → Bool
 has_sub_operation test (Op op) = list_any test (sub_operations op)
@@ -129,9 +134,22 @@ UnsetCellsTellNothing =
     (x y : NaiveClient) (entry : Entry) → IsReached x → has_fitting_body entry ≡ true → process x entry ≡ Ok y
     → has_sub_operation sets_cell entry.msg.body ≡ false → told_cells (after_lists x entry).cells (shown_content y).cells ≡ []
 
+-- where nothing is pending, and the message has no interval operation, no interval is told
+abbrev pub QuietIntervals : Type 0
+QuietIntervals =
+    (x y : NaiveClient) (entry : Entry) → IsReached x → has_fitting_body entry ≡ true → process x entry ≡ Ok y → stages_of x ≡ []
+    → has_sub_operation changes_intervals entry.msg.body ≡ false → told_intervals (after_lists x entry).intervals (shown_content y).intervals ≡ []
+
 -- so it is with a client that keeps x but for what compaction takes away
 abbrev pub KeptUnsetCellsTellNothing : Type 0
 KeptUnsetCellsTellNothing =
     (kept x y : NaiveClient) (entry : Entry) → IsReached x → IsCompacted kept x → has_fitting_body entry ≡ true → process x entry ≡ Ok y
     → has_sub_operation sets_cell entry.msg.body ≡ false
     → told_cells (after_lists kept entry).cells (shown_content (after_entry kept entry)).cells ≡ []
+
+abbrev pub KeptQuietIntervals : Type 0
+KeptQuietIntervals =
+    (kept x y : NaiveClient) (entry : Entry) → IsReached x → IsCompacted kept x → has_fitting_body entry ≡ true → process x entry ≡ Ok y
+    → stages_of kept ≡ []
+    → has_sub_operation changes_intervals entry.msg.body ≡ false
+    → told_intervals (after_lists kept entry).intervals (shown_content (after_entry kept entry)).intervals ≡ []

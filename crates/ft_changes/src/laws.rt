@@ -1,11 +1,11 @@
 //! Laws of what is told, each a clause of a function without code.
 
-ghost use Rattle.ft_changes.specs.Laws.{AckMovesNoInterval, AckTellsNothing, KeptAckTellsNothing, KeptIsShown, KeptJoinTellsNothing, KeptTells, KeptTellsEdits, KeptTellsTheSame, KeptUnsetCellsTellNothing, NamelessIsShown, OwnJoinTellsNothing, ShownIsContent, ToldEditLeadsOn, ToldInPlaceOf, ToldLeadsOn, ToldListsLead, UnsetCellsTellNothing};
+ghost use Rattle.ft_changes.specs.Laws.{AckMovesNoInterval, AckTellsNothing, KeptAckTellsNothing, KeptIsShown, KeptJoinTellsNothing, KeptQuietIntervals, KeptTells, KeptTellsEdits, KeptTellsTheSame, KeptUnsetCellsTellNothing, NamelessIsShown, OwnJoinTellsNothing, QuietIntervals, ShownIsContent, ToldEditLeadsOn, ToldInPlaceOf, ToldLeadsOn, ToldListsLead, UnsetCellsTellNothing};
 
 /// What an editor keeps of the text as elements is what the view has; and an editor that applies what it is told of an entry
 /// or of an edit of its own shows what the client shows after it. But for cells and intervals the changes of the lists lead there
 /// alone. Of its own join a client tells nothing, and its own message moves no interval as it comes back, so it tells nothing of that
-/// either. Of a message that sets no cell none is told.
+/// either. Of a message that sets no cell none is told; and no interval, where nothing is pending and the message has no interval operation.
 pub fn telling()
     ensures kept { ShownIsContent }
     ensures lists { ToldListsLead }
@@ -15,6 +15,7 @@ pub fn telling()
     ensures acks { AckMovesNoInterval }
     ensures own { AckTellsNothing }
     ensures cells { UnsetCellsTellNothing }
+    ensures quiet { QuietIntervals }
 {}
 
 /// A client that keeps another but for what compaction takes away shows the same as elements too, and tells just the same; and what
@@ -30,4 +31,5 @@ pub fn telling_of_kept()
     ensures acks { KeptAckTellsNothing }
     ensures same { KeptTellsTheSame }
     ensures cells { KeptUnsetCellsTellNothing }
+    ensures quiet { KeptQuietIntervals }
 {}

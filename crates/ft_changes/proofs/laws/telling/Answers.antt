@@ -2,6 +2,7 @@ use Rattle.ft_changes.proofs.AckedClient.{ack-moves-none}
 use Rattle.ft_changes.proofs.CellsTold.{unset-cells-tell-nothing}
 use Rattle.ft_changes.proofs.LocalLaw.{told-edit-leads-on}
 use Rattle.ft_changes.proofs.NothingTold.{ack-tells-nothing, own-join-tells-nothing}
+use Rattle.ft_changes.proofs.QuietIntervals.{quiet-intervals}
 use Rattle.ft_changes.proofs.ShownViews.{shown-is-content}
 use Rattle.ft_changes.proofs.ToldLaw.{lists-lead, told-leads-on}
 use Rattle.ft_changes.proofs.laws.telling.Goals as goal
@@ -29,3 +30,6 @@ returns-clause-own c = ack-tells-nothing
 
 pub returns-clause-cells : goal.returns-clause-cells
 returns-clause-cells c = unset-cells-tell-nothing
+
+pub returns-clause-quiet : goal.returns-clause-quiet
+returns-clause-quiet c = quiet-intervals

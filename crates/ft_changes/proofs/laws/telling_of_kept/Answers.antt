@@ -3,6 +3,7 @@ use Rattle.ft_changes.proofs.KeptClients.{kept-is-shown, told-by-stand-in}
 use Rattle.ft_changes.proofs.KeptTells.{kept-ack-tells-nothing, kept-join-tells-nothing, kept-tells, kept-tells-edits}
 use Rattle.ft_changes.proofs.KeptTold.{kept-tells-the-same}
 use Rattle.ft_changes.proofs.NamelessClients.{nameless-is-shown}
+use Rattle.ft_changes.proofs.QuietIntervals.{kept-quiet-intervals}
 use Rattle.ft_changes.proofs.laws.telling_of_kept.Goals as goal
 
 pub returns-clause-shown : goal.returns-clause-shown
@@ -31,3 +32,6 @@ returns-clause-same c = kept-tells-the-same
 
 pub returns-clause-cells : goal.returns-clause-cells
 returns-clause-cells c = kept-unset-cells-tell-nothing
+
+pub returns-clause-quiet : goal.returns-clause-quiet
+returns-clause-quiet c = kept-quiet-intervals
