@@ -80,7 +80,7 @@ module _ (last : ℕ) (doc : Document) (rows : IsWellNumbered last doc.rows) (co
   col-values i a (t ∷ ts) l g = ap (λ v. shown_cell_value a (SequencedId i) v ts) (col-value i t.stage a t.sub_operation t.names l g.0.0)
       ∙ col-values i a ts l g.1
 
-start-table : (n c r : ℕ) (x : NaiveClient) → IsWellNamed x → ShowsTable x.last_stage n c r (value_over x.doc.cells (stages_of x)) (shown_content x)
+pub start-table : (n c r : ℕ) (x : NaiveClient) → IsWellNamed x → ShowsTable x.last_stage n c r (value_over x.doc.cells (stages_of x)) (shown_content x)
     x.doc
 start-table n c r x h = record {
   cells = as-table x.last_stage x.doc.cells (stages_of x) x.doc.cols.items 0 x.doc.rows.items;
@@ -102,7 +102,7 @@ module _ (s c r : ℕ) where
   text-kept doc (Remove p q) = one-of _ _ _ doc.cells refl refl
   text-kept doc (Annotate p q changes) = one-of _ _ _ doc.cells refl refl
 
-  effect-kept : (doc : Document) (o : SubOperation) → sets_cell o ≡ false → (effect doc s c r o).cells ≡ doc.cells
+  pub effect-kept : (doc : Document) (o : SubOperation) → sets_cell o ≡ false → (effect doc s c r o).cells ≡ doc.cells
   effect-kept doc (OnText op) e = text-kept doc op
   effect-kept doc (OnIntervals op) e = one-of _ _ _ doc.cells refl refl
   effect-kept doc (OnGrid (SpliceIn Rows p count)) e = one-of _ _ _ doc.cells refl refl
@@ -122,7 +122,7 @@ module _ (s c r : ℕ) where
   body-kept doc (Op op) e = effects-kept (sub_operations op) doc e
   body-kept doc (Elsewhere address) e = refl
 
-  body-table : (k : ℕ) (value : ElementId → ElementId → Option ValueBytes) (t : ShownContent) (doc : Document) (body : Body)
+  pub body-table : (k : ℕ) (value : ElementId → ElementId → Option ValueBytes) (t : ShownContent) (doc : Document) (body : Body)
       → ShowsTable k s c r value t doc
       → ShowsTable k s c r value (after_changes t (told_body k doc s c r body)) (body_effect doc s c r body)
   body-table k value t doc Nothing h = h
@@ -146,7 +146,7 @@ module _ (x y : NaiveClient) (entry : Entry) (reached : IsReached x) (fits : has
       let moved = body-table s c r k (value_over x.doc.cells stages) (shown_content x) x.doc entry.msg.body (start-table s c r x (reached-named x
       reached)) in
       own-or-foreign x y entry reached fits e (λ t u. t.cells ≡ u.cells) (λ t. refl)
-      (moved.cells
+      (λ is. moved.cells
       ∙ ap (λ cells. table (value_over cells stages) rows cols) (sym (body-kept s c r x.doc entry.msg.body unset))
       ∙ sym (as-table k doc.cells stages doc.cols.items 0 doc.rows.items))
 

@@ -30,3 +30,5 @@ pub mod MovedEnds
 pub mod SlidNumbers
 pub mod IntervalsLead
 pub mod QuietIntervals
+pub mod FilteredItems
+pub mod SetCells

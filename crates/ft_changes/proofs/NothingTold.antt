@@ -59,7 +59,7 @@ module _ {A : Type 0} (order : A → A → Ordering) (same : A → A → Bool) (
           ap (λ cs. cs ++ told_items order same set drop (behind_set order x (x ∷ xs)) xs) (first (order x x) (is.same x))
           ∙ ap (λ ys. told_items order same set drop ys xs) (rest (order x x) (is.same x)) ∙ later
 
-own-cell : (c : CellRec) → same_cell_value c c ≡ true
+pub own-cell : (c : CellRec) → same_cell_value c c ≡ true
 own-cell c = (bytes_eq-Decides c.value c.value).1 refl
 
 own-interval : (i : IntervalRec) → same_interval i i ≡ true
@@ -144,7 +144,8 @@ module _ (x : NaiveClient) (entry : Entry) where
 module _ (x y : NaiveClient) (entry : Entry) (reached : IsReached x) (fits : has_fitting_body entry ≡ true) (p : process x entry
     ≡ Ok y) (P : ShownContent → ShownContent → Type 0)
     (same : (s : ShownContent) → P s s) where
-  pub own-or-foreign : P (after_changes (shown_content x) (foreign x entry)) (shown_content (after_foreign_message x entry))
+  pub own-or-foreign : (y ≡ after_foreign_message x entry → P (after_changes (shown_content x) (foreign x entry)) (shown_content
+      (after_foreign_message x entry)))
       → P (after_lists x entry) (shown_content y)
   own-or-foreign other =
       subst (λ z. P (after_lists x entry) (shown_content z)) (processed x y entry p)
@@ -169,7 +170,8 @@ module _ (x y : NaiveClient) (entry : Entry) (reached : IsReached x) (fits : has
           entry))) e
           ∙ ap (λ b. cond b (after_own_message x entry) (after_foreign_message x entry)) d in
           subst (λ cs. P (after_changes (shown_content x) cs) (shown_content (after_entry x entry))) (sym lists)
-          (subst (λ z. P (after_changes (shown_content x) (foreign x entry)) (shown_content z)) (sym after) other)
+          (subst (λ z. P (after_changes (shown_content x) (foreign x entry)) (shown_content z)) (sym after) (other (sym (processed x y entry p)
+          ∙ after)))
 
 -- a client tells nothing of its own join
 pub own-join-tells-nothing : (x : NaiveClient) (entry : Entry) → IsReached x → is_own_join x.link entry.msg.kind entry.origin ≡ true

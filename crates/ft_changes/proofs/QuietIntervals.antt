@@ -116,7 +116,7 @@ quiet-intervals x y entry reached fits e none quiet =
     ap (λ ts. map (interval_record k doc.text.items) (shown_intervals doc.text.items doc.intervals ts)) (sym none) in
     let lead : (after_lists x entry).intervals ≡ (shown_content y).intervals =
     own-or-foreign x y entry reached fits e (λ t u. t.intervals ≡ u.intervals) (λ t. refl)
-    (body-lead s c r k (shown_content x) x.doc entry.msg.body quiet (record { elements = refl; rows = refl; cols = refl }) (quiet-client s c r x
+    (λ is. body-lead s c r k (shown_content x) x.doc entry.msg.body quiet (record { elements = refl; rows = refl; cols = refl }) (quiet-client s c r x
     reached none) before ∙ after) in
     ap (λ is. told_intervals is (shown_content y).intervals) lead ∙ intervals-same-none (shown_content y).intervals
 

@@ -1,12 +1,17 @@
 -- What is told leads from what was shown to what is shown.
-use Rattle.std.specs.Prelude.{◌≡◌, Bool, true, false, ◌&&◌, [], Ok}
+use Rattle.std.specs.Prelude.{◌≡◌, ℕ, Bool, true, false, ◌&&◌, nat_eq, List, [], ◌∷◌, ◌++◌, Option, Some, Ok, filter}
 use Rattle.std.specs.List.{list_any}
+use Rattle.ft_base.specs.Scan.{at, rank}
+use Rattle.ft_props.specs.Element.{ElementId, ListElement, has_id, id, seen, seen_by}
 use Rattle.ft_op.specs.declared.operations.CellOp.TheVariants.{Set}
+use Rattle.ft_op.specs.Document.{Document, effect}
+use Rattle.ft_sumdoc.specs.declared.summary.CellRec.{CellRec}
 use Rattle.ft_op.specs.declared.operations.ChannelOp.{ChannelOp}
 use Rattle.ft_op.specs.Operation.{OnGrid, OnIntervals, SubOperation, sub_operations}
 use Rattle.ft_msg.specs.declared.messages.Body.{Body}
 use Rattle.ft_msg.specs.declared.messages.Body.TheVariants.{Op}
 use Rattle.ft_msg.specs.declared.messages.Entry.{Entry}
+use Rattle.ft_msg.specs.Agreed.{reference_number, take_entry}
 use Rattle.ft_msg.specs.Client.{NaiveClient, local_edit, stages_of}
 use Rattle.ft_msg.specs.Content.{content}
 use Rattle.ft_msg.specs.ClientSteps.{has_fitting_body}
@@ -153,3 +158,41 @@ KeptQuietIntervals =
     → stages_of kept ≡ []
     → has_sub_operation changes_intervals entry.msg.body ≡ false
     → told_intervals (after_lists kept entry).intervals (shown_content (after_entry kept entry)).intervals ≡ []
+
+-- the names of a row and a column, where both are there
+abbrev pub units_at : Option ListElement → Option ListElement → List (ElementId × ElementId)
+units_at (Some row) (Some col) = (id row, id col) ∷ []
+units_at _ _ = []
+
+-- the row and the column whose cell a sub-operation sets
+abbrev pub set_units_of : Document → ℕ → ℕ → SubOperation → List (ElementId × ElementId)
+set_units_of doc c r (OnGrid (Set i j value)) = units_at (at (seen_by r c) i doc.rows.items) (at (seen_by r c) j doc.cols.items)
+set_units_of doc c r _ = []
+
+-- those of sub-operations in order
+abbrev pub set_units : Document → ℕ → ℕ → ℕ → List SubOperation → List (ElementId × ElementId)
+set_units doc s c r [] = []
+set_units doc s c r (o ∷ os) = set_units_of doc c r o ++ set_units (effect doc s c r o) s c r os
+
+-- those of another client's message
+abbrev pub units_set_by : Document → ℕ → ℕ → ℕ → Body → List (ElementId × ElementId)
+units_set_by doc s c r (Op op) = set_units doc s c r (sub_operations op)
+units_set_by doc s c r _ = []
+
+-- whether the cell stands at the places where such a row and such a column are shown at stage k
+abbrev pub is_at_units : ℕ → Document → List (ElementId × ElementId) → CellRec → Bool
+is_at_units k doc units cell =
+    list_any (λ u. nat_eq cell.row (rank (has_id u.0) (seen k) doc.rows.items) && nat_eq cell.col (rank (has_id u.1) (seen k) doc.cols.items)) units
+
+-- whether another client's message sets the cell that stands there after it
+abbrev pub is_set_by : NaiveClient → Entry → CellRec → Bool
+is_set_by x entry cell =
+    let units = units_set_by x.doc entry.msg.seq entry.origin (reference_number entry.msg.ref_seq) entry.msg.body in
+    is_at_units x.last_stage (take_entry x.doc entry) units cell
+
+-- of cells only those can be told that the message sets: it is enough to compare these
+abbrev pub CellsToldAreSet : Type 0
+CellsToldAreSet =
+    (x y : NaiveClient) (entry : Entry) → IsReached x → has_fitting_body entry ≡ true → process x entry ≡ Ok y
+    → told_cells (after_lists x entry).cells (shown_content y).cells
+    ≡ told_cells (filter (is_set_by x entry) (after_lists x entry).cells) (filter (is_set_by x entry) (shown_content y).cells)

@@ -3,6 +3,7 @@ use Rattle.ft_changes.proofs.CellsTold.{unset-cells-tell-nothing}
 use Rattle.ft_changes.proofs.LocalLaw.{told-edit-leads-on}
 use Rattle.ft_changes.proofs.NothingTold.{ack-tells-nothing, own-join-tells-nothing}
 use Rattle.ft_changes.proofs.QuietIntervals.{quiet-intervals}
+use Rattle.ft_changes.proofs.SetCells.{told-cells-set}
 use Rattle.ft_changes.proofs.ShownViews.{shown-is-content}
 use Rattle.ft_changes.proofs.ToldLaw.{lists-lead, told-leads-on}
 use Rattle.ft_changes.proofs.laws.telling.Goals as goal
@@ -33,3 +34,6 @@ returns-clause-cells c = unset-cells-tell-nothing
 
 pub returns-clause-quiet : goal.returns-clause-quiet
 returns-clause-quiet c = quiet-intervals
+
+pub returns-clause-set : goal.returns-clause-set
+returns-clause-set c = told-cells-set
