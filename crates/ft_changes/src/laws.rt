@@ -2,10 +2,11 @@
 
 ghost use Rattle.ft_changes.specs.Laws.{AckMovesNoInterval, AckTellsNothing, CellsToldAreSet, KeptAckTellsNothing, KeptIsShown, KeptJoinTellsNothing, KeptQuietIntervals, KeptTells, KeptTellsEdits, KeptTellsTheSame, KeptUnsetCellsTellNothing, NamelessIsShown, OwnJoinTellsNothing, QuietIntervals, ShownIsContent, ToldEditLeadsOn, ToldInPlaceOf, ToldLeadsOn, ToldListsLead, UnsetCellsTellNothing};
 
-/// What an editor keeps of the text as elements is what the view has; and an editor that applies what it is told of an entry
-/// or of an edit of its own shows what the client shows after it. But for cells and intervals the changes of the lists lead there
-/// alone. Of its own join a client tells nothing, and its own message moves no interval as it comes back, so it tells nothing of that
-/// either. Of a message that sets no cell none is told, and else only cells that it sets; and no interval, where nothing is pending and the message has no interval operation.
+/// What an editor keeps of the text as elements is what the view has; and an editor that applies what it is told of an
+/// entry or of an edit of its own shows what the client shows after it. But for cells and intervals the changes of the
+/// lists lead there alone. Of its own join a client tells nothing, and its own message moves no interval as it comes
+/// back, so it tells nothing of that either. Of a message that sets no cell none is told, and else only cells that it
+/// sets; and no interval, where nothing is pending and the message has no interval operation.
 pub fn telling()
     ensures kept { ShownIsContent }
     ensures lists { ToldListsLead }
@@ -19,9 +20,10 @@ pub fn telling()
     ensures set { CellsToldAreSet }
 {}
 
-/// A client that keeps another but for what compaction takes away shows the same as elements too, and tells just the same; and what
-/// is told by one that shows the same before and after an entry leads on the editor of the whole one. So what a compacted client tells
-/// of entries and of edits leads it on, and it tells nothing where the whole one doesn't. And what is shown doesn't depend on the names of elements.
+/// A client that keeps another but for what compaction takes away shows the same as elements too, and tells just the
+/// same; and what is told by one that shows the same before and after an entry leads on the editor of the whole one. So
+/// what a compacted client tells of entries and of edits leads it on, and it tells nothing where the whole one doesn't.
+/// And what is shown doesn't depend on the names of elements.
 pub fn telling_of_kept()
     ensures shown { KeptIsShown }
     ensures leads { ToldInPlaceOf }
