@@ -32,3 +32,4 @@ pub mod IntervalsLead
 pub mod QuietIntervals
 pub mod FilteredItems
 pub mod SetCells
+pub mod RestSteps

@@ -2,8 +2,11 @@
 #![tactic(auto)]
 
 pub mod changes;
+mod items;
 pub mod laws;
+pub mod rest;
 pub mod telling;
 
 pub use changes::{ViewChange, ViewChanges};
+pub use rest::{ShownRest, add_rest};
 pub use telling::Telling;
