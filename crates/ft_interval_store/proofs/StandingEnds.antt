@@ -1,5 +1,5 @@
 -- Ends on leaves, of intervals that are there or not.
-use Rattle.std.proofs.Common.{◌≡◌, ℕ, ◌≤◌, List, [], ◌∷◌, Option, Some, None, IfSome, is_some, option_map, refl}
+use Rattle.std.proofs.Common.{◌≡◌, ℕ, ◌≤◌, List, [], ◌∷◌, Option, Some, None, IfSome, option_map, refl}
 use Rattle.std.specs.List.{AllZip}
 use Rattle.ft_tree_leaves.specs.declared.text.TextContent.{TextContent}
 use Rattle.ft_tree_leaves.specs.Edits.{next_removal_above}
@@ -37,13 +37,6 @@ module _ (tree : TreeState TextContent) where
   shows-on k None (Some e) h = absurd h
   shows-on k (Some i) None h = absurd h
   shows-on k (Some i) (Some e) h = (h.start.on_leaf, h.end.on_leaf)
-
-  -- the ends of an interval are shown just where it is there
-  pub shows-some : (k : ℕ) (i : Option (Interval ℕ)) (e : Option (EndPair Place)) → ShowsEnds tree k i e → is_some e ≡ is_some i
-  shows-some k None None h = refl
-  shows-some k None (Some e) h = absurd h
-  shows-some k (Some i) None h = absurd h
-  shows-some k (Some i) (Some e) h = refl
 
   -- the ends as numbers, where the interval is there
   abbrev pub numbers_of : Option (Interval ℕ) → Option Ends

@@ -35,6 +35,16 @@ is_on n (IntervalChange label id ends props) = is_eq (name_cmp n (label, id))
 is_on n (IntervalDelete label id) = is_eq (name_cmp n (label, id))
 is_on n _ = false
 
+-- whether an operation leaves the interval that it is on there, where that follows from the operation alone
+abbrev pub there_after : TextOp → Option Bool
+there_after (IntervalAdd label id ends props) = Some true
+there_after (IntervalDelete label id) = Some false
+there_after _ = None
+
+-- the same of the interval of that name
+abbrev pub told_there : Name → TextOp → Option Bool
+told_there n op = cond (is_on n op) (there_after op) None
+
 module _ {T : Type 0} where
   -- the name of an interval
   abbrev pub name_of : Interval T → Name

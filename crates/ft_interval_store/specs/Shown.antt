@@ -1,6 +1,6 @@
 -- The intervals as they are shown. Ends are places in the list of elements: at each pending stage in order they are settled
 -- among what that stage sees, and then the stage's operation is applied.
-use Rattle.std.specs.Prelude.{ℕ, zero, suc, ◌-◌, min, List, [], ◌∷◌, Option, Some, None, map, option_and_then, option_map, ℤ, pos, negsuc}
+use Rattle.std.specs.Prelude.{Bool, ℕ, zero, suc, ◌-◌, min, List, [], ◌∷◌, Option, Some, None, map, option_and_then, option_map, ℤ, pos, negsuc}
 use Rattle.ft_block.specs.declared.leaves.LenView.TheVariants.{Stage}
 use Rattle.ft_op.specs.declared.operations.Ends.{Ends}
 use Rattle.ft_op.specs.declared.operations.TextOp.{TextOp}
@@ -12,12 +12,17 @@ use Rattle.ft_tree_leaves.specs.References.{reference_place}
 use Rattle.ft_interval_store.specs.declared.intervals.EndPair.{EndPair}
 use Rattle.ft_interval_store.specs.declared.intervals.Interval.{Interval}
 use Rattle.ft_interval_store.specs.declared.pending.Operation.{Operation}
-use Rattle.ft_interval_store.specs.Intervals.{Name, after_operation, one_after}
+use Rattle.ft_interval_store.specs.Intervals.{Name, after_operation, one_after, told_there}
 use Rattle.ft_interval_store.specs.Ends.{References, map_ends}
 
 -- above all pending stages
 abbrev pub last : ℕ
 last = 18446744073709551615
+
+-- whether the interval of that name is there behind these operations, where it is there or not before them
+abbrev pub is_there : Name → List Operation → Bool → Bool
+is_there n [] before = before
+is_there n (t ∷ ts) before = is_there n ts (elim (told_there n t.op) as (λ _. Bool) [ None ↦ before | Some there ↦ there ])
 
 module _ {U : Type 0} (xs : List (TreeElement U)) where
   -- an end as it is settled at stage k: its element if that stage sees it, else the next one that it sees, else the last

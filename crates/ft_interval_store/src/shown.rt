@@ -1,13 +1,13 @@
-//! What is shown of one interval: its ends as elements on leaves.
+//! What is shown of one interval: whether it is there, and its ends as elements on leaves.
 
-ghost use Rattle.std.specs.Prelude.{◌≤◌, ℕ, Option, IfSome, IsTrue, option_map};
+ghost use Rattle.std.specs.Prelude.{◌≡◌, ◌≤◌, ℕ, Option, IfSome, IsTrue, is_some, option_map};
 ghost use Rattle.ft_tree_leaves.specs.declared.text.TextContent.{TextContent};
 ghost use Rattle.ft_tree.specs.State.{TreeState};
 ghost use Rattle.ft_interval_store.specs.declared.intervals.EndPair.{EndPair};
 ghost use Rattle.ft_interval_store.specs.declared.intervals.Interval.{Interval};
 ghost use Rattle.ft_interval_store.specs.Ends.{AreLiveEnds, map_ends, places_of_ends};
-ghost use Rattle.ft_interval_store.specs.Intervals.{after_own, interval_of, one_after};
-ghost use Rattle.ft_interval_store.specs.Shown.{carried_interval, last, settled_end, settled_interval, shown_intervals};
+ghost use Rattle.ft_interval_store.specs.Intervals.{after_own, interval_of, one_after, there_after, told_there};
+ghost use Rattle.ft_interval_store.specs.Shown.{carried_interval, is_there, last, settled_end, settled_interval, shown_intervals};
 ghost use Rattle.ft_interval_store.specs.Standing.{AreOnTree, ShowsEnds, StandAt};
 ghost use Rattle.ft_interval_store.specs.State.{AreLiveIntervals, AreLiveOperations, StagesRise, placed_intervals, placed_operations, text_elements, with_mapped_ends};
 
@@ -126,4 +126,50 @@ pub fn shown_ends(
         stage = t.stage;
     }
     carried_shown(tree, shown, stage, u64::MAX)
+}
+
+// What an operation says of whether the interval of that label and id is there: None where it says nothing of it.
+fn told_there(op: &TextOp, label: &Text, id: &Text) -> Option<bool>
+    ensures { result ≡ told_there (label.now, id.now) op.now }
+{
+    if !is_on(label, id, op) {
+        return None;
+    }
+    there_after(op)
+}
+
+// The same of the interval that the operation is on.
+fn there_after(op: &TextOp) -> Option<bool>
+    ensures { result ≡ there_after op.now }
+{
+    match op {
+        TextOp::IntervalAdd { .. } => Some(true),
+        TextOp::IntervalDelete { .. } => Some(false),
+        TextOp::IntervalChange { .. } | TextOp::One(_) | TextOp::Group(_) => None,
+    }
+}
+
+/// Whether the interval of that label and id is acknowledged.
+pub fn is_acked(acked: &Intervals<RefId>, label: &Text, id: &Text) -> bool
+    ensures { result ≡ is_some (interval_of (label.now, id.now) acked.now) }
+{
+    match acked.get(label, id) {
+        Some(_) => true,
+        None => false,
+    }
+}
+
+/// Whether the interval of that label and id is there behind the pending operations, where it is acknowledged or not: the
+/// last of them that adds or deletes it decides. It looks at no end, and at no element.
+pub fn is_there(pending: &[Operation], label: &Text, id: &Text, acked: bool) -> bool
+    ensures { result ≡ is_there (label.now, id.now) pending.now acked }
+{
+    let mut i = pending.len();
+    'back: while i > 0 {
+        i -= 1;
+        if let Some(there) = told_there(&pending[i].op, label, id) {
+            return there;
+        }
+    }
+    acked
 }

@@ -5,7 +5,9 @@ ghost use Rattle.std.specs.Ordering.{is_eq};
 ghost use Rattle.std.specs.List.{list_any};
 ghost use Rattle.ft_base.specs.Scan.{len};
 ghost use Rattle.ft_block.specs.declared.leaves.LenView.TheVariants.{At, Stage};
+ghost use Rattle.ft_tree_leaves.specs.declared.text.TextContent.{TextContent};
 ghost use Rattle.ft_tree_leaves.specs.Elements.{seen_in};
+ghost use Rattle.ft_tree.specs.State.{TreeState};
 ghost use Rattle.ft_op.specs.Document.{ends_of, given_ends_fit};
 ghost use Rattle.ft_interval_store.specs.declared.faults.IntervalFault.TheVariants as fault;
 ghost use Rattle.ft_interval_store.specs.declared.intervals.Interval.{Interval};
@@ -25,7 +27,7 @@ use crate::faults::IntervalFault;
 use crate::intervals::{EndPair, FoundInterval, Intervals};
 use crate::numbers::{add_numbers, settled_numbers, with_numbers};
 use crate::pending::{Operation, given_ends, has_stage, is_add, place_of_stage, push_copy};
-use crate::shown::shown_ends;
+use crate::shown::{is_acked, is_there, shown_ends};
 use crate::standing::shown_numbers;
 use ft_base::{Datum, OutOfMemory, Perspective, Text};
 use ft_block::LenView;
@@ -42,7 +44,8 @@ use std::marker::Model;
 /// pending operations stay. Each call has the condition that the references which it keeps are live in that tree, and keeps
 /// this. After a call with a tree returned `OutOfMemory`, tree and collections may be used no more.
 ///
-/// An interval is found by a binary search; what is shown of one looks at no other.
+/// An interval is found by a binary search; what is shown of one looks at no other. Whether the view has it, as each edit asks,
+/// depends on names alone.
 #[derive(Drop)]
 pub struct Store {
     acked: Intervals<RefId>,
@@ -105,7 +108,7 @@ impl Store {
         ensures acked { self.new.acked ≡ self.old.acked }
     {
         let adds = is_add(op);
-        let shown = self.is_shown(tree, op);
+        let shown = self.is_shown(op);
         if adds && shown {
             return Err(IntervalFault::IdInUse);
         }
@@ -126,28 +129,27 @@ impl Store {
         Ok(())
     }
 
-    // Whether the view has the interval that the operation is on.
-    fn is_shown(&self, tree: &Tree<TextContent>, op: &TextOp) -> bool
-        requires usable { IsTrue tree.now.usable }
-        requires live { IsLive tree.now.refs self.now }
-        requires kind { is_interval_operation op.now ≡ true }
-        ensures { result ≡ is_shown (text_elements tree.now) (name_in op.now) (placed tree.now.refs self.now) }
+    // Whether the view has the interval that the operation is on, which doesn't depend on the elements.
+    fn is_shown(&self, op: &TextOp) -> bool
+        requires { is_interval_operation op.now ≡ true }
+        ensures { (tree : TreeState TextContent) → result ≡ is_shown (text_elements tree) (name_in op.now) (placed tree.refs self.now) }
     {
         match op {
-            TextOp::IntervalAdd { label, id, .. } => self.has_shown(tree, label, id),
-            TextOp::IntervalChange { label, id, .. } => self.has_shown(tree, label, id),
-            TextOp::IntervalDelete { label, id } => self.has_shown(tree, label, id),
+            TextOp::IntervalAdd { label, id, .. } => self.has_shown(label, id),
+            TextOp::IntervalChange { label, id, .. } => self.has_shown(label, id),
+            TextOp::IntervalDelete { label, id } => self.has_shown(label, id),
             TextOp::One(_) | TextOp::Group(_) => unreachable!(),
         }
     }
 
     // Whether the label has the id in the view.
-    fn has_shown(&self, tree: &Tree<TextContent>, label: &Text, id: &Text) -> bool
-        requires usable { IsTrue tree.now.usable }
-        requires live { IsLive tree.now.refs self.now }
-        ensures { result ≡ is_shown (text_elements tree.now) (label.now, id.now) (placed tree.now.refs self.now) }
+    fn has_shown(&self, label: &Text, id: &Text) -> bool
+        ensures { (tree : TreeState TextContent) → result ≡ is_shown (text_elements tree) (label.now, id.now) (placed tree.refs self.now) }
     {
-        shown_ends(tree, &self.acked, &self.pending, label, id).is_some()
+        // That names rise is read off its contract.
+        let _all = self.acked.pages();
+        let acked = is_acked(&self.acked, label, id);
+        is_there(&self.pending, label, id, acked)
     }
 
     /// Where the acknowledged interval that an operation is on stands, and its ends.

@@ -14,13 +14,13 @@ use Rattle.ft_interval_store.proofs.store.Store.edit_local.Goals as goal
 
 pub returns-clause-name : goal.returns-clause-name
 returns-clause-name c =
-    sym c.is_shown-shown.ensures ∙ shown-unless-added c.is_add-adds.result c.is_shown-shown.result c.else-adds.either c.else-not-adds.either ∙ ap not c.is_add-adds.ensures
+    sym (c.is_shown-shown.ensures c.args.tree.now) ∙ shown-unless-added c.is_add-adds.result c.is_shown-shown.result c.else-adds.either c.else-not-adds.either ∙ ap not c.is_add-adds.ensures
 
 pub returns-then-not-given_ends_fit-clause-refused : goal.returns-then-not-given_ends_fit-clause-refused
 returns-then-not-given_ends_fit-clause-refused c =
     let xs = text_elements c.args.tree.now in
     let seen = seen_in (Stage c.args.stage) in
-    let shown = sym c.is_shown-shown.ensures
+    let shown = sym (c.is_shown-shown.ensures c.args.tree.now)
     ∙ shown-unless-added c.is_add-adds.result c.is_shown-shown.result c.else-adds.either c.else-not-adds.either ∙ ap not c.is_add-adds.ensures in
     let fit : c.given_ends_fit.result ≡ given_ends_fit (len seen xs) (ends_of c.args.op.now) =
     c.given_ends_fit.ensures ∙ ap (λ n. given_ends_fit n c.given_ends-given.result) c.length-length.ensures ∙ ap (λ g. given_ends_fit (len seen xs) g) c.given_ends-given.ensures in
