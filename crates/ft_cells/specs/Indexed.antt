@@ -1,6 +1,7 @@
 -- How the cells are kept: in order of row and then of column, beside them their places in order of column and then of row,
--- and the place of each pending write by its stage.
-use Rattle.std.specs.Prelude.{◌≡◌, ℕ, Bool, true, false, Some}
+-- and the place of each pending write by its stage. The writes of a cell stand by rising stage.
+use Rattle.std.specs.Prelude.{◌≡◌, ℕ, ◌<◌, Bool, true, false, List, [], ◌∷◌, Some, ⊤}
+use Rattle.std.specs.List.{AllByRecursion}
 use Rattle.std.specs.BTreeMap as tree
 use Rattle.std.specs.BTreeMap.{BTreeMap}
 use Rattle.std.specs.BTreeSet as set
@@ -25,3 +26,8 @@ IsColumned table columns = (row col : ℕ) → has_place columns col row ≡ fal
 pub record IsIndexed (table : CellTable) (columns : BTreeSet Crossing) (stages : BTreeMap ℕ Crossing) : Type 0 where
   pub columned : IsColumned table columns
   pub staged : (row col k : ℕ) → has_write k (table row col) ≡ true → tree.get nat_cmp stages k ≡ Some (crossing row col)
+
+-- the stages of the writes rise
+abbrev pub AreRising : List (ℕ × List ℕ) → Type 0
+AreRising [] = ⊤
+AreRising (w ∷ ws) = AllByRecursion (λ v. w.0 < v.0) ws × AreRising ws

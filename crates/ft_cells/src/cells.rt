@@ -28,7 +28,8 @@ pub struct CellKey {
 ///
 /// They are kept in order of row and column; the places alone are kept in order of column and row too, and by stage.
 /// So the calls that clear lines look at the cells of these lines alone, however many lines they are, and `ack` and
-/// `drop_pending` at the one cell that the stage writes; each look-up among n cells takes about log(n) steps. A pair whose pending writes were all taken
+/// `drop_pending` at the one cell that the stage writes; each look-up among n cells takes about log(n) steps, and as many among the
+/// pending writes of a cell, of which the first and the last are taken out at once. A pair whose pending writes were all taken
 /// out keeps its empty entry until its row or its column is cleared.
 #[derive(Drop)]
 pub struct Cells {

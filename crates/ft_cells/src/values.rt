@@ -1,33 +1,52 @@
 //! What one cell holds.
 
-ghost use Rattle.std.specs.Prelude.{◌≡◌, OnOk, OnErr, nat_eq, option_copied, position};
+ghost use Rattle.std.specs.Prelude.{◌≡◌, ◌<◌, ◌≤◌, All, OnOk, OnErr, false, length, nat_eq, nat_lt, option_copied, position, true};
+ghost use Rattle.std.specs.List.Sorted.{IsPartitionPoint};
 ghost use Rattle.std.specs.Map.{lookup};
+ghost use Rattle.ft_cells.specs.Indexed.{AreRising};
 
 use ft_base::OutOfMemory;
 use ft_json::ValText;
 use std::alloc::Global;
+use std::collections::VecDeque;
 use std::marker::Model;
 
-/// The acknowledged value of a cell, and the pending writes on top of it by rising stage.
+/// The acknowledged value of a cell, and the pending writes on top of it by rising stage. They are a queue: a write is found by halves,
+/// and the first or the last one is taken out at once, however many there are.
 #[derive(Drop)]
 pub struct CellValues {
     acked: Option<ValText>,
-    pending: Vec<(u64, ValText)>,
+    pending: VecDeque<(u64, ValText)>,
 }
 
 impl Model for CellValues {
     ghost use Rattle.ft_cells.specs.CellTables.{CellState};
+    ghost use Rattle.ft_cells.specs.Indexed.{AreRising};
 
     ghost Value = { CellState };
 
     ghost view = { λ a. record { acked = a.acked; pending = a.pending.items } };
+
+    ghost invariant = { λ a. AreRising a.pending.items };
 }
 
-// The place of the first write of that stage, if there is one.
-fn place_of_stage(pending: &[(u64, ValText)], stage: u64) -> Option<usize>
-    ensures { result ≡ position (λ w. nat_eq w.0 stage) pending.now }
+// How many writes are of lower stages.
+fn lower_writes(pending: &VecDeque<(u64, ValText)>, stage: u64) -> usize
+    requires { AreRising pending.now.items }
+    ensures within { result ≤ length pending.now.items }
+    ensures end { IsPartitionPoint (λ w. nat_lt w.0 stage ≡ true) (λ w. nat_lt w.0 stage ≡ false) pending.now.items result }
 {
-    pending.iter().position(|write| write.0 == stage)
+    pending.partition_point(|write| write.0 < stage)
+}
+
+// The place of the write of that stage, if there is one.
+fn place_of_stage(pending: &VecDeque<(u64, ValText)>, stage: u64) -> Option<usize>
+    requires { AreRising pending.now.items }
+    ensures { result ≡ position (λ w. nat_eq w.0 stage) pending.now.items }
+{
+    let i = lower_writes(pending, stage);
+    let write = pending.get(i)?;
+    if write.0 == stage { Some(i) } else { None }
 }
 
 impl CellValues {
@@ -39,7 +58,7 @@ impl CellValues {
     {
         CellValues {
             acked: None,
-            pending: Vec::new(alloc),
+            pending: VecDeque::new(alloc),
         }
     }
 
@@ -50,14 +69,15 @@ impl CellValues {
         self.acked = Some(value);
     }
 
-    /// Adds a pending write on top of the others.
+    /// Adds a pending write on top of the others. Its stage is above theirs.
     ///
     /// Returns `OutOfMemory` where there is no room for it, and then all is as it was.
     pub fn write(&mut self, stage: u64, value: ValText) -> Result<(), OutOfMemory>
+        requires { All (λ write. write.0 < stage) self.old.pending }
         ensures ok { OnOk result (self.new ≡ with_write stage value self.old) }
         ensures err { OnErr result (self.new ≡ self.old) }
     {
-        self.pending.push((stage, value))?;
+        self.pending.push_back((stage, value))?;
         Ok(())
     }
 
@@ -65,7 +85,7 @@ impl CellValues {
     pub fn drop_pending(&mut self, stage: u64)
         ensures { self.new ≡ without_write stage self.old }
     {
-        self.pending.retain(|write| write.0 != stage);
+        let _ = self.take_write(stage);
     }
 
     // Takes the write of that stage out, if there is one, and returns its value.
@@ -74,8 +94,7 @@ impl CellValues {
         ensures rest { self.new ≡ without_write stage self.old }
     {
         let i = place_of_stage(&self.pending, stage)?;
-        let (_, value) = self.pending.remove(i);
-        self.drop_pending(stage);
+        let (_, value) = self.pending.remove(i)?;
         Some(value)
     }
 
@@ -99,7 +118,7 @@ impl CellValues {
     fn value(&self) -> Option<&ValText>
         ensures { option_copied result ≡ last_value self.now.acked self.now.pending }
     {
-        match self.pending.last() {
+        match self.pending.back() {
             Some((_, value)) => Some(value),
             None => self.acked.as_ref(),
         }

@@ -1,6 +1,6 @@
 //! The entries of cells, without their stages.
 
-ghost use Rattle.std.specs.Prelude.{◌≡◌, ℕ, ◌<◌, ◌&&◌, IsSome, OnOk, OnErr, nat_eq, not, true};
+ghost use Rattle.std.specs.Prelude.{◌≡◌, ℕ, ◌<◌, ◌&&◌, All, IsSome, OnOk, OnErr, nat_eq, not, true};
 ghost use Rattle.std.specs.BTreeMap as tree;
 ghost use Rattle.std.specs.BTreeMap.{btree_map_len};
 ghost use Rattle.std.specs.BTreeSet.{btree_set_len};
@@ -29,7 +29,7 @@ pub fn set_at(
     Ok(())
 }
 
-/// Adds a pending write to the cell there.
+/// Adds a pending write to the cell there. Its stage is above those that are pending in it.
 pub fn write_at(
     cells: &mut BTreeMap<Crossing, CellValues>,
     alloc: Global,
@@ -37,6 +37,7 @@ pub fn write_at(
     stage: u64,
     value: ValText,
 ) -> Result<(), OutOfMemory>
+    requires { All (λ write. write.0 < stage) (table_of cells.old place.line place.across).pending }
     ensures ok { OnOk result ((r c : ℕ) → table_of cells.new r c ≡ changed_cell place.line place.across (with_write stage value) (table_of cells.old) r c) }
     ensures err { OnErr result ((r c : ℕ) → table_of cells.new r c ≡ table_of cells.old r c) }
 {

@@ -14,6 +14,9 @@ invariant_of-self-in_err-insert-2 c =
     (λ r d. c.in_ok-insert.ensures.updates.0 (crossing d r)) (λ r d. refl)
     (λ r d j h. ap (λ es. lookup (is_at (nat_cmp j)) es) c.in_err-insert-2.ensures.err)
 
+pub write_at-requires : goal.write_at-requires
+write_at-requires c = rw (ap (λ (cells : CellList). cell_at cells c.args.row c.args.col) c.self.view_is) (c.requires c.args.row c.args.col)
+
 pub invariant_of-self-2 : goal.invariant_of-self-2
 invariant_of-self-2 c =
     let old = table_of c.self.inside.cells in

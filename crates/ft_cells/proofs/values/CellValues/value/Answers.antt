@@ -1,12 +1,13 @@
-use Rattle.std.proofs.Common.{◌≡◌, ◌-◌, Some, ap, sym, ◌∙◌, length}
-use Rattle.std.specs.Prelude.{slice_get}
+use Rattle.std.proofs.Common.{◌≡◌, ◌-◌, ap, sym, refl, ◌∙◌, length, get_or, rules, arith}
 use Rattle.ft_cells.specs.CellTables.{CellState, last_value}
-use Rattle.ft_cells.proofs.Writes.{Writes, last_value-last}
+use Rattle.ft_cells.proofs.Writes.{last_value-last}
 use Rattle.ft_cells.proofs.values.CellValues.value.Goals as goal
 
 pub returns-in-Some : goal.returns-in-Some
 returns-in-Some c =
     let ws = c.self.inside.pending.items in
-    let found : slice_get ws (length ws - 1) ≡ Some c.in-Some.field-0.now =
-    ap (λ (xs : Writes). slice_get xs (length xs - 1)) (sym c.deref.ensures.value) ∙ sym c.last.ensures.value ∙ (cc) in
-    sym (last_value-last c.self.inside.acked ws c.in-Some.field-0.now found) ∙ ap (λ (x : CellState). last_value x.acked x.pending) c.self.view_is
+    let last = c.in-Some.field-0.now in
+    let len : c.self.inside.pending.len ≡ length ws = search rules in
+    let there : last ≡ get_or ws (length ws - 1) last = c.in-Some.ensures.lookup ∙ ap (λ n. get_or ws (n - 1) last) len in
+    sym (last_value-last c.self.inside.acked ws last (omega (arith, c.in-Some.ensures.variant.0 refl, len)) there)
+    ∙ ap (λ (x : CellState). last_value x.acked x.pending) c.self.view_is
