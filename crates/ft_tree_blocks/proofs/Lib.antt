@@ -2,9 +2,11 @@ pub mod Walks
 pub mod WalkEdits
 pub mod Neighbours
 pub mod CountedWalks
+pub mod FoundLeaves
 pub mod MovedLeaves
 mod StepValues
 mod SettledLeaves
+mod SkippedLeaves
 mod Acknowledged
 mod LeafPlaces
 mod AnchoredLeaves
@@ -18,6 +20,7 @@ mod TrackedSteps
 mod AckedNodes
 pub mod LeastAbove
 mod StageSearch
+mod UnremovedLeaves
 mod OrderedNodes
 mod PrunedLists
 mod KeptRefs

@@ -11,4 +11,5 @@ pub mod State
 pub mod Inside
 pub mod LeafPlaces
 pub mod LastStanding
+pub mod Skips
 pub mod NewLeaves

@@ -2,6 +2,7 @@
 use Rattle.std.specs.Prelude.{◌≡◌, ℕ, ◌≤◌, Bool, true, false, nat_eq, List, Some}
 use Rattle.std.specs.Option.{option_map_or}
 use Rattle.ft_arena.specs.Ids.{times}
+use Rattle.ft_tree_leaves.specs.declared.leaves.Standing.{Standing}
 use Rattle.ft_tree_leaves.specs.declared.leaves.Standing.TheVariants.{Unremoved}
 use Rattle.ft_tree_leaves.specs.declared.leaves.TreeLeaf.{TreeLeaf}
 use Rattle.ft_refs.specs.declared.numbers.Place.{Place}
@@ -25,3 +26,7 @@ AreSettledBut leaves nodes a =
 -- whether the reference of this number stands on the leaf of this node
 abbrev pub is_on : AnchorLists → ℕ → ℕ → Bool
 is_on a id r = option_map_or (λ owner. nat_eq owner id) (owner_of a.refs r) false
+
+-- the test tells of each leaf whether acknowledged references may stand on it
+abbrev pub TellsUnremoved : {C : Type 0} → List (ℕ × TreeLeaf C) → Standing → Type 0
+TellsUnremoved leaves test = (id : ℕ) → stands_at test leaves id ≡ is_unremoved_at leaves id

@@ -15,8 +15,7 @@ ghost use Rattle.ft_tree_blocks.specs.Unsettled.{IsSoundOn};
 
 use crate::leaf_refs::LeafRefs;
 use crate::reads;
-use crate::settling::settled_on;
-use crate::slides::slide_leaves;
+use crate::slides::{slid_on, slide_leaves, unremoved};
 use crate::stage_nodes::StageNodes;
 use crate::touched::{note_stamps, purge};
 use crate::tracked::{note_change, note_new, note_rear};
@@ -284,10 +283,12 @@ pub(crate) fn place_anchored<C: Content>(
 /// Makes a reference acknowledged, and slides it.
 pub(crate) fn settle_anchored<C: Content>(
     blocks: &Blocks<TreeLeaf<C>>,
+    touched: &VecDeque<StageNodes>,
     refs: &mut LeafRefs,
     r: RefId,
 )
     requires usable { IsTrue blocks.now.usable }
+    requires tracks { Tracks blocks.now.leaves touched.now.items }
     requires sound { IsSoundOn C.units blocks.now.leaves refs.old.anchors refs.old.unsettled.items }
     requires live { IsReferenceIn (references_on C.units C.by blocks.now.leaves refs.old.anchors) r }
     ensures refs { let leaves = blocks.now.leaves in
@@ -301,7 +302,7 @@ pub(crate) fn settle_anchored<C: Content>(
     let Some(place) = refs.anchors.place(r) else {
         return;
     };
-    match settled_on(blocks, &place, Standing::Unremoved) {
+    match slid_on(blocks, &place, unremoved(blocks, touched)) {
         Some(to) => refs.anchors.put(r, to.owner, to.offset),
         None => refs.anchors.detach(r),
     }
@@ -323,8 +324,13 @@ pub(crate) fn drop_anchored<C: Content>(blocks: &Blocks<TreeLeaf<C>>, refs: &mut
 
 /// Lets all acknowledged references slide after sequenced removals, by going to those leaves on which they may
 /// have to.
-pub(crate) fn slide_anchored<C: Content>(blocks: &Blocks<TreeLeaf<C>>, refs: &mut LeafRefs)
+pub(crate) fn slide_anchored<C: Content>(
+    blocks: &Blocks<TreeLeaf<C>>,
+    touched: &VecDeque<StageNodes>,
+    refs: &mut LeafRefs,
+)
     requires usable { IsTrue blocks.now.usable }
+    requires tracks { Tracks blocks.now.leaves touched.now.items }
     requires sound { IsSoundOn C.units blocks.now.leaves refs.old.anchors refs.old.unsettled.items }
     ensures refs { let leaves = blocks.now.leaves in
         ChangesReferences (slid_reference (elements C.units C.by leaves))
@@ -332,6 +338,7 @@ pub(crate) fn slide_anchored<C: Content>(blocks: &Blocks<TreeLeaf<C>>, refs: &mu
     ensures sound { IsSoundOn C.units blocks.now.leaves refs.new.anchors refs.new.unsettled.items }
     ensures settled { refs.new.unsettled.items ≡ [] }
 {
-    slide_leaves(blocks, &mut refs.anchors, refs.unsettled.as_slice());
+    let test = unremoved(blocks, touched);
+    slide_leaves(blocks, &mut refs.anchors, refs.unsettled.as_slice(), test);
     refs.unsettled.clear();
 }

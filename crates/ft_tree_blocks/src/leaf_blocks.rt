@@ -398,7 +398,7 @@ impl<C: Content> LeafBlocks<C> {
             ChangesReference r (λ x. Some (slid_reference old (record x { acked = true }))) self.old.refs self.new.refs }
         ensures rest { self.new ≡ record self.old { refs = self.new.refs } }
     {
-        settle_anchored(&self.blocks, &mut self.refs, r);
+        settle_anchored(&self.blocks, &self.touched, &mut self.refs, r);
     }
 
     /// Ends a reference.
@@ -418,7 +418,7 @@ impl<C: Content> LeafBlocks<C> {
         ensures refs { ChangesReferences (slid_reference (elements C.units C.by self.old.leaves)) self.old.refs self.new.refs }
         ensures rest { self.new ≡ record self.old { refs = self.new.refs } }
     {
-        slide_anchored(&self.blocks, &mut self.refs);
+        slide_anchored(&self.blocks, &self.touched, &mut self.refs);
     }
 
     /// The least pending stage above this one that marks an element as removed. It goes to the leaves that the

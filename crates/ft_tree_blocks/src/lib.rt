@@ -8,6 +8,7 @@
 mod acks;
 mod anchored;
 pub mod anchors;
+mod finds;
 pub mod leaf_blocks;
 mod leaf_refs;
 mod next_stages;
@@ -20,4 +21,5 @@ mod stage_nodes;
 mod touched;
 mod tracked;
 
+pub use finds::find_leaf;
 pub use leaf_blocks::LeafBlocks;

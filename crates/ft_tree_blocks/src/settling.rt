@@ -2,24 +2,62 @@
 
 ghost use Rattle.std.specs.Prelude.{◌≡◌, IfSome, IsTrue, length, option_map, true};
 ghost use Rattle.std.specs.Option.{ForSome};
-ghost use Rattle.ft_block.specs.Leaves.{IsLeafIn, IsPlaceIn};
+ghost use Rattle.ft_block.specs.Leaves.{IsFromFloor, IsLeafIn, IsPlaceIn};
+ghost use Rattle.ft_tree_leaves.specs.declared.leaves.Standing.TheVariants.{SeenIn};
 ghost use Rattle.ft_tree_leaves.specs.Edits.{up_to_place};
 ghost use Rattle.ft_tree_leaves.specs.LeafLists.{elements};
 ghost use Rattle.ft_tree_leaves.specs.Places.{settled_place};
 ghost use Rattle.ft_tree_leaves.specs.Settling.{first_from, stands};
 ghost use Rattle.ft_tree_blocks.specs.LeafPlaces.{IsOnLeaf, leaf_end, leaf_start, place_on, stands_at};
 ghost use Rattle.ft_tree_blocks.specs.LastStanding.{last_from};
+ghost use Rattle.ft_tree_blocks.specs.Skips.{Skips};
 ghost use Rattle.ft_tree_blocks.specs.Walks.{before_place, from_place};
 
+use crate::finds::{last_seen, next_seen};
 use crate::reads;
 use ft_arena::NodeId;
-use ft_block::Blocks;
+use ft_block::{Blocks, LenView};
 use ft_refs::Place;
 use ft_tree_leaves::leaves::Standing;
 use ft_tree_leaves::{Content, TreeLeaf};
 
+/// So many leaves a search looks at one by one, before it goes by the sums that blocks keep of a view.
+const NEAR: u64 = 8;
+
+// Whether the view is no perspective with a reference number below the floor: then blocks keep its sums.
+fn is_from_floor<C: Content>(blocks: &Blocks<TreeLeaf<C>>, view: LenView) -> bool
+    ensures { result ≡ true → IsFromFloor blocks.now.floor view }
+{
+    match view {
+        LenView::At(at) => blocks.floor() <= at.r,
+        LenView::Stage(_) => true,
+        LenView::All => true,
+    }
+}
+
+// The view by whose sums a search goes on that may look at so many more leaves one by one.
+fn sums_for<C: Content>(blocks: &Blocks<TreeLeaf<C>>, test: Standing, near: u64) -> Option<LenView>
+    ensures view { IfSome result (λ view. test ≡ SeenIn view) }
+    ensures floor { IfSome result (IsFromFloor blocks.now.floor) }
+{
+    if near > 0 {
+        return None;
+    }
+    let Standing::SeenIn(view) = test else {
+        return None;
+    };
+    if is_from_floor(blocks, view) {
+        Some(view)
+    } else {
+        None
+    }
+}
+
 /// The first leaf from that of this node on on whose elements a reference may stand: None where there is none,
-/// or no node is given. It reads the leaves up to that one.
+/// or no node is given.
+///
+/// It looks at the next few leaves one by one. Where a reference may stand on what a view sees, and blocks keep its sums, it goes up from
+/// there and down from the root then, else it reads all leaves up to that one.
 pub fn next_standing<C: Content>(
     blocks: &Blocks<TreeLeaf<C>>,
     from: Option<NodeId>,
@@ -32,10 +70,12 @@ pub fn next_standing<C: Content>(
     ensures first { let leaves = blocks.now.leaves in
         option_map (leaf_start C.units C.by leaves) result
         ≡ first_from (stands test) (length (elements C.units C.by (before_place leaves from))) (elements C.units C.by (from_place leaves from)) }
+    ensures skips { Skips C.units C.by (stands test) blocks.now.leaves from result }
 {
     // What holds of the leaves at any time is read off its contract.
     let _first = reads::first(blocks);
     let mut at = from;
+    let mut near = NEAR;
     while let Some(id) = at {
         let leaf = reads::leaf(blocks, id);
         // That it has an element is read off its contract.
@@ -43,13 +83,17 @@ pub fn next_standing<C: Content>(
         if leaf.stands(test) {
             return at;
         }
+        if let Some(view) = sums_for(blocks, test, near) {
+            return next_seen(blocks, id, view);
+        }
+        near = near.saturating_sub(1);
         at = reads::next(blocks, id);
     }
     None
 }
 
 /// The last leaf up to that of this node on whose elements a reference may stand: None where there is none, or
-/// no node is given. It goes back, and reads the leaves down to that one.
+/// no node is given. It goes back as `next_standing` goes on.
 pub fn last_standing<C: Content>(
     blocks: &Blocks<TreeLeaf<C>>,
     from: Option<NodeId>,
@@ -65,6 +109,7 @@ pub fn last_standing<C: Content>(
     // What holds of the leaves at any time is read off its contract.
     let _first = reads::first(blocks);
     let mut at = from;
+    let mut near = NEAR;
     while let Some(id) = at {
         let leaf = reads::leaf(blocks, id);
         // That it has an element is read off its contract.
@@ -72,6 +117,10 @@ pub fn last_standing<C: Content>(
         if leaf.stands(test) {
             return at;
         }
+        if let Some(view) = sums_for(blocks, test, near) {
+            return last_seen(blocks, id, view);
+        }
+        near = near.saturating_sub(1);
         at = reads::prev(blocks, id);
     }
     None
@@ -96,8 +145,7 @@ fn last_of<C: Content>(blocks: &Blocks<TreeLeaf<C>>, leaf: NodeId) -> Place
 /// Where a reference on an element goes: it stays if it may stand there, else it goes to the next element on
 /// which it may, else to the last before, else nowhere.
 ///
-/// It reads the leaves between the two; where none behind will do, all behind, and then those before down to
-/// the last that will.
+/// It looks for them as `next_standing` and `last_standing` do.
 pub fn settled_on<C: Content>(
     blocks: &Blocks<TreeLeaf<C>>,
     at: &Place,

@@ -27,8 +27,8 @@ pub(crate) fn stage_place(touched: &VecDeque<StageNodes>, stage: u64) -> usize
     touched.partition_point(|list| list.stage() < stage)
 }
 
-// Whether the list at a place is of this stage.
-fn is_at(touched: &VecDeque<StageNodes>, i: usize, stage: u64) -> bool
+/// Whether the list at a place is of this stage.
+pub(crate) fn is_at(touched: &VecDeque<StageNodes>, i: usize, stage: u64) -> bool
     ensures { result ≡ is_list_of stage (slice_get touched.now.items i) }
 {
     match touched.get(i) {

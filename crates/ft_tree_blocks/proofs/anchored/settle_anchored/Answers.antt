@@ -27,11 +27,11 @@ put-requires-clause-held g c =
     let us = g.C.Content.units in
     let by = g.C.Content.by in
     let xs = c.args.blocks.now.leaves in
-    let to = c.in-Some-settled_on.to in
-    c.acknowledge.ensures.held to.owner (c.requires.sound.anchored.held to.owner (owner_live us by xs to (on_leaf us by xs to c.in-Some-settled_on.ensures.on_leaf)))
+    let to = c.in-Some-slid_on.to in
+    c.acknowledge.ensures.held to.owner (c.requires.sound.anchored.held to.owner (owner_live us by xs to (on_leaf us by xs to c.in-Some-slid_on.ensures.on_leaf)))
 
-pub returns-in-Some-settled_on-clause-refs : goal.returns-in-Some-settled_on-clause-refs
-returns-in-Some-settled_on-clause-refs g c =
+pub returns-in-Some-slid_on-clause-refs : goal.returns-in-Some-slid_on-clause-refs
+returns-in-Some-slid_on-clause-refs g c =
     let us = g.C.Content.units in
     let by = g.C.Content.by in
     let xs = c.args.blocks.now.leaves in
@@ -39,10 +39,10 @@ returns-in-Some-settled_on-clause-refs g c =
     let b = c.acknowledge.new.self in
     let r = c.args.r in
     let was : place_of_reference a.refs r ≡ Some c.in-Some.place = sym (ap place_of_entry c.acknowledge.ensures.places.changed) ∙ sym c.place.ensures ∙ c.in-Some.is in
-    let twice = changed_twice us by xs a r (entry a.refs r) (Some (Some c.in-Some-settled_on.to)) true (is_acked_at b r) b c.put.new.self c.acknowledge.ensures c.put.ensures in
-    settles_to us by xs a r c.requires.sound.anchored c.put.new.self c.in-Some.place (Some c.in-Some-settled_on.to) was
-    (ap (λ (o : Option Place). option_map (place_on us by xs) o) (sym c.in-Some-settled_on.is) ∙ c.settled_on.ensures.place)
-    (subst (λ (t : Bool). ChangesAnchor r (Some (Some c.in-Some-settled_on.to)) t a c.put.new.self) c.acknowledge.ensures.flag twice)
+    let twice = changed_twice us by xs a r (entry a.refs r) (Some (Some c.in-Some-slid_on.to)) true (is_acked_at b r) b c.put.new.self c.acknowledge.ensures c.put.ensures in
+    settles_to us by xs a r c.requires.sound.anchored c.put.new.self c.in-Some.place (Some c.in-Some-slid_on.to) was
+    (ap (λ (o : Option Place). option_map (place_on us by xs) o) (sym c.in-Some-slid_on.is) ∙ c.slid_on.ensures.place)
+    (subst (λ (t : Bool). ChangesAnchor r (Some (Some c.in-Some-slid_on.to)) t a c.put.new.self) c.acknowledge.ensures.flag twice)
 
 pub returns-in-None-clause-refs : goal.returns-in-None-clause-refs
 returns-in-None-clause-refs g c =
@@ -55,5 +55,5 @@ returns-in-None-clause-refs g c =
     let was : place_of_reference a.refs r ≡ Some c.in-Some.place = sym (ap place_of_entry c.acknowledge.ensures.places.changed) ∙ sym c.place.ensures ∙ c.in-Some.is in
     let twice = changed_twice us by xs a r (entry a.refs r) (Some (None)) true (is_acked_at b r) b c.detach.new.self c.acknowledge.ensures c.detach.ensures in
     settles_to us by xs a r c.requires.sound.anchored c.detach.new.self c.in-Some.place (None) was
-    (ap (λ (o : Option Place). option_map (place_on us by xs) o) (sym c.in-None.is) ∙ c.settled_on.ensures.place)
+    (ap (λ (o : Option Place). option_map (place_on us by xs) o) (sym c.in-None.is) ∙ c.slid_on.ensures.place)
     (subst (λ (t : Bool). ChangesAnchor r (Some (None)) t a c.detach.new.self) c.acknowledge.ensures.flag twice)

@@ -36,8 +36,8 @@ leaf-leaf-requires-clause-live g c =
     let r = some_is c.first.result c.is_none.result c.is_none.ensures c.if-is_none.false in
     live_on us by xs c.args.anchors.now c.requires.anchored c.args.id r.0 c.first.ensures.sound (sym c.first.ensures.value ∙ r.1)
 
-pub settled_on-to-requires-clause-on_leaf : goal.settled_on-to-requires-clause-on_leaf
-settled_on-to-requires-clause-on_leaf g c =
+pub slid_on-to-requires-clause-on_leaf : goal.slid_on-to-requires-clause-on_leaf
+slid_on-to-requires-clause-on_leaf g c =
     subst (λ (o : Option (TreeLeaf g.row.C.Denot)). IsSomeAnd o (λ v. 0 < length (g.C.Content.units v.content))) (sym c.leaf-leaf.ensures)
     (omega (arith, c.len-len.ensures.value, c.len-len.ensures.some))
 
@@ -62,7 +62,7 @@ send_acked-requires-clause-held g c = λ p e.
     let us = g.C.Content.units in
     let by = g.C.Content.by in
     let xs = c.args.blocks.now.leaves in
-    let on = subst (λ (o : Option Place). IfSome o (IsOnLeaf us xs)) e c.settled_on-to.ensures.on_leaf in
+    let on = subst (λ (o : Option Place). IfSome o (IsOnLeaf us xs)) e c.slid_on-to.ensures.on_leaf in
     c.requires.anchored.held p.owner (owner_live us by xs p (on_leaf us by xs p on))
 
 pub send_acked-requires-clause-differ : goal.send_acked-requires-clause-differ
@@ -72,7 +72,7 @@ send_acked-requires-clause-differ g c = λ p e same.
     let xs = c.args.blocks.now.leaves in
     let down : is_unremoved_at xs c.args.id ≡ false =
     unremoved_of us by xs c.args.id c.leaf-leaf.result.now c.leaf-leaf.ensures ∙ sym c.stands.ensures ∙ c.if-stands.false in
-    let up : is_unremoved_at xs c.args.id ≡ true = ap (is_unremoved_at xs) (sym same) ∙ c.settled_on-to.ensures.stands p e in
+    let up : is_unremoved_at xs c.args.id ≡ true = ap (is_unremoved_at xs) (sym same) ∙ c.slid_on-to.ensures.stands p e in
     let never : true ≡ false = sym up ∙ down in
     cc never
 
@@ -81,15 +81,15 @@ returns-clause-anchored g c =
     let us = g.C.Content.units in
     let by = g.C.Content.by in
     let xs = c.args.blocks.now.leaves in
-    let to = c.settled_on-to.result in
+    let to = c.slid_on-to.result in
     let v = c.leaf-leaf.result.now in
     let once = c.first-first.ensures.once in
     let down : is_unremoved_at xs c.args.id ≡ false = unremoved_of us by xs c.args.id v c.leaf-leaf.ensures ∙ sym c.stands.ensures ∙ c.if-stands.false in
     let some : 0 < length (us v.content) = omega (arith, c.len-len.ensures.value, c.len-len.ensures.some) in
     let on : (p : Place) → to ≡ Some p → IsOnUnremoved us xs p =
-    λ p e. (subst (λ (o : Option Place). IfSome o (IsOnLeaf us xs)) e c.settled_on-to.ensures.on_leaf, c.settled_on-to.ensures.stands p e) in
+    λ p e. (subst (λ (o : Option Place). IfSome o (IsOnLeaf us xs)) e c.slid_on-to.ensures.on_leaf, c.slid_on-to.ensures.stands p e) in
     sent_anchored us by xs once c.args.id c.args.anchors.now c.requires.anchored v c.leaf-leaf.ensures to on
-    (λ offset less. settled-alike us by xs once c.args.id v offset c.leaf-leaf.ensures down some less ∙ sym c.settled_on-to.ensures.place)
+    (λ offset less. settled-alike us by xs once c.args.id v offset c.leaf-leaf.ensures down some less ∙ sym c.slid_on-to.ensures.place)
     c.send_acked.new.self c.send_acked.ensures.places c.send_acked.ensures.acked c.send_acked.ensures.held
 
 pub returns-clause-references : goal.returns-clause-references
@@ -97,15 +97,15 @@ returns-clause-references g c =
     let us = g.C.Content.units in
     let by = g.C.Content.by in
     let xs = c.args.blocks.now.leaves in
-    let to = c.settled_on-to.result in
+    let to = c.slid_on-to.result in
     let v = c.leaf-leaf.result.now in
     let once = c.first-first.ensures.once in
     let down : is_unremoved_at xs c.args.id ≡ false = unremoved_of us by xs c.args.id v c.leaf-leaf.ensures ∙ sym c.stands.ensures ∙ c.if-stands.false in
     let some : 0 < length (us v.content) = omega (arith, c.len-len.ensures.value, c.len-len.ensures.some) in
     let on : (p : Place) → to ≡ Some p → IsOnUnremoved us xs p =
-    λ p e. (subst (λ (o : Option Place). IfSome o (IsOnLeaf us xs)) e c.settled_on-to.ensures.on_leaf, c.settled_on-to.ensures.stands p e) in
+    λ p e. (subst (λ (o : Option Place). IfSome o (IsOnLeaf us xs)) e c.slid_on-to.ensures.on_leaf, c.slid_on-to.ensures.stands p e) in
     sent_references us by xs once c.args.id c.args.anchors.now c.requires.anchored v c.leaf-leaf.ensures to on
-    (λ offset less. settled-alike us by xs once c.args.id v offset c.leaf-leaf.ensures down some less ∙ sym c.settled_on-to.ensures.place)
+    (λ offset less. settled-alike us by xs once c.args.id v offset c.leaf-leaf.ensures down some less ∙ sym c.slid_on-to.ensures.place)
     c.send_acked.new.self c.send_acked.ensures.places c.send_acked.ensures.acked c.send_acked.ensures.held
 
 pub returns-clause-once : goal.returns-clause-once
@@ -113,15 +113,15 @@ returns-clause-once g c =
     let us = g.C.Content.units in
     let by = g.C.Content.by in
     let xs = c.args.blocks.now.leaves in
-    let to = c.settled_on-to.result in
+    let to = c.slid_on-to.result in
     let v = c.leaf-leaf.result.now in
     let once = c.first-first.ensures.once in
     let down : is_unremoved_at xs c.args.id ≡ false = unremoved_of us by xs c.args.id v c.leaf-leaf.ensures ∙ sym c.stands.ensures ∙ c.if-stands.false in
     let some : 0 < length (us v.content) = omega (arith, c.len-len.ensures.value, c.len-len.ensures.some) in
     let on : (p : Place) → to ≡ Some p → IsOnUnremoved us xs p =
-    λ p e. (subst (λ (o : Option Place). IfSome o (IsOnLeaf us xs)) e c.settled_on-to.ensures.on_leaf, c.settled_on-to.ensures.stands p e) in
+    λ p e. (subst (λ (o : Option Place). IfSome o (IsOnLeaf us xs)) e c.slid_on-to.ensures.on_leaf, c.slid_on-to.ensures.stands p e) in
     sent_once us by xs once c.args.id c.args.anchors.now c.requires.anchored v c.leaf-leaf.ensures to on
-    (λ offset less. settled-alike us by xs once c.args.id v offset c.leaf-leaf.ensures down some less ∙ sym c.settled_on-to.ensures.place)
+    (λ offset less. settled-alike us by xs once c.args.id v offset c.leaf-leaf.ensures down some less ∙ sym c.slid_on-to.ensures.place)
     c.send_acked.new.self c.send_acked.ensures.places c.send_acked.ensures.acked c.send_acked.ensures.held
 
 pub returns-clause-settled : goal.returns-clause-settled
@@ -129,13 +129,13 @@ returns-clause-settled g c =
     let us = g.C.Content.units in
     let by = g.C.Content.by in
     let xs = c.args.blocks.now.leaves in
-    let to = c.settled_on-to.result in
+    let to = c.slid_on-to.result in
     let v = c.leaf-leaf.result.now in
     let once = c.first-first.ensures.once in
     let down : is_unremoved_at xs c.args.id ≡ false = unremoved_of us by xs c.args.id v c.leaf-leaf.ensures ∙ sym c.stands.ensures ∙ c.if-stands.false in
     let some : 0 < length (us v.content) = omega (arith, c.len-len.ensures.value, c.len-len.ensures.some) in
     let on : (p : Place) → to ≡ Some p → IsOnUnremoved us xs p =
-    λ p e. (subst (λ (o : Option Place). IfSome o (IsOnLeaf us xs)) e c.settled_on-to.ensures.on_leaf, c.settled_on-to.ensures.stands p e) in
+    λ p e. (subst (λ (o : Option Place). IfSome o (IsOnLeaf us xs)) e c.slid_on-to.ensures.on_leaf, c.slid_on-to.ensures.stands p e) in
     sent_settled us by xs once c.args.id c.args.anchors.now c.requires.anchored v c.leaf-leaf.ensures to on
-    (λ offset less. settled-alike us by xs once c.args.id v offset c.leaf-leaf.ensures down some less ∙ sym c.settled_on-to.ensures.place)
+    (λ offset less. settled-alike us by xs once c.args.id v offset c.leaf-leaf.ensures down some less ∙ sym c.slid_on-to.ensures.place)
     c.send_acked.new.self c.send_acked.ensures.places c.send_acked.ensures.acked c.send_acked.ensures.held
