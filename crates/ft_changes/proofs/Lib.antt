@@ -33,3 +33,5 @@ pub mod QuietIntervals
 pub mod FilteredItems
 pub mod SetCells
 pub mod RestSteps
+pub mod RunsInOrder
+pub mod SameShown

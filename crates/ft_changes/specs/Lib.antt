@@ -1,4 +1,5 @@
 pub mod ShownRuns
+pub mod PlacedRuns
 pub mod Shown
 pub mod Told
 pub mod Telling
