@@ -5,6 +5,9 @@ pub mod LinkedEdits
 pub mod LinkedEntries
 pub mod LinkedReads
 pub mod LinkedSteps
+pub mod MadeSteps
 pub mod ReplicaEntries
 pub mod ReplicaStarts
 pub mod Replicas
+pub mod ToldReplicas
+pub mod ToldSteps

@@ -18,7 +18,7 @@ use Rattle.ft_replica.specs.Unsent.{with_sent}
 use Rattle.ft_replica.proofs.LinkedSteps.{links, made-named}
 
 -- what a document answers to an edit
-abbrev Edits : {D : Type 0} → (D → HeldDocument → Type 0) → ChannelOp → D → D → ℕ → Result ℕ EditFault → Type 0
+abbrev pub Edits : {D : Type 0} → (D → HeldDocument → Type 0) → ChannelOp → D → D → ℕ → Result ℕ EditFault → Type 0
 Edits holds op d e last result =
     (held : HeldDocument) → NamesFit held → held.last ≡ last → holds d held
     → AnswersStages (holds e) held (local_sub_operations held.doc held.stages (last + 1) (sub_operations op)) result

@@ -28,7 +28,7 @@ use Rattle.ft_replica.proofs.LinkedSteps.{links}
 -- ---- of what kind the entry is
 
 module _ (p : NaiveClient) (entry : Entry) where
-  chosen : (a b : Bool) → is_own_join p.link entry.msg.kind entry.origin ≡ a → is_op entry.msg.body && is_own p entry ≡ b
+  pub chosen : (a b : Bool) → is_own_join p.link entry.msg.kind entry.origin ≡ a → is_op entry.msg.body && is_own p entry ≡ b
       → after_entry p entry ≡ cond a (come_online p entry) (cond b (after_own_message p entry) (after_foreign_message p entry))
   chosen a b e f =
       ap (λ c. cond c (come_online p entry) (cond (is_op entry.msg.body && is_own p entry) (after_own_message p entry) (after_foreign_message p entry))) e

@@ -66,7 +66,7 @@ indexed-floor doc n [] = refl
 indexed-floor doc n (e ∷ es) = indexed-floor doc (min n e.ref_seq) es
 
 -- an entry that is the only one
-only-fits : (entry : Entry) → has_fitting_body entry ≡ true → list_all has_fitting_body (taken_entries (Takes entry ∷ [])) ≡ true
+pub only-fits : (entry : Entry) → has_fitting_body entry ≡ true → list_all has_fitting_body (taken_entries (Takes entry ∷ [])) ≡ true
 only-fits entry h = ap (λ b. b && true) h
 
 -- an entry of somebody

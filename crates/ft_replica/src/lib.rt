@@ -10,6 +10,8 @@ mod outbox;
 mod pending;
 pub mod replica;
 mod stopping;
+pub mod telling;
 
 pub use document::{OwnDocument, OwnNumbers, Resent};
 pub use replica::ReplicaOver;
+pub use telling::{TellingDocument, ToldEdit};

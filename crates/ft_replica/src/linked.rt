@@ -8,6 +8,7 @@ mod links;
 mod processing;
 mod reading;
 mod reconnections;
+mod telling;
 
 use crate::connections::Connections;
 use crate::document::OwnDocument;

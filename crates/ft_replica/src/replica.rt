@@ -13,6 +13,8 @@ ghost use Rattle.ft_replica.specs.Linked.{Anyone, RunsForOne};
 ghost use Rattle.ft_replica.specs.Own.{ReadsFew, ReadsFewNodesFor, ReadsFewOfLabelFor};
 ghost use Rattle.ft_replica.specs.Stopping.{AnswersOwn};
 
+mod telling;
+
 use crate::document::OwnDocument;
 use crate::stopping::StoppingClient;
 use ft_attrib::Attribution;

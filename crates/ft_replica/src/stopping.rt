@@ -9,6 +9,8 @@ ghost use Rattle.ft_replica.specs.Linked.{Anyone, RunsForOne, least_ref, linked_
 ghost use Rattle.ft_replica.specs.Own.{HasNoTombstone, ReadsFew};
 ghost use Rattle.ft_replica.specs.Stopping.{AnswersEntry, AnswersOwn, AnswersOwnCompaction, told_numbers};
 
+mod telling;
+
 use crate::document::{OwnDocument, OwnNumbers};
 use crate::linked::LinkedClient;
 use ft_base::Steps;

@@ -45,11 +45,16 @@ impl<D: OwnDocument> LinkedClient<D> {
         }
     }
 
-    // Keeps an edit with so many stages as pending, and queues its draft, if it is sent.
-    //
-    // Returns `OutOfMemory` where there is no room for that, or a count would pass its greatest number, and then
-    // nothing changed.
-    fn keep_edit(&mut self, count: usize, ref_seq: u64, op: &ChannelOp) -> Result<(), OutOfMemory>
+    /// Keeps an edit with so many stages as pending, and queues its draft, if it is sent.
+    ///
+    /// Returns `OutOfMemory` where there is no room for that, or a count would pass its greatest number, and then
+    /// nothing changed.
+    pub(crate) fn keep_edit(
+        &mut self,
+        count: usize,
+        ref_seq: u64,
+        op: &ChannelOp,
+    ) -> Result<(), OutOfMemory>
         requires ref_seq { IsTrue (is_count ref_seq) }
         requires formed { IsWellFormed op.now }
         ensures ok { let sent = sent_as self.old.link self.old.box.next op.now in OnOk result (self.new ≡ record self.old {

@@ -1,6 +1,6 @@
 //! What a client makes of sequenced messages.
 
-ghost use Rattle.std.specs.Prelude.{◌≡◌, ◌<◌, ◌^◌, ◌&&◌, [], IsTrue, None, Ok, OnErr, OnOk, map, nat_eq, pos};
+ghost use Rattle.std.specs.Prelude.{◌≡◌, ◌<◌, ◌^◌, ◌&&◌, ◌||◌, [], IsTrue, None, Ok, OnErr, OnOk, map, nat_eq, pos};
 ghost use Rattle.std.specs.List.{list_any};
 ghost use Rattle.ft_op.specs.Same.{same_int};
 ghost use Rattle.ft_msg.specs.Answers.{WantOfMemory};
@@ -56,10 +56,10 @@ impl<D: OwnDocument> LinkedClient<D> {
         Ok(())
     }
 
-    // Takes the next entry, which isn't refused: its own join, its own message, or another.
-    //
-    // Returns `OutOfMemory` where there is no room for that, or a count would pass its greatest number.
-    fn take(&mut self, entry: &Entry) -> Result<(), OutOfMemory>
+    /// Takes the next entry, which isn't refused: its own join, its own message, or another.
+    ///
+    /// Returns `OutOfMemory` where there is no room for that, or a count would pass its greatest number.
+    pub(crate) fn take(&mut self, entry: &Entry) -> Result<(), OutOfMemory>
         requires formed { IsWellFormedMessage entry.now.msg }
         requires known { RunsForOne D.holds self.old (λ p. process_fault p entry.now ≡ None) }
         ensures { AnswersLinked D.holds (λ _. WantOfMemory) (λ p. Ok (after_entry p entry.now)) self.old self.new result }
@@ -85,8 +85,8 @@ impl<D: OwnDocument> LinkedClient<D> {
         Ok(())
     }
 
-    // Takes away some of what was removed at or below the floor.
-    fn tidy(&mut self) -> Result<(), OutOfMemory>
+    /// Takes away some of what was removed at or below the floor.
+    pub(crate) fn tidy(&mut self) -> Result<(), OutOfMemory>
         requires { RunsForOne D.holds self.old Anyone }
         ensures compacts { OnOk result (TakesCompaction D.holds self.old self.new) }
         ensures kept { KeepsLink self.old self.new }
@@ -106,6 +106,13 @@ impl<D: OwnDocument> LinkedClient<D> {
         let floor = self.pending.oldest_ref(self.doc.minimum());
         self.doc.compact(floor)?;
         Ok(())
+    }
+
+    /// Whether the entry is the client's own join or its own message.
+    pub(crate) fn is_from_itself(&self, entry: &Entry) -> bool
+        ensures { result ≡ (is_own_join self.now.link entry.now.msg.kind entry.now.origin || (is_op entry.now.msg.body && list_any (nat_eq entry.now.origin) self.now.conns)) }
+    {
+        self.is_own_join(entry) || self.is_own_message(entry)
     }
 
     // Whether the entry is an operation from one of the client's connections.
