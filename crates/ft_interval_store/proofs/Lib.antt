@@ -24,3 +24,4 @@ pub mod StandingEnds
 pub mod RisingLists
 pub mod Gathered
 pub mod AckedRecords
+pub mod StagePlaces

@@ -22,6 +22,7 @@ use ft_refs::{Place, RefId};
 use ft_sumdoc::{Ends2, IntervalRec};
 use ft_tree::{TextContent, Tree};
 use std::alloc::Global;
+use std::collections::VecDeque;
 
 // The interval at stage 0, with its ends as elements that this sees.
 fn placed(tree: &Tree<TextContent>, i: &Interval<RefId>) -> Result<Interval<Place>, OutOfMemory>
@@ -220,9 +221,9 @@ fn records(tree: &Tree<TextContent>, all: Intervals<Place>) -> Result<Vec<Interv
 }
 
 /// Whether nothing is pending on intervals and no stage removes elements, so that each is shown as it is acknowledged.
-pub fn is_at_rest(tree: &Tree<TextContent>, pending: &[Operation]) -> bool
+pub fn is_at_rest(tree: &Tree<TextContent>, pending: &VecDeque<Operation>) -> bool
     requires usable { IsTrue tree.now.usable }
-    ensures { IsTrue result → (pending.now ≡ []) × HasNoRemoval tree.now }
+    ensures { IsTrue result → (pending.now.items ≡ []) × HasNoRemoval tree.now }
 {
     pending.is_empty() && removal_until(tree, 0, u64::MAX).is_none()
 }
@@ -283,21 +284,24 @@ pub fn acked_records(
 pub fn shown_behind(
     tree: &Tree<TextContent>,
     first: Intervals<Place>,
-    pending: &[Operation],
+    pending: &VecDeque<Operation>,
 ) -> Result<Vec<IntervalRec>, OutOfMemory>
     requires usable { IsTrue tree.now.usable }
     requires shown { (is : List (Interval ℕ)) × ShowsAll tree.now 0 is first }
-    requires pending { AreLiveOperations tree.now.refs pending.now }
-    requires rising { StagesRise 0 pending.now }
+    requires pending { AreLiveOperations tree.now.refs pending.now.items }
+    requires rising { StagesRise 0 pending.now.items }
     ensures { let xs = text_elements tree.now in
         (is : List (Interval ℕ)) → ShowsAll tree.now 0 is first
-        → IfOk result (λ all. all.items ≡ map (shown_record xs) (shown_from xs 0 (placed_operations tree.now.refs pending.now) is)) }
+        → IfOk result (λ all. all.items ≡ map (shown_record xs) (shown_from xs 0 (placed_operations tree.now.refs pending.now.items) is)) }
 {
     let mut all = first;
     let mut stage = 0;
-    for t in pending {
+    let mut i = 0;
+    'next: while i < pending.len() {
+        let t = &pending[i];
         take_next(tree, &mut all, t, stage)?;
         stage = t.stage;
+        i += 1;
     }
     carry_all(tree, &mut all, stage, u64::MAX);
     records(tree, all)
@@ -346,19 +350,22 @@ fn add_changed(
 pub fn places_of_pending(
     tree: &Tree<TextContent>,
     acked: &Intervals<RefId>,
-    pending: &[Operation],
+    pending: &VecDeque<Operation>,
 ) -> Result<Intervals<Place>, OutOfMemory>
     requires usable { IsTrue tree.now.usable }
     requires acked { AreLiveIntervals tree.now.refs acked.now }
     ensures part { let from = map (settled_interval (text_elements tree.now) 0) (placed_intervals tree.now.refs acked.now) in
-        IfOk result (λ all. (is : List (Interval ℕ)) × ShowsAll tree.now 0 is all × IsPartOf from is (λ n. is_on_any n pending.now)) }
-    ensures fits { OnOk result (All (λ t. t.stage ≤ last) pending.now) }
+        IfOk result (λ all. (is : List (Interval ℕ)) × ShowsAll tree.now 0 is all × IsPartOf from is (λ n. is_on_any n pending.now.items)) }
+    ensures fits { OnOk result (All (λ t. t.stage ≤ last) pending.now.items) }
 {
     let mut all = Intervals::new(acked.allocator());
-    for t in pending {
+    let mut i = 0;
+    'next: while i < pending.len() {
+        let t = &pending[i];
         // That the stage is a number of 64 bits is read off its contract.
         let _stage = t.stage();
         add_changed(tree, acked, &t.op, &mut all)?;
+        i += 1;
     }
     Ok(all)
 }

@@ -18,6 +18,7 @@ use ft_base::Text;
 use ft_op::TextOp;
 use ft_refs::{Place, RefId};
 use ft_tree::{TextContent, Tree};
+use std::collections::VecDeque;
 
 // What an operation makes of the interval that it is on, where this has these ends if it is there, and the operation has
 // those.
@@ -104,26 +105,29 @@ fn first_shown(
 pub fn shown_ends(
     tree: &Tree<TextContent>,
     acked: &Intervals<RefId>,
-    pending: &[Operation],
+    pending: &VecDeque<Operation>,
     label: &Text,
     id: &Text,
 ) -> Option<EndPair<Place>>
     requires usable { IsTrue tree.now.usable }
     requires acked { AreLiveIntervals tree.now.refs acked.now }
-    requires pending { AreLiveOperations tree.now.refs pending.now }
-    requires rising { StagesRise 0 pending.now }
+    requires pending { AreLiveOperations tree.now.refs pending.now.items }
+    requires rising { StagesRise 0 pending.now.items }
     ensures { let xs = text_elements tree.now in
         let is = placed_intervals tree.now.refs acked.now in
-        let ts = placed_operations tree.now.refs pending.now in
+        let ts = placed_operations tree.now.refs pending.now.items in
         ShowsEnds tree.now last (interval_of (label.now, id.now) (shown_intervals xs is ts)) result }
 {
     // That names rise is read off its contract.
     let _all = acked.pages();
     let mut shown = first_shown(tree, acked, label, id);
     let mut stage = 0;
-    for t in pending {
+    let mut i = 0;
+    'next: while i < pending.len() {
+        let t = &pending[i];
         shown = shown_after(tree, t, label, id, shown, stage);
         stage = t.stage;
+        i += 1;
     }
     carried_shown(tree, shown, stage, u64::MAX)
 }
@@ -161,8 +165,8 @@ pub fn is_acked(acked: &Intervals<RefId>, label: &Text, id: &Text) -> bool
 
 /// Whether the interval of that label and id is there behind the pending operations, where it is acknowledged or not: the
 /// last of them that adds or deletes it decides. It looks at no end, and at no element.
-pub fn is_there(pending: &[Operation], label: &Text, id: &Text, acked: bool) -> bool
-    ensures { result ≡ is_there (label.now, id.now) pending.now acked }
+pub fn is_there(pending: &VecDeque<Operation>, label: &Text, id: &Text, acked: bool) -> bool
+    ensures { result ≡ is_there (label.now, id.now) pending.now.items acked }
 {
     let mut i = pending.len();
     'back: while i > 0 {

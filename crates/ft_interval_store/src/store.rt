@@ -36,6 +36,7 @@ use ft_refs::{Place, RefId};
 use ft_sumdoc::IntervalRec;
 use ft_tree::{TextContent, Tree};
 use std::alloc::Global;
+use std::collections::VecDeque;
 use std::marker::Model;
 
 /// Intervals by label and id, with what is pending on them.
@@ -49,7 +50,7 @@ use std::marker::Model;
 #[derive(Drop)]
 pub struct Store {
     acked: Intervals<RefId>,
-    pending: Vec<Operation>,
+    pending: VecDeque<Operation>,
 }
 
 impl Model for Store {
@@ -77,7 +78,7 @@ impl Store {
     {
         Store {
             acked: Intervals::new(alloc),
-            pending: Vec::new(alloc),
+            pending: VecDeque::new(alloc),
         }
     }
 
@@ -223,7 +224,9 @@ impl Store {
     {
         let first = &self.pending[0];
         let ends = take_effect(&mut self.acked, tree, found.place, &first.op, &first.ends)?;
-        let Operation { op, .. } = self.pending.remove(0);
+        let Some(Operation { op, .. }) = self.pending.remove(0) else {
+            unreachable!();
+        };
         Ok(AckedOperation { op, ends })
     }
 
@@ -237,7 +240,7 @@ impl Store {
     {
         // That names rise is read off its contract.
         let _all = self.acked.pages();
-        match self.pending.first() {
+        match self.pending.front() {
             Some(t) => Some(t.stage),
             None => None,
         }
@@ -247,7 +250,7 @@ impl Store {
     pub fn first_operation(&self) -> Option<&TextOp>
         ensures { option_copied result ≡ first_operation self.now.pending }
     {
-        match self.pending.first() {
+        match self.pending.front() {
             Some(t) => Some(&t.op),
             None => None,
         }

@@ -1,4 +1,4 @@
-use Rattle.std.proofs.Common.{◌≡◌, [], drop, map, refl, ◌∙◌, ap, arith}
+use Rattle.std.proofs.Common.{◌≡◌, ◌<◌, ◌≤◌, [], drop, length, map, refl, ◌∙◌, ap, arith}
 use Rattle.std.proofs.Math.ListN.{drop_of_length-le}
 use Rattle.std.proofs.lemmas.Result.{IfOk-weaker}
 use Rattle.ft_interval_store.specs.Ends.{map_ends, places_of_ends}
@@ -9,8 +9,8 @@ use Rattle.ft_interval_store.proofs.ShownAll.{carried-all, places-shown, last-al
 use Rattle.ft_interval_store.proofs.ShownSteps.{next-le, next-live, rest-live, rest-rises}
 use Rattle.ft_interval_store.proofs.all.shown_behind.Goals as goal
 
-pub loop-t-init : goal.loop-t-init
-loop-t-init c =
+pub next-init : goal.next-init
+next-init c =
     let xs = text_elements c.args.tree.now in
     record {
       rising = c.requires.rising;
@@ -21,58 +21,65 @@ loop-t-init c =
 
 pub take_next-requires-clause-live : goal.take_next-requires-clause-live
 take_next-requires-clause-live c =
-    next-live c.args.pending.now c.loop-t.t-index c.t-item.result c.loop-t-test.true c.t-item.is c.args.tree.now.refs c.loop-t.invariant.live
+    let inside : c.next.i < length c.args.pending.now.items = omega (arith, c.next-test.true, c.len.ensures, c.args.pending.now.ok.0) in
+    next-live c.args.pending.now.items c.next.i c.index-t.result.now inside c.index-t.ensures c.args.tree.now.refs c.next.invariant.live
 
 pub take_next-requires-clause-on_leaf : goal.take_next-requires-clause-on_leaf
 take_next-requires-clause-on_leaf c =
-    places-shown c.args.tree.now c.loop-t.stage (c.loop-t.invariant.shows c.requires.shown.0 c.requires.shown.1).0 c.loop-t.all
-    (c.loop-t.invariant.shows c.requires.shown.0 c.requires.shown.1).1
+    places-shown c.args.tree.now c.next.stage (c.next.invariant.shows c.requires.shown.0 c.requires.shown.1).0 c.next.all
+    (c.next.invariant.shows c.requires.shown.0 c.requires.shown.1).1
 
 pub take_next-requires-clause-rises : goal.take_next-requires-clause-rises
 take_next-requires-clause-rises c =
-    next-le c.args.pending.now c.loop-t.t-index c.t-item.result c.loop-t-test.true c.t-item.is c.loop-t.stage c.loop-t.invariant.rising
+    let inside : c.next.i < length c.args.pending.now.items = omega (arith, c.next-test.true, c.len.ensures, c.args.pending.now.ok.0) in
+    next-le c.args.pending.now.items c.next.i c.index-t.result.now inside c.index-t.ensures c.next.stage c.next.invariant.rising
 
-pub loop-t-preserved : goal.loop-t-preserved
-loop-t-preserved c =
+pub next-preserved : goal.next-preserved
+next-preserved c =
+    let inside : c.next.i < length c.args.pending.now.items = omega (arith, c.next-test.true, c.len.ensures, c.args.pending.now.ok.0) in
     let xs = text_elements c.args.tree.now in
     let refs = c.args.tree.now.refs in
-    let ts = c.args.pending.now in
-    let i = c.loop-t.t-index in
-    let t = c.t-item.result in
+    let ts = c.args.pending.now.items in
+    let i = c.next.i in
+    let t = c.index-t.result.now in
     let ends = map_ends (settled_end xs t.stage) (places_of_ends refs t.ends) in
     record {
-      rising = rest-rises ts i t c.loop-t-test.true c.t-item.is c.loop-t.stage c.loop-t.invariant.rising;
+      rising = rest-rises ts i t inside c.index-t.ensures c.next.stage c.next.invariant.rising;
       fits = c.take_next.ensures.fits;
-      live = rest-live ts i t c.loop-t-test.true c.t-item.is refs c.loop-t.invariant.live;
-      shows = λ was h. (let w = c.loop-t.invariant.shows was h in (
-        after_operation t.op ends (carried xs c.loop-t.stage t.stage w.0),
+      live = rest-live ts i t inside c.index-t.ensures refs c.next.invariant.live;
+      shows = λ was h. (let w = c.next.invariant.shows was h in (
+        after_operation t.op ends (carried xs c.next.stage t.stage w.0),
         c.in_ok-take_next.ensures.shown w.0 w.1,
-        next-all xs refs c.loop-t.stage i ts w.0 (shown_from xs 0 (placed_operations refs ts) was) w.2 t c.loop-t-test.true c.t-item.is,
+        next-all xs refs c.next.stage i ts w.0 (shown_from xs 0 (placed_operations refs ts) was) w.2 t inside c.index-t.ensures,
       ));
     }
 
 pub carry_all-requires-clause-on_leaf : goal.carry_all-requires-clause-on_leaf
 carry_all-requires-clause-on_leaf c =
-    places-shown c.args.tree.now c.loop-t.stage (c.loop-t.invariant.shows c.requires.shown.0 c.requires.shown.1).0 c.loop-t.all
-    (c.loop-t.invariant.shows c.requires.shown.0 c.requires.shown.1).1
+    places-shown c.args.tree.now c.next.stage (c.next.invariant.shows c.requires.shown.0 c.requires.shown.1).0 c.next.all
+    (c.next.invariant.shows c.requires.shown.0 c.requires.shown.1).1
 
 pub records-requires-clause-on_leaf : goal.records-requires-clause-on_leaf
 records-requires-clause-on_leaf c =
-    let k = c.loop-t.stage in
-    let w = c.loop-t.invariant.shows c.requires.shown.0 c.requires.shown.1 in
+    let k = c.next.stage in
+    let w = c.next.invariant.shows c.requires.shown.0 c.requires.shown.1 in
     let was = carried (text_elements c.args.tree.now) k last w.0 in
-    places-shown c.args.tree.now last was c.carry_all.new.all (carried-all c.args.tree.now k last w.0 c.loop-t.all c.carry_all.new.all w.1 c.carry_all.ensures)
+    places-shown c.args.tree.now last was c.carry_all.new.all
+    (carried-all c.args.tree.now k last w.0 c.next.all c.carry_all.new.all w.1 c.carry_all.ensures)
 
 pub returns : goal.returns
-returns c = λ was h.
+returns c =
+    let past : length c.args.pending.now.items ≤ c.next.i = omega (arith, c.next-test.false, c.len.ensures, c.args.pending.now.ok.0) in
+    λ was h.
     let xs = text_elements c.args.tree.now in
     let refs = c.args.tree.now.refs in
-    let ts = c.args.pending.now in
-    let k = c.loop-t.stage in
-    let w = c.loop-t.invariant.shows was h in
+    let ts = c.args.pending.now.items in
+    let k = c.next.stage in
+    let w = c.next.invariant.shows was h in
     let new = c.carry_all.new.all in
     let all = shown_from xs 0 (placed_operations refs ts) was in
-    let none : drop c.loop-t.t-index ts ≡ [] = drop_of_length-le ts c.loop-t-test.false in
-    let shows = carried-all c.args.tree.now k last w.0 c.loop-t.all new w.1 c.carry_all.ensures in
-    let same = records-shown c.args.tree.now (carried xs k last w.0) new shows ∙ ap (λ is. map (shown_record xs) is) (last-all xs refs k c.loop-t.t-index ts w.0 all w.2 none) in
+    let none : drop c.next.i ts ≡ [] = drop_of_length-le ts past in
+    let shows = carried-all c.args.tree.now k last w.0 c.next.all new w.1 c.carry_all.ensures in
+    let same = records-shown c.args.tree.now (carried xs k last w.0) new shows
+    ∙ ap (λ is. map (shown_record xs) is) (last-all xs refs k c.next.i ts w.0 all w.2 none) in
     IfOk-weaker c.records.result _ _ (λ records e. e ∙ same) c.records.ensures

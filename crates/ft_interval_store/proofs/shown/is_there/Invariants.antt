@@ -8,8 +8,8 @@ abbrev pub invariant-back : goal.invariant-back
 invariant-back l =
     let n : Name = (l.label, l.id) in
     record {
-      within : l.i ≤ length l.pending;
-      behind : (b : Bool) → is_there n (drop l.i l.pending) b ≡ b;
+      within : l.i ≤ length l.pending.items;
+      behind : (b : Bool) → is_there n (drop l.i l.pending.items) b ≡ b;
     }
 
 abbrev pub decreases-back : goal.decreases-back

@@ -39,21 +39,14 @@ invariant_of-self c =
     subst (λ (is : List (Interval ℕ)). let x : CollectionsState = record { acked = is; pending = c.self.inside.pending.items } in IsInOrder x)
     (sym c.in_err-ends.ensures.err) c.self.invariant
 
-pub remove-op-requires : goal.remove-op-requires
-remove-op-requires c =
-    let is = c.self.inside.acked in
-    let ps = c.self.inside.pending.items in
-    let some = some-first c.args.stage is ps (subst (λ x. IsFirst c.args.stage x) (sym c.self.view_is) c.requires.first) in
-    omega (arith, some, c.self.inside.pending.ok.0)
-
 pub invariant_of-self-2 : goal.invariant_of-self-2
 invariant_of-self-2 c =
     let is = c.self.inside.acked in
     let ps = c.self.inside.pending.items in
     let some = some-first c.args.stage is ps (subst (λ x. IsFirst c.args.stage x) (sym c.self.view_is) c.requires.first) in
     let t = c.index-first.result.now in
-    let ts = c.remove-op.new.self.items in
-    let split = first-split ps t t ts some c.index-first.ensures c.remove-op.ensures.items in
+    let ts = c.remove.new.self.items in
+    let split = first-split ps t t ts some c.index-first.ensures c.in-Some.ensures.items in
     ack-in_order is ps t ts split c.args.self.now c.self.view_is c.self.invariant c.args.tree.now.refs c.requires.live
     c.take_effect.new.intervals c.take_effect.new.tree.refs c.in_ok-ends.ensures.refs
 
@@ -63,8 +56,8 @@ returns-clause-effect c =
     let ps = c.self.inside.pending.items in
     let some = some-first c.args.stage is ps (subst (λ x. IsFirst c.args.stage x) (sym c.self.view_is) c.requires.first) in
     let t = c.index-first.result.now in
-    let ts = c.remove-op.new.self.items in
-    let split = first-split ps t t ts some c.index-first.ensures c.remove-op.ensures.items in
+    let ts = c.remove.new.self.items in
+    let split = first-split ps t t ts some c.index-first.ensures c.in-Some.ensures.items in
     ack-places is ps t ts split c.args.self.now c.self.view_is c.self.invariant c.args.tree.now.refs c.requires.live
     (text_elements c.args.tree.now) c.take_effect.new.intervals c.take_effect.new.tree.refs c.in_ok-ends.ensures.refs c.in_ok-ends.ensures.placed
 
@@ -74,8 +67,8 @@ returns-clause-refs c =
     let ps = c.self.inside.pending.items in
     let some = some-first c.args.stage is ps (subst (λ x. IsFirst c.args.stage x) (sym c.self.view_is) c.requires.first) in
     let t = c.index-first.result.now in
-    let ts = c.remove-op.new.self.items in
-    let split = first-split ps t t ts some c.index-first.ensures c.remove-op.ensures.items in
+    let ts = c.remove.new.self.items in
+    let split = first-split ps t t ts some c.index-first.ensures c.in-Some.ensures.items in
     ack-references is ps t ts split c.args.self.now c.self.view_is c.self.invariant c.args.tree.now.refs c.requires.live
     c.take_effect.new.intervals c.take_effect.new.tree.refs c.in_ok-ends.ensures.refs
 
@@ -85,10 +78,10 @@ returns-clause-op c =
     let ps = c.self.inside.pending.items in
     let some = some-first c.args.stage is ps (subst (λ x. IsFirst c.args.stage x) (sym c.self.view_is) c.requires.first) in
     let t = c.index-first.result.now in
-    let ts = c.remove-op.new.self.items in
-    let split = first-split ps t t ts some c.index-first.ensures c.remove-op.ensures.items in
+    let ts = c.remove.new.self.items in
+    let split = first-split ps t t ts some c.index-first.ensures c.in-Some.ensures.items in
     let first = ack-operation is ps t ts split c.args.self.now c.self.view_is c.self.invariant c.args.tree.now.refs c.requires.live in
-    first ∙ ap (λ (o : Operation). Some o.op) (get_or_read ps 0 t some c.index-first.ensures c.remove-op.result ∙ sym c.remove-op.ensures.value)
+    first ∙ ap (λ (o : Operation). Some o.op) (get_or_read ps 0 t some c.index-first.ensures c.in-Some.field-0 ∙ sym c.in-Some.ensures.value)
 
 pub returns-clause-ends : goal.returns-clause-ends
 returns-clause-ends c =
@@ -96,5 +89,5 @@ returns-clause-ends c =
     let ps = c.self.inside.pending.items in
     let some = some-first c.args.stage is ps (subst (λ x. IsFirst c.args.stage x) (sym c.self.view_is) c.requires.first) in
     let t = c.index-first.result.now in
-    let same = get_or_read ps 0 t some c.index-first.ensures c.remove-op.result ∙ sym c.remove-op.ensures.value in
+    let same = get_or_read ps 0 t some c.index-first.ensures c.in-Some.field-0 ∙ sym c.in-Some.ensures.value in
     subst (λ (o : Operation). AreOwnEnds o.op c.take_effect.new.intervals c.in_ok-ends.ends) same c.in_ok-ends.ensures.ends

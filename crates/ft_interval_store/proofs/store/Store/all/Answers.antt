@@ -2,7 +2,7 @@ use Rattle.std.proofs.Common.{List, map, refl, subst, sym, ◌∙◌, ap}
 use Rattle.std.proofs.lemmas.Result.{IfOk-weaker}
 use Rattle.ft_interval_store.specs.declared.pending.Operation.{Operation}
 use Rattle.ft_interval_store.specs.Shown.{settled_interval, shown_intervals, shown_record}
-use Rattle.ft_interval_store.specs.State.{AreLiveOperations, CollectionsState, IsLive, placed_intervals, placed_operations, text_elements}
+use Rattle.ft_interval_store.specs.State.{CollectionsState, IsLive, placed_intervals, placed_operations, text_elements}
 use Rattle.ft_interval_store.proofs.KeptEnds.{live-intervals, live-operations}
 use Rattle.ft_interval_store.proofs.store.Store.all.Goals as goal
 
@@ -14,8 +14,7 @@ first_places-requires-clause-live c =
 pub shown_behind-requires-clause-pending : goal.shown_behind-requires-clause-pending
 shown_behind-requires-clause-pending c =
     let old : CollectionsState = record { acked = c.self.inside.acked; pending = c.self.inside.pending.items } in
-    subst (λ ts. AreLiveOperations c.args.tree.now.refs ts) (sym c.deref-2.ensures.value)
-    (live-operations c.args.tree.now.refs old (subst (λ x. IsLive c.args.tree.now.refs x) (sym c.self.view_is) c.requires.live))
+    live-operations c.args.tree.now.refs old (subst (λ x. IsLive c.args.tree.now.refs x) (sym c.self.view_is) c.requires.live)
 
 pub shown_behind-requires-clause-shown : goal.shown_behind-requires-clause-shown
 shown_behind-requires-clause-shown c =
@@ -26,8 +25,7 @@ returns c =
     let xs = text_elements c.args.tree.now in
     let refs = c.args.tree.now.refs in
     let is = placed_intervals refs c.self.inside.acked in
-    let same = ap (λ (ps : List Operation). map (shown_record xs) (shown_intervals xs is (placed_operations refs ps))) c.deref-2.ensures.value
-    ∙ ap (λ (x : CollectionsState). map (shown_record xs) (shown_intervals xs (placed_intervals refs x.acked) (placed_operations refs x.pending))) c.self.view_is in
+    let same = ap (λ (x : CollectionsState). map (shown_record xs) (shown_intervals xs (placed_intervals refs x.acked) (placed_operations refs x.pending))) c.self.view_is in
     IfOk-weaker c.shown_behind.result _ _ (λ all e. e ∙ same) (c.shown_behind.ensures (map (settled_interval xs 0) is) c.in_ok-first_places.ensures)
 
 pub returns-then-is_at_rest : goal.returns-then-is_at_rest
@@ -35,7 +33,7 @@ returns-then-is_at_rest c =
     let xs = text_elements c.args.tree.now in
     let refs = c.args.tree.now.refs in
     let is = placed_intervals refs c.self.inside.acked in
-    let none = sym (c.if-is_at_rest.ensures refl).0 ∙ c.deref.ensures.value in
+    let none = sym (c.if-is_at_rest.ensures refl).0 in
     let same = ap (λ (ps : List Operation). map (shown_record xs) (shown_intervals xs is (placed_operations refs ps))) none
     ∙ ap (λ (x : CollectionsState). map (shown_record xs) (shown_intervals xs (placed_intervals refs x.acked) (placed_operations refs x.pending))) c.self.view_is in
     IfOk-weaker c.acked_records.result _ _ (λ all e. e ∙ same) c.acked_records.ensures

@@ -1,5 +1,4 @@
-use Rattle.std.proofs.Common.{List, sym, ◌∙◌, ap}
-use Rattle.ft_interval_store.specs.declared.pending.Operation.{Operation}
+use Rattle.std.proofs.Common.{sym, ◌∙◌, ap}
 use Rattle.ft_interval_store.specs.Intervals.{Name}
 use Rattle.ft_interval_store.specs.Shown.{is_there}
 use Rattle.ft_interval_store.specs.State.{CollectionsState, is_shown, placed, text_elements}
@@ -11,7 +10,6 @@ returns c = λ tree.
     let n : Name = (c.args.label.now, c.args.id.now) in
     let is = c.self.inside.acked in
     c.is_there.ensures
-    ∙ ap (λ (ps : List Operation). is_there n ps c.is_acked-acked.result) c.deref.ensures.value
     ∙ ap (is_there n c.self.inside.pending.items) c.is_acked-acked.ensures
     ∙ sym (there-shown (text_elements tree) n tree.refs is c.self.inside.pending.items c.pages-all.ensures.rising)
     ∙ ap (λ (x : CollectionsState). is_shown (text_elements tree) n (placed tree.refs x)) c.self.view_is

@@ -21,9 +21,9 @@ returns-clause-part c =
     let Part = λ (is : List (Interval ℕ)) (ts : List Operation). IfOk c.places_of_pending.result (λ (all : List (Interval Place)). (js : List (Interval ℕ)) × ShowsAll tree 0 js all
     × IsPartOf (map (settled_interval (text_elements tree) 0) (placed_intervals tree.refs is)) js (λ n. is_on_any n ts)) in
     subst (λ (x : CollectionsState). Part x.acked x.pending) c.self.view_is
-    (subst (λ (ts : List Operation). Part c.self.inside.acked ts) c.deref.ensures.value c.places_of_pending.ensures.part)
+    c.places_of_pending.ensures.part
 
 pub returns-clause-fits : goal.returns-clause-fits
 returns-clause-fits c =
     let Fit = λ (ts : List Operation). OnOk c.places_of_pending.result (All (λ (t : Operation). t.stage ≤ last) ts) in
-    subst (λ (x : CollectionsState). Fit x.pending) c.self.view_is (subst Fit c.deref.ensures.value c.places_of_pending.ensures.fits)
+    subst (λ (x : CollectionsState). Fit x.pending) c.self.view_is c.places_of_pending.ensures.fits

@@ -1,5 +1,4 @@
-use Rattle.std.proofs.Common.{ℕ, refl, cond, None, IsSome, get_or, set, List, Some, option_map, sym, ◌∙◌, ap, subst, arith}
-use Rattle.std.specs.List.{position}
+use Rattle.std.proofs.Common.{ℕ, refl, cond, None, IsSome, get_or, set, Some, option_map, sym, ◌∙◌, ap, subst, arith}
 use Rattle.std.proofs.lemmas.List.{get_or-set_same}
 use Rattle.ft_tree_leaves.specs.References.{reference_at}
 use Rattle.ft_op.specs.declared.operations.TextOp.{TextOp}
@@ -8,26 +7,26 @@ use Rattle.ft_interval_store.specs.declared.pending.Operation.{Operation}
 use Rattle.ft_interval_store.specs.Ends.{AreDistinctEnds, AreLiveEnds, holds_end, map_ends, places_of_ends}
 use Rattle.ft_interval_store.specs.Numbers.{AreNumbers}
 use Rattle.ft_interval_store.specs.Shown.{regenerated, settled_end}
-use Rattle.ft_interval_store.specs.State.{CollectionsState, KeepsReferences, is_at_stage, operation_at, placed, text_elements}
+use Rattle.ft_interval_store.specs.State.{CollectionsState, KeepsReferences, operation_at, placed, text_elements}
 use Rattle.ft_interval_store.proofs.SettledOperation.{StandsPending, place-within, settle-distinct, settle-live, settle-live-mid, settle-operation, settle-own, settle-places, settle-references, settle-written, some-place}
 use Rattle.ft_interval_store.proofs.store.Store.settle_op.Goals as goal
 
 pub unreachable-requires : goal.unreachable-requires
 unreachable-requires c =
-    let none = ap (λ (us : List Operation). position (is_at_stage c.args.stage) us) (sym c.deref.ensures.value) ∙ sym c.place_of_stage.ensures ∙ c.in_default.is in
+    let none = sym c.place_of_stage.ensures ∙ c.in_default.is in
     some-place c.args.stage c.self.inside.pending.items none
     (subst (λ (x : CollectionsState). IsSome (operation_at c.args.stage x.pending)) (sym c.self.view_is) c.requires.pending)
 
 pub index-requires : goal.index-requires
 index-requires c =
     let ps = c.self.inside.pending.items in
-    let found = ap (λ (us : List Operation). position (is_at_stage c.args.stage) us) (sym c.deref.ensures.value) ∙ sym c.place_of_stage.ensures ∙ c.in-Some.is in
+    let found = sym c.place_of_stage.ensures ∙ c.in-Some.is in
     omega (arith, place-within c.args.stage c.in-Some.i ps found, c.self.inside.pending.ok.0)
 
 pub settled_numbers-numbers-requires-clause-live : goal.settled_numbers-numbers-requires-clause-live
 settled_numbers-numbers-requires-clause-live c =
     let ps = c.self.inside.pending.items in
-    let found = ap (λ (us : List Operation). position (is_at_stage c.args.stage) us) (sym c.deref.ensures.value) ∙ sym c.place_of_stage.ensures ∙ c.in-Some.is in
+    let found = sym c.place_of_stage.ensures ∙ c.in-Some.is in
     let stands : StandsPending c.self.inside.acked ps c.in-Some.i c.index.result.now c.args.stage c.args.self.now c.args.tree.now.refs =
     record { found = found; view = c.self.view_is; order = c.self.invariant; live = c.requires.live } in
     subst (λ (t : Operation). AreLiveEnds c.args.tree.now.refs t.ends) (sym c.index.ensures) (settle-live stands)
@@ -40,7 +39,7 @@ add_numbers-requires-clause-there c =
 pub drop_ends-requires-clause-live : goal.drop_ends-requires-clause-live
 drop_ends-requires-clause-live c =
     let ps = c.self.inside.pending.items in
-    let found = ap (λ (us : List Operation). position (is_at_stage c.args.stage) us) (sym c.deref.ensures.value) ∙ sym c.place_of_stage.ensures ∙ c.in-Some.is in
+    let found = sym c.place_of_stage.ensures ∙ c.in-Some.is in
     let stands : StandsPending c.self.inside.acked ps c.in-Some.i c.index.result.now c.args.stage c.args.self.now c.args.tree.now.refs =
     record { found = found; view = c.self.view_is; order = c.self.invariant; live = c.requires.live } in
     let before = c.args.tree.now.refs in
@@ -60,7 +59,7 @@ drop_ends-requires-clause-live c =
 pub drop_ends-requires-clause-once : goal.drop_ends-requires-clause-once
 drop_ends-requires-clause-once c =
     let ps = c.self.inside.pending.items in
-    let found = ap (λ (us : List Operation). position (is_at_stage c.args.stage) us) (sym c.deref.ensures.value) ∙ sym c.place_of_stage.ensures ∙ c.in-Some.is in
+    let found = sym c.place_of_stage.ensures ∙ c.in-Some.is in
     let stands : StandsPending c.self.inside.acked ps c.in-Some.i c.index.result.now c.args.stage c.args.self.now c.args.tree.now.refs =
     record { found = found; view = c.self.view_is; order = c.self.invariant; live = c.requires.live } in
     subst (λ (t : Operation). AreDistinctEnds t.ends) (sym (settle-own stands c.index-2.result.now c.index-2.ensures)) (settle-distinct stands)
@@ -68,8 +67,7 @@ drop_ends-requires-clause-once c =
 pub invariant_of-self : goal.invariant_of-self
 invariant_of-self c =
     let ps = c.self.inside.pending.items in
-    let found = ap (λ (us : List Operation). position (is_at_stage c.args.stage) us) (sym c.deref.ensures.value)
-    ∙ sym c.place_of_stage.ensures ∙ c.in-Some.is in
+    let found = sym c.place_of_stage.ensures ∙ c.in-Some.is in
     let stands : StandsPending c.self.inside.acked ps c.in-Some.i c.index.result.now c.args.stage c.args.self.now c.args.tree.now.refs =
     record { found = found; view = c.self.view_is; order = c.self.invariant; live = c.requires.live } in
     let xs = text_elements c.args.tree.now in
@@ -85,8 +83,7 @@ invariant_of-self c =
 pub invariant_of-self-2 : goal.invariant_of-self-2
 invariant_of-self-2 c =
     let ps = c.self.inside.pending.items in
-    let found = ap (λ (us : List Operation). position (is_at_stage c.args.stage) us) (sym c.deref.ensures.value)
-    ∙ sym c.place_of_stage.ensures ∙ c.in-Some.is in
+    let found = sym c.place_of_stage.ensures ∙ c.in-Some.is in
     let stands : StandsPending c.self.inside.acked ps c.in-Some.i c.index.result.now c.args.stage c.args.self.now c.args.tree.now.refs =
     record { found = found; view = c.self.view_is; order = c.self.invariant; live = c.requires.live } in
     let xs = text_elements c.args.tree.now in
@@ -102,7 +99,7 @@ invariant_of-self-2 c =
 pub returns-clause-op : goal.returns-clause-op
 returns-clause-op c =
     let ps = c.self.inside.pending.items in
-    let found = ap (λ (us : List Operation). position (is_at_stage c.args.stage) us) (sym c.deref.ensures.value) ∙ sym c.place_of_stage.ensures ∙ c.in-Some.is in
+    let found = sym c.place_of_stage.ensures ∙ c.in-Some.is in
     let stands : StandsPending c.self.inside.acked ps c.in-Some.i c.index.result.now c.args.stage c.args.self.now c.args.tree.now.refs =
     record { found = found; view = c.self.view_is; order = c.self.invariant; live = c.requires.live } in
     let before = c.args.tree.now.refs in
@@ -124,7 +121,7 @@ returns-clause-op c =
 pub returns-clause-settled : goal.returns-clause-settled
 returns-clause-settled c =
     let ps = c.self.inside.pending.items in
-    let found = ap (λ (us : List Operation). position (is_at_stage c.args.stage) us) (sym c.deref.ensures.value) ∙ sym c.place_of_stage.ensures ∙ c.in-Some.is in
+    let found = sym c.place_of_stage.ensures ∙ c.in-Some.is in
     let stands : StandsPending c.self.inside.acked ps c.in-Some.i c.index.result.now c.args.stage c.args.self.now c.args.tree.now.refs =
     record { found = found; view = c.self.view_is; order = c.self.invariant; live = c.requires.live } in
     let before = c.args.tree.now.refs in
@@ -149,7 +146,7 @@ returns-clause-settled c =
 pub returns-clause-refs : goal.returns-clause-refs
 returns-clause-refs c =
     let ps = c.self.inside.pending.items in
-    let found = ap (λ (us : List Operation). position (is_at_stage c.args.stage) us) (sym c.deref.ensures.value) ∙ sym c.place_of_stage.ensures ∙ c.in-Some.is in
+    let found = sym c.place_of_stage.ensures ∙ c.in-Some.is in
     let stands : StandsPending c.self.inside.acked ps c.in-Some.i c.index.result.now c.args.stage c.args.self.now c.args.tree.now.refs =
     record { found = found; view = c.self.view_is; order = c.self.invariant; live = c.requires.live } in
     let before = c.args.tree.now.refs in
