@@ -2,16 +2,13 @@
 use Rattle.std.proofs.Common.{◌≡◌, ℕ, zero, suc, ℤ, List, [], ◌∷◌, ◌++◌, Option, Some, None, All, Contains, refl, sym, ap, subst, ◌∙◌, arith}
 use Rattle.std.proofs.lemmas.List.Elements.{All-nil, All-cons, All-append, All-contains}
 use Rattle.std.specs.List.{flat_map}
-use Rattle.std.specs.BTreeMap as tree_map
-use Rattle.std.specs.BTreeMap.{BTreeMap}
-use Rattle.std.specs.Ordering.{nat_cmp}
 use Rattle.ft_arena.specs.Forest.{IsForest, kids_of, block_value, leaf_value, block_of_entry, count_some}
 use Rattle.ft_arena.proofs.IdLemmas.{same_refl}
 use Rattle.ft_shape.specs.declared.headed.Headed.{Headed}
 use Rattle.ft_shape.specs.Tree.{IsTree, IsBare, below, height_of}
 use Rattle.ft_shape.specs.Told.{sum_of, KeepsBut}
 use Rattle.ft_shape.proofs.Levels.{AllHigh, kids_high, root_high}
-use Rattle.ft_shape.proofs.InsertLemmas.{room_tree, room_values}
+use Rattle.ft_shape.proofs.InsertLemmas.{room_tree}
 use Rattle.ft_shape.proofs.ToldLemmas.{bare_keeps, room_keeps}
 use Rattle.ft_overlap.specs.declared.items.Item.{Item}
 use Rattle.ft_overlap.specs.declared.items.Span.{Span}
@@ -19,7 +16,6 @@ use Rattle.ft_overlap.specs.declared.index.Index.TheInside.{Inside}
 use Rattle.ft_overlap.specs.Items.{Below, ItemList, IsInOrder, AreKnown, IsGreatest, NamesGreatest}
 use Rattle.ft_overlap.specs.Inside.{Nodes, IsSpan, item_of, items_of, depth_of, items_under, items_below, block_of, blocks_of, blocks_below, all_blocks, view_of, IsRooted, IsSound, either_named, span_last, AreGreatest, SpansLast, EndsKnown}
 use Rattle.ft_overlap.proofs.Leaves.{items_in}
-use Rattle.ft_overlap.proofs.KeyedLeaves.{keyed_same}
 use Rattle.ft_overlap.proofs.Law.{IsPart}
 use Rattle.ft_overlap.proofs.Parts.{in_parts}
 use Rattle.ft_overlap.proofs.Named.{names_last, are_greatest}
@@ -137,17 +133,15 @@ module _ (s : Nodes) (n : ℕ) where
       }
   rooted_spared (Some root) tree = room_tree s (record s { spare = n }) refl root tree
 
-module _ (a : Inside) (s : Nodes) (room : s ≡ record a.arena { spare = s.spare }) (leaf_at : BTreeMap ℕ ℕ)
-    (same : (j : ℕ) → tree_map.get nat_cmp leaf_at j ≡ tree_map.get nat_cmp a.by_key j) where
-  pub sound_room : IsSound a → IsSound record { arena = s; root = a.root; by_key = leaf_at; alloc = a.alloc }
+module _ (a : Inside) (s : Nodes) (room : s ≡ record a.arena { spare = s.spare }) where
+  pub sound_room : IsSound a → IsSound record { arena = s; root = a.root; alloc = a.alloc }
   sound_room h =
       record {
         rooted = subst (λ (z : Nodes). IsRooted z a.root) (sym room) (rooted_spared a.arena s.spare a.root h.rooted);
         names = room_keeps IsSpan a.arena s room h.names;
-        keyed = keyed_same a.arena a.by_key h.keyed s leaf_at (room_values a.arena s room) same;
       }
 
-  pub view_room : view_of record { arena = s; root = a.root; by_key = leaf_at; alloc = a.alloc } ≡ view_of a
+  pub view_room : view_of record { arena = s; root = a.root; alloc = a.alloc } ≡ view_of a
   view_room =
       let shown : Nodes → ItemList = λ z. record { items = items_of z z.leaves; depth = depth_of z a.root; blocks = all_blocks z a.root } in
       let made : List Item → ℕ → List Below → ItemList = λ items depth blocks. record { items = items; depth = depth; blocks = blocks } in

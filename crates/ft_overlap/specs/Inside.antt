@@ -1,9 +1,6 @@
 -- How an `Index` keeps its items. No public clause cites this module.
-use Rattle.std.specs.Prelude.{◌≡◌, ◌≢◌, ◌⊎◌, ℕ, ℤ, zero, suc, ◌-◌, ◌<◌, ◌≤◌, ◌≤ℤ◌, ◌<ℤ◌, List, [], ◌∷◌, ◌++◌, length, map, insert, Option, Some, None, All, Contains}
+use Rattle.std.specs.Prelude.{◌≡◌, ◌⊎◌, ℕ, ℤ, zero, suc, ◌-◌, ◌<◌, ◌≤◌, ◌≤ℤ◌, ◌<ℤ◌, List, [], ◌∷◌, ◌++◌, length, map, insert, Option, Some, None, All, Contains}
 use Rattle.std.specs.List.{flat_map}
-use Rattle.std.specs.BTreeMap as tree_map
-use Rattle.std.specs.BTreeMap.{BTreeMap}
-use Rattle.std.specs.Ordering.{nat_cmp}
 use Rattle.ft_arena.specs.Forest.{Forest, leaf_value, block_value, kids_of, parent_of}
 use Rattle.ft_arena.specs.Ids.{times, without}
 use Rattle.ft_shape.specs.declared.headed.Headed.{Headed}
@@ -153,15 +150,9 @@ AreNamed s = (b : ℕ) (v : Headed Span) → block_value s b ≡ Some v → Cont
 abbrev pub AreGreatest : (ℕ → ℤ) → Nodes → Type 0
 AreGreatest place s = (b : ℕ) (v : Headed Span) → block_value s b ≡ Some v → IsGreatest place v.sum.last (items_below s b)
 
--- the leaf of each item is that which the map has at its key, and it has no others
-pub record IsKeyed (s : Nodes) (leaf_at : BTreeMap ℕ ℕ) : Type 0 where
-  pub there : (id : ℕ) (x : Item) → leaf_value s id ≡ Some x → tree_map.get nat_cmp leaf_at x.key ≡ Some id
-  pub only : (key id : ℕ) → tree_map.get nat_cmp leaf_at key ≡ Some id → (x : Item) × (leaf_value s id ≡ Some x) × (x.key ≡ key)
-
 pub record IsSound (a : Inside) : Type 0 where
   pub rooted : IsRooted a.arena a.root
   pub names : KeepsBut IsSpan a.arena None
-  pub keyed : IsKeyed a.arena a.by_key
 
 -- the last number
 abbrev pub last_of : List ℕ → Option ℕ
@@ -183,12 +174,6 @@ pub record IsPlaceFor (place : ℕ → ℤ) (b : ℤ) (s : Nodes) (at : Option �
   pub last : at ≡ last_of left
   pub before : All (λ x. place x.start ≤ℤ b) (items_of s left)
   pub behind : IsBehind place b (items_of s right)
-
--- a new leaf with this item; each other one keeps its own
-pub record AddsLeaf (old new : Nodes) (id : ℕ) (item : Item) : Type 0 where
-  pub fresh : leaf_value old id ≡ None
-  pub value : leaf_value new id ≡ Some item
-  pub others : (x : ℕ) → x ≢ id → leaf_value new x ≡ leaf_value old x
 
 -- the leaf's item is the first with this key
 pub record IsFirstWith (key : ℕ) (s : Nodes) (id : ℕ) : Type 0 where

@@ -16,13 +16,6 @@ use ft_base::Steps;
 use ft_shape::{Headed, child_place, count_of, height_at, move_half, put_in_half};
 use std::sync::ledger::Ledger;
 
-// What an insertion leaves: the root, and the leaf of the new item.
-#[derive(Clone, Copy)]
-pub(crate) struct Inserted {
-    pub(crate) root: NodeId,
-    pub(crate) leaf: NodeId,
-}
-
 // Splits a full block, and puts a node at this place among its children. Tells the new block.
 fn split_put<P: Places, G: Ledger>(
     arena: &mut Arena<Item, Headed<Span>>,
@@ -183,7 +176,7 @@ fn put_leaf<P: Places, G: Ledger>(
     top
 }
 
-// Puts a new item directly after another.
+// Puts a new item directly after another. Tells the root.
 pub(crate) fn insert_at<P: Places, G: Ledger>(
     arena: &mut Arena<Item, Headed<Span>>,
     root: NodeId,
@@ -191,7 +184,7 @@ pub(crate) fn insert_at<P: Places, G: Ledger>(
     item: Item,
     places: &P,
     steps: &mut Steps<G>,
-) -> Inserted
+) -> NodeId
     requires tree { IsTree arena.old root }
     requires spare { height_of arena.old root + 2 ≤ arena.old.spare }
     requires at { IsSome (leaf_value arena.old at) }
@@ -199,10 +192,10 @@ pub(crate) fn insert_at<P: Places, G: Ledger>(
     requires last { KeepsBut (SpansLast (P.end_place places.now)) arena.old None }
     requires item { P.Knows places.now item.end }
     requires known { EndsKnown (P.Knows places.now) arena.old }
-    ensures tree { IsTree arena.new result.root }
+    ensures tree { IsTree arena.new result }
     ensures one { KeepsBut IsSpan arena.new None }
     ensures last { KeepsBut (SpansLast (P.end_place places.now)) arena.new None }
-    ensures inserts { InsertsLeaf arena.old arena.new result.leaf item (λ xs. insert_after xs at result.leaf) }
+    ensures inserts { (id : ℕ) × InsertsLeaf arena.old arena.new id item (λ xs. insert_after xs at id) }
 {
     // There are fewer items than numbers of nodes, so the tree is far lower than that.
     let _first = arena.first();
@@ -211,30 +204,27 @@ pub(crate) fn insert_at<P: Places, G: Ledger>(
         unreachable!();
     };
     let (place, _) = child_place(arena, block, at, steps);
-    Inserted {
-        root: put_leaf(arena, root, block, place + 1, id, item, places, steps),
-        leaf: id,
-    }
+    put_leaf(arena, root, block, place + 1, id, item, places, steps)
 }
 
-// Puts a new item before all others.
+// Puts a new item before all others. Tells the root.
 pub(crate) fn insert_front<P: Places, G: Ledger>(
     arena: &mut Arena<Item, Headed<Span>>,
     root: NodeId,
     item: Item,
     places: &P,
     steps: &mut Steps<G>,
-) -> Inserted
+) -> NodeId
     requires tree { IsTree arena.old root }
     requires spare { height_of arena.old root + 2 ≤ arena.old.spare }
     requires one { KeepsBut IsSpan arena.old None }
     requires last { KeepsBut (SpansLast (P.end_place places.now)) arena.old None }
     requires item { P.Knows places.now item.end }
     requires known { EndsKnown (P.Knows places.now) arena.old }
-    ensures tree { IsTree arena.new result.root }
+    ensures tree { IsTree arena.new result }
     ensures one { KeepsBut IsSpan arena.new None }
     ensures last { KeepsBut (SpansLast (P.end_place places.now)) arena.new None }
-    ensures inserts { InsertsLeaf arena.old arena.new result.leaf item (λ xs. result.leaf ∷ xs) }
+    ensures inserts { (id : ℕ) × InsertsLeaf arena.old arena.new id item (λ xs. id ∷ xs) }
 {
     let Some(first) = arena.first() else {
         unreachable!();
@@ -244,20 +234,17 @@ pub(crate) fn insert_front<P: Places, G: Ledger>(
         unreachable!();
     };
     let (place, _) = child_place(arena, block, first, steps);
-    Inserted {
-        root: put_leaf(arena, root, block, place, id, item, places, steps),
-        leaf: id,
-    }
+    put_leaf(arena, root, block, place, id, item, places, steps)
 }
 
-// Puts the first item of all, under a new root.
-pub(crate) fn insert_first(arena: &mut Arena<Item, Headed<Span>>, item: Item) -> Inserted
+// Puts the first item of all, under a new root. Tells the root.
+pub(crate) fn insert_first(arena: &mut Arena<Item, Headed<Span>>, item: Item) -> NodeId
     requires bare { IsBare arena.old }
     requires spare { 2 ≤ arena.old.spare }
-    ensures tree { IsTree arena.new result.root }
+    ensures tree { IsTree arena.new result }
     ensures one { KeepsBut IsSpan arena.new None }
     ensures last { (place : ℕ → ℤ) → KeepsBut (SpansLast place) arena.new None }
-    ensures inserts { InsertsLeaf arena.old arena.new result.leaf item (λ xs. result.leaf ∷ xs) }
+    ensures inserts { (id : ℕ) × InsertsLeaf arena.old arena.new id item (λ xs. id ∷ xs) }
 {
     let id = arena.link_after(None, item);
     let top = arena.add_block(Headed {
@@ -268,8 +255,5 @@ pub(crate) fn insert_first(arena: &mut Arena<Item, Headed<Span>>, item: Item) ->
         },
     });
     arena.put_child(top, 0, id);
-    Inserted {
-        root: top,
-        leaf: id,
-    }
+    top
 }

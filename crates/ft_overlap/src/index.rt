@@ -13,14 +13,13 @@ ghost use Rattle.ft_overlap.specs.Items.{
   put_item,
 };
 
-use crate::counted::{insert_in, take_in};
+use crate::counted::{find_key, insert_in, take_in};
 use crate::items::{Item, Places, Span};
 use crate::search::{Range, collect};
 use ft_arena::{Arena, NodeId};
 use ft_base::{OutOfMemory, Steps};
 use ft_shape::Headed;
 use std::alloc::Global;
-use std::collections::BTreeMap;
 use std::marker::{Brand, Model};
 use std::sync::ledger::{Blank, Ledger};
 
@@ -28,15 +27,10 @@ use std::sync::ledger::{Blank, Ledger};
 /// items at one depth. Each block names one item below it. A contract sees the items from first to last,
 /// the number of blocks below the root on the way to an item, and each block, with the item that it names
 /// and the items below it. A read of a node is one step.
-///
-/// An item is put in by a way down from the root, and taken out by its key, whose leaf is found in a map: each of both takes
-/// about the logarithm of the number of items, wherever they start.
 #[derive(Drop)]
 pub struct Index {
     arena: Arena<Item, Headed<Span>>,
     root: Option<usize>,
-    // The leaf of each item, by its key.
-    by_key: BTreeMap<u64, usize>,
     alloc: Global,
 }
 
@@ -60,7 +54,6 @@ impl Index {
         Index {
             arena: Arena::new(alloc),
             root: None,
-            by_key: BTreeMap::new(alloc),
             alloc,
         }
     }
@@ -107,22 +100,7 @@ impl Index {
         ensures order { OnOk result (IsInOrder (P.end_place at.now) self.new) }
         ensures err { OnErr result (self.new ≡ self.old) }
     {
-        // The key goes in first, with no leaf yet: behind the insertion nothing may fail.
-        let _ = self.by_key.insert(item.key, 0)?;
-        let Ok(inserted) = insert_in::<P, Brand>(
-            &mut self.arena,
-            self.root,
-            item,
-            at,
-            Blank::new(1),
-        ) else {
-            let _ = self.by_key.remove(&item.key);
-            return Err(OutOfMemory);
-        };
-        self.root = Some(inserted.root.0);
-        let Ok(_) = self.by_key.insert(item.key, inserted.leaf.0) else {
-            unreachable!();
-        };
+        self.root = insert_in::<P, Brand>(&mut self.arena, self.root, item, at, Blank::new(1))?;
         Ok(())
     }
 
@@ -136,13 +114,11 @@ impl Index {
         ensures order { IsInOrder (P.end_place at.now) self.new }
     {
         let root = self.root?;
-        let Some(leaf) = self.by_key.remove(&key) else {
-            return None;
-        };
+        let id = find_key::<Brand>(&self.arena, key, Blank::new(1))?;
         let (root, item) = take_in::<P, Brand>(
             &mut self.arena,
             NodeId(root),
-            NodeId(leaf),
+            id,
             at,
             Blank::new(1),
         );

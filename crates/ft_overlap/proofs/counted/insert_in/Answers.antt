@@ -7,9 +7,7 @@ use Rattle.ft_shape.proofs.KindLemmas.{kind_is_height}
 use Rattle.ft_shape.proofs.InsertLemmas.{room_tree}
 use Rattle.ft_shape.proofs.ToldLemmas.{room_keeps}
 use Rattle.ft_overlap.specs.Items.{put_item, IsRising}
-use Rattle.ft_overlap.specs.declared.grow.Inserted.{Inserted}
-use Rattle.ft_overlap.specs.Inside.{Nodes, AddsLeaf, IsRooted, IsSpan, SpansLast, items_of}
-use Rattle.ft_overlap.proofs.KeyedLeaves.{adds_room}
+use Rattle.ft_overlap.specs.Inside.{Nodes, IsRooted, IsSpan, SpansLast, items_of}
 use Rattle.ft_overlap.proofs.Leaves.{place_live, put_items_after, put_items_front, room_items}
 use Rattle.ft_overlap.proofs.counted.insert_in.Goals.{in-Some-place_for, in-None}
 use Rattle.ft_overlap.proofs.counted.insert_in.Goals as goal
@@ -23,31 +21,31 @@ overflow_add-height g c =
       kind_is_height (entry c.args.arena.now c.in-Some.root) c.height_at-height.result c.height_at-height.ensures,
     )
 
-pub insert_at-inserted-requires-clause-at : goal.insert_at-inserted-requires-clause-at
-insert_at-inserted-requires-clause-at g c =
+pub insert_at-top-requires-clause-at : goal.insert_at-top-requires-clause-at
+insert_at-top-requires-clause-at g c =
     let tree : IsTree c.args.arena.now c.in-Some.root = subst (λ (o : Option ℕ). IsRooted c.args.arena.now o) c.in-Some.is c.requires.rooted in
     place_live (g.P.Places.end_place c.args.at.now) c.reserve-2.new.self
     (room_tree c.args.arena.now c.reserve-2.new.self c.reserve-2.ensures.kept c.in-Some.root tree).shape.forest c.args.item
     c.in-Some-place_for.before c.in-Some-place_for.ensures
 
-pub insert_at-inserted-requires-clause-one : goal.insert_at-inserted-requires-clause-one
-insert_at-inserted-requires-clause-one g c = room_keeps IsSpan c.args.arena.now c.reserve-2.new.self c.reserve-2.ensures.kept c.requires.one
+pub insert_at-top-requires-clause-one : goal.insert_at-top-requires-clause-one
+insert_at-top-requires-clause-one g c = room_keeps IsSpan c.args.arena.now c.reserve-2.new.self c.reserve-2.ensures.kept c.requires.one
 
-pub insert_at-inserted-requires-clause-last : goal.insert_at-inserted-requires-clause-last
-insert_at-inserted-requires-clause-last g c = room_keeps (SpansLast (g.P.Places.end_place c.args.at.now)) c.args.arena.now c.reserve-2.new.self c.reserve-2.ensures.kept c.requires.last
+pub insert_at-top-requires-clause-last : goal.insert_at-top-requires-clause-last
+insert_at-top-requires-clause-last g c = room_keeps (SpansLast (g.P.Places.end_place c.args.at.now)) c.args.arena.now c.reserve-2.new.self c.reserve-2.ensures.kept c.requires.last
 
-pub insert_front-inserted-requires-clause-one : goal.insert_front-inserted-requires-clause-one
-insert_front-inserted-requires-clause-one g c = room_keeps IsSpan c.args.arena.now c.reserve-2.new.self c.reserve-2.ensures.kept c.requires.one
+pub insert_front-top-requires-clause-one : goal.insert_front-top-requires-clause-one
+insert_front-top-requires-clause-one g c = room_keeps IsSpan c.args.arena.now c.reserve-2.new.self c.reserve-2.ensures.kept c.requires.one
 
-pub insert_front-inserted-requires-clause-last : goal.insert_front-inserted-requires-clause-last
-insert_front-inserted-requires-clause-last g c = room_keeps (SpansLast (g.P.Places.end_place c.args.at.now)) c.args.arena.now
+pub insert_front-top-requires-clause-last : goal.insert_front-top-requires-clause-last
+insert_front-top-requires-clause-last g c = room_keeps (SpansLast (g.P.Places.end_place c.args.at.now)) c.args.arena.now
     c.reserve-2.new.self c.reserve-2.ensures.kept c.requires.last
 
 pub returns-clause-one : goal.returns-clause-one
 returns-clause-one g c =
     elim c.match-place_for.branch [
-      | in-Some-place_for w ↦ subst (λ (z : Nodes). KeepsBut IsSpan z None) (sym w.arena-is) w.insert_at-inserted.ensures.one
-      | in-None w ↦ subst (λ (z : Nodes). KeepsBut IsSpan z None) (sym w.arena-is) w.insert_front-inserted.ensures.one
+      | in-Some-place_for w ↦ subst (λ (z : Nodes). KeepsBut IsSpan z None) (sym w.arena-is) w.insert_at-top.ensures.one
+      | in-None w ↦ subst (λ (z : Nodes). KeepsBut IsSpan z None) (sym w.arena-is) w.insert_front-top.ensures.one
     ]
 
 pub returns-clause-items : goal.returns-clause-items
@@ -58,11 +56,11 @@ returns-clause-items g c =
     elim c.match-place_for.branch [
       | in-Some-place_for w ↦ subst (λ (z : Nodes). items_of z z.leaves ≡ put_item place c.args.item (items_of c.args.arena.now c.args.arena.now.leaves)) (sym w.arena-is)
           (put_items_after place c.reserve-2.new.self forest c.args.item w.in-Some-place_for.before w.in-Some-place_for.ensures
-          w.insert_at-inserted.new.arena w.insert_at-inserted.result.leaf w.insert_at-inserted.ensures.inserts
+          w.insert_at-top.new.arena w.insert_at-top.ensures.inserts.0 w.insert_at-top.ensures.inserts.1
           ∙ ap (put_item place c.args.item) (room_items c.args.arena.now c.reserve-2.new.self c.reserve-2.ensures.kept))
       | in-None w ↦ subst (λ (z : Nodes). items_of z z.leaves ≡ put_item place c.args.item (items_of c.args.arena.now c.args.arena.now.leaves)) (sym w.arena-is)
-          (put_items_front place c.reserve-2.new.self forest c.args.item w.in-None.ensures w.insert_front-inserted.new.arena
-          w.insert_front-inserted.result.leaf w.insert_front-inserted.ensures.inserts
+          (put_items_front place c.reserve-2.new.self forest c.args.item w.in-None.ensures w.insert_front-top.new.arena
+          w.insert_front-top.ensures.inserts.0 w.insert_front-top.ensures.inserts.1
           ∙ ap (put_item place c.args.item) (room_items c.args.arena.now c.reserve-2.new.self c.reserve-2.ensures.kept))
     ]
 
@@ -77,15 +75,3 @@ place_for-requires-clause-spans g c = room_keeps IsSpan c.args.arena.now c.reser
 pub place_for-requires-clause-rising : goal.place_for-requires-clause-rising
 place_for-requires-clause-rising g c =
     subst (IsRising (g.P.Places.end_place c.args.at.now)) (sym (room_items c.args.arena.now c.reserve-2.new.self c.reserve-2.ensures.kept)) c.requires.rising
-
-pub returns-clause-leaf : goal.returns-clause-leaf
-returns-clause-leaf g c =
-    let s = c.args.arena.now in
-    elim c.match-place_for.branch [
-      | in-Some-place_for w ↦ subst (λ (z : Nodes). AddsLeaf s z c.match-place_for.inserted.leaf c.args.item) (sym w.arena-is)
-          (subst (λ (i : Inserted). AddsLeaf s w.insert_at-inserted.new.arena i.leaf c.args.item) (sym w.inserted-is)
-          (adds_room s c.reserve-2.new.self w.insert_at-inserted.new.arena _ c.args.item _ c.reserve-2.ensures.kept w.insert_at-inserted.ensures.inserts))
-      | in-None w ↦ subst (λ (z : Nodes). AddsLeaf s z c.match-place_for.inserted.leaf c.args.item) (sym w.arena-is)
-          (subst (λ (i : Inserted). AddsLeaf s w.insert_front-inserted.new.arena i.leaf c.args.item) (sym w.inserted-is)
-          (adds_room s c.reserve-2.new.self w.insert_front-inserted.new.arena _ c.args.item _ c.reserve-2.ensures.kept w.insert_front-inserted.ensures.inserts))
-    ]
