@@ -7,8 +7,10 @@ A wrong body is an edit that must be refused: one that the gate tries too (crate
 (crates/NAME/wrong/*.edit). Its twin (crates/NAME/wrong/*.twin) is an edit of the same place that changes nothing, and must be accepted: else the
 refusal of the wrong body tells nothing. So a crate is checked with all its twins in place, and then with each wrong body in the place of its twin.
 
-It works on a copy, over the libraries that `rt ci` left in this checkout: run it behind that. A line for each wrong body says what refused it, a file
-and a goal. The last line counts; the status is 0 where each wrong body was refused, by more than a name that it took away, and each twin accepted.
+It works on a copy, over the libraries that `rt ci` left in this checkout: run it behind that. A function is proved by the contracts of those that it
+calls, so an edit of a body is tried on the functions of its file and those that they call alone; one of a constant, or of a file of `specs` or `proofs`, on
+the whole crate. A line for each wrong body says what refused it, a file and a goal. The last line counts; the status is 0 where each wrong body was refused,
+by more than a name that it took away, and each twin accepted.
 """
 import collections
 import concurrent.futures
@@ -21,6 +23,7 @@ import tempfile
 
 TOP = os.path.dirname(os.path.dirname(os.path.abspath(__file__)))
 TOLD = re.compile(r'(note: )?\S+:\d+:\d+:')                                       # a line of the checker that tells of a place
+PART = re.compile(r'\bonly=(\d+) proved=(\d+)')                                   # the last line of a check of some functions
 STALE = re.compile(r'(note: )?(\./)?proofs/.*(has no field|is not in scope|has no `|was not admitted)')
 
 Change = collections.namedtuple('Change', 'file old new')
@@ -106,6 +109,17 @@ def checker(name, crates):
     return words + ['--links', f'{name}=', '--jobs', '1', '--incremental', 'out/incremental']
 
 
+def scope(changes):
+    """The words by which a check tries no more than what the changes can break."""
+    words = []
+    for it in changes:
+        module = re.fullmatch(r'src/(.+)\.rt', it.file)
+        if not module or module[1] in ('lib', 'main') or 'const ' in it.old:
+            return []
+        words += ['--only', module[1].replace('/', '::')]
+    return words
+
+
 def refuser(lines):
     """What refuses a body: the file and the goal of the first line that tells of one."""
     place = re.search(r'(src|proofs)/[^:]+', lines[0])
@@ -119,7 +133,9 @@ def judged(status, output):
     by_clause = [it for it in told if not STALE.match(it)]
     if status == 0:
         return False, 'NOT REFUSED'
-    if status != 1 or 'logic=not-proved' not in output or re.search(r'\berror\[[\w-]+\]', output):
+    part = PART.search(output)
+    is_open = 'logic=not-proved' in output or (part and part[1] != part[2])
+    if status != 1 or not is_open or re.search(r'\berror\[[\w-]+\]', output):
         return False, 'NOT TRIED: ' + ' '.join(output.split('\n')[-3:])[:300]
     return (True, refuser(by_clause)) if by_clause else (False, 'refused only by a name that it took away')
 
@@ -137,9 +153,9 @@ class Crate:
         self.twins = edits(beside, '.twin')
         self.placed = {}
 
-    def check(self):
-        """Checks the crate as it stands, over what its checks before proved."""
-        ran = subprocess.run(self.words, cwd=self.folder, stdin=subprocess.DEVNULL, stdout=subprocess.PIPE, stderr=subprocess.STDOUT, text=True, errors='replace')
+    def check(self, changes):
+        """Checks the crate as it stands with these changes, over what its checks before proved."""
+        ran = subprocess.run(self.words + scope(changes), cwd=self.folder, stdin=subprocess.DEVNULL, stdout=subprocess.PIPE, stderr=subprocess.STDOUT, text=True, errors='replace')
         return ran.returncode, ran.stdout
 
     def restore(self, source):
@@ -152,7 +168,7 @@ class Crate:
         try:
             for it in self.bodies[body]:
                 put(self.folder, Change(it.file, self.placed.get((it.file, it.old), it.old), it.new))
-            is_good, said = judged(*self.check())
+            is_good, said = judged(*self.check(self.bodies[body]))
         except ValueError as fault:
             is_good, said = False, f'NOT TRIED: {fault}'
         self.restore(source)
@@ -160,17 +176,17 @@ class Crate:
 
     def place(self, twins):
         """Puts these twins in, and tells what refuses the crate with them: None where it is proved."""
+        changes = [it for twin in twins for it in self.twins[twin]]
         try:
-            for twin in twins:
-                for it in self.twins[twin]:
-                    put(self.folder, it)
-            status, output = self.check()
+            for it in changes:
+                put(self.folder, it)
+            status, output = self.check(changes)
         except ValueError as fault:
             return str(fault)
         if status != 0:
             told = [it for it in output.split('\n') if TOLD.match(it) and (': error' in it or it.startswith('note: '))]
             return refuser(told or [output[-300:]])
-        self.placed.update({(it.file, it.old): it.new for twin in twins for it in self.twins[twin]})
+        self.placed.update({(it.file, it.old): it.new for it in changes})
         return None
 
     def twins_tried(self, source):
