@@ -107,6 +107,13 @@ def shared(*clients):
         yield event('deliver', client=client, count='all')
 
 
+def sent_again(client):
+    """The client loses its connection and comes back: what is pending is sent again, and taken."""
+    yield event('drop', client=client)
+    yield event('connect', client=client)
+    yield from shared(client)
+
+
 def message(number, op, client='X', reference=0, minimum=0, address='text', own=1):
     return line({'sequenceNumber': number, 'minimumSequenceNumber': minimum, 'clientSequenceNumber': own, 'referenceSequenceNumber': reference,
                  'type': 'op', 'clientId': client, 'contents': {'address': address, 'contents': op}})
@@ -246,9 +253,7 @@ def cell_writes_sent_again(n):
     yield from shared('A')
     for i in range(n):
         yield edit('A', cell(i % side, i % 4, i), 'grid')
-    yield event('drop', client='A')
-    yield event('connect', client='A')
-    yield from shared('A')
+    yield from sent_again('A')
 
 
 @shape(20000)
@@ -274,9 +279,7 @@ def splices_of_a_large_table(n):
         target = ('rows', 'cols')[i % 2]
         at = chance.randrange(900000)
         yield edit('A', splice_in(target, at, 3) if i % 4 < 2 else splice_out(target, at, at + 3), 'grid')
-    yield event('drop', client='A')
-    yield event('connect', client='A')
-    yield from shared('A')
+    yield from sent_again('A')
 
 
 @shape(10000)
@@ -297,9 +300,7 @@ def keys_sent_again(n):
     yield from started('A')
     for i in range(n):
         yield edit('A', insert(i, 'a'))
-    yield event('drop', client='A')
-    yield event('connect', client='A')
-    yield from shared('A')
+    yield from sent_again('A')
 
 
 @shape(5000)
@@ -311,9 +312,7 @@ def keys_at_random_places_sent_again(n):
     chance = random.Random(1)
     for i in range(n):
         yield edit('A', insert(chance.randrange(8000 + i), 'a'))
-    yield event('drop', client='A')
-    yield event('connect', client='A')
-    yield from shared('A')
+    yield from sent_again('A')
 
 
 @shape(2000)
