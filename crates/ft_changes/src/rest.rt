@@ -341,8 +341,8 @@ fn sum(a: u64, b: u64) -> Result<u64, OutOfMemory>
     a.checked_add(b).ok_or(OutOfMemory)
 }
 
-// How many elements a segment puts in.
-fn element_count(seg: &Seg) -> u64
+/// How many elements a segment puts in: it goes over its characters.
+pub fn element_count(seg: &Seg) -> u64
     ensures { result ≡ length (segment_contents seg.now) }
 {
     match seg {

@@ -1,16 +1,20 @@
 //! Runs of shown elements that go away, or that have other properties now, as they are found from the front on.
 
-ghost use Rattle.std.specs.Prelude.{◌≡◌, ◌+◌, ◌&&◌, IfOk, OnOk, map, nat_eq};
+ghost use Rattle.std.specs.Prelude.{◌≡◌, ◌+◌, ◌&&◌, [], IfOk, OnOk, map, nat_eq};
+ghost use Rattle.ft_props.specs.Properties.{apply};
+ghost use Rattle.ft_op.specs.Operation.{segment_contents};
 ghost use Rattle.ft_sumdoc.specs.WellFormed.{same_props};
+ghost use Rattle.ft_changes.specs.declared.changes.ViewChange.TheVariants.{Put};
 ghost use Rattle.ft_changes.specs.PlacedRuns.{with_changed_behind, with_gone_behind};
-ghost use Rattle.ft_changes.specs.Told.{styled_run, taken_run, taken_units};
+ghost use Rattle.ft_changes.specs.Told.{styled_run, taken_run, taken_units, unless_no_elements};
 
 use crate::changes::{ViewChange, ViewChanges};
-use ft_base::OutOfMemory;
+use crate::rest::element_count;
 use ft_base::moved::push;
+use ft_base::{Datum, OutOfMemory};
 use ft_marks::same_props;
-use ft_op::Target;
-use ft_props::Props;
+use ft_op::{Seg, Target};
+use ft_props::{PropSet, Props};
 use std::alloc::Global;
 use std::marker::Model;
 
@@ -106,6 +110,20 @@ fn goes_on(run: &StyledRun, place: u64, props: &Props) -> bool
     ensures { result ≡ (nat_eq (run.now.place + run.now.count) place && same_props run.now.props props.now) }
 {
     run.place.checked_add(run.count) == Some(place) && same_props(&run.props, props)
+}
+
+/// The insertion of a segment in front of the shown element at `pos`, with the properties that aren't null, as changes: none
+/// where it has no elements.
+pub fn puts(alloc: Global, pos: u64, seg: &Seg, props: &PropSet) -> Result<ViewChanges, OutOfMemory>
+    ensures { IfOk result (λ changes. changes ≡ unless_no_elements (segment_contents seg.now) (Put pos seg.now (apply [] props.now))) }
+{
+    let mut changes = ViewChanges::new(alloc);
+    if element_count(seg) != 0 {
+        let props = Props::new(alloc).applied(props)?;
+        let seg = seg.copy()?;
+        changes.push(ViewChange::Put { pos, seg, props })?;
+    }
+    Ok(changes)
 }
 
 /// Runs of the text that go away, as changes.

@@ -10,3 +10,4 @@ pub mod PlacedList
 pub mod PlacedRuns
 pub mod PushedCharacter
 pub mod SettledName
+pub mod ShownPlaces

@@ -5,6 +5,7 @@
 #![tactic(auto)]
 
 mod cells;
+mod changes;
 mod copies;
 mod element_tests;
 mod elements;
