@@ -1,3 +1,4 @@
+pub mod HeardChanges
 pub mod IntervalTaken
 pub mod RenamedNames
 pub mod ShownStages

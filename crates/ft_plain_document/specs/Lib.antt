@@ -1,4 +1,5 @@
 pub mod LentLists
+pub mod Listeners
 pub mod OwnEdits
 pub mod Renamed
 pub mod SubOperations

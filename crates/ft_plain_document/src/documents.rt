@@ -1,10 +1,12 @@
 //! The document of a plain replica, and what sequenced messages make of it.
 
-ghost use Rattle.std.specs.Prelude.{◌≡◌, ◌<◌, ◌^◌, OnOk, OnErr, length};
+ghost use Rattle.std.specs.Prelude.{◌≡◌, ◌<◌, ◌^◌, IfOk, OnOk, OnErr, length};
 ghost use Rattle.ft_op.specs.Operation.{sub_operations};
 ghost use Rattle.ft_op.specs.Document.{effects, empty, with_skip};
 ghost use Rattle.ft_msg.specs.Agreed.{body_effect, reference_number, take_entry, with_numbers};
 ghost use Rattle.ft_msg.specs.WellFormed.{HasNumbersInRange};
+ghost use Rattle.ft_changes.specs.Told.{told_body, told_sub_operations};
+ghost use Rattle.ft_plain_document.specs.Listeners.{heard};
 
 mod acknowledgements;
 pub(crate) mod building;
@@ -17,11 +19,14 @@ pub(crate) mod own_intervals;
 mod own_operations;
 mod pieces;
 pub(crate) mod rebuilding;
+mod telling;
 mod text_effects;
 mod trimming;
 
+use crate::listeners::Listener;
 use building::DocumentNumbers;
 use ft_base::{OutOfMemory, Perspective};
+use ft_changes::ViewChanges;
 use ft_msg::{Body, Entry};
 use ft_op::ChannelOp;
 use ft_plain_lists::{PlainCells, PlainElement, PlainInterval, PlainIntervals, PlainList};
@@ -149,11 +154,37 @@ impl PlainDocument {
         requires { HasNumbersInRange entry.now.msg }
         ensures { OnOk result (self.new ≡ take_entry self.old entry.now) }
     {
+        let mut nobody = Listener::nobody(self.alloc());
+        self.take_in(entry, 0, &mut nobody)
+    }
+
+    /// As `take`, and tells how the elements of the lists that are shown at stage `last` change.
+    pub fn take_telling(&mut self, entry: &Entry, last: u64) -> Result<ViewChanges, OutOfMemory>
+        requires { HasNumbersInRange entry.now.msg }
+        ensures taken { OnOk result (self.new ≡ take_entry self.old entry.now) }
+        ensures told { IfOk result (λ changes. changes ≡ told_body last self.old entry.now.msg.seq entry.now.origin (reference_number entry.now.msg.ref_seq) entry.now.msg.body) }
+    {
+        let mut listener = Listener::new(self.alloc());
+        self.take_in(entry, last, &mut listener)?;
+        Ok(listener.into_changes())
+    }
+
+    // Takes an entry, of which a listener hears.
+    fn take_in(
+        &mut self,
+        entry: &Entry,
+        last: u64,
+        listener: &mut Listener,
+    ) -> Result<(), OutOfMemory>
+        requires { HasNumbersInRange entry.now.msg }
+        ensures taken { OnOk result (self.new ≡ take_entry self.old entry.now) }
+        ensures told { OnOk result (listener.new ≡ heard listener.old (told_body last self.old entry.now.msg.seq entry.now.origin (reference_number entry.now.msg.ref_seq) entry.now.msg.body)) }
+    {
         let at = Perspective {
             r: reference_number(entry.msg.ref_seq),
             c: entry.origin,
         };
-        self.take_body(&entry.msg.body, entry.msg.seq, at)?;
+        self.take_body(&entry.msg.body, entry.msg.seq, at, last, listener)?;
         self.set_numbers(entry);
         Ok(())
     }
@@ -168,12 +199,20 @@ impl PlainDocument {
     }
 
     // Takes the body of a message with number `seq`.
-    fn take_body(&mut self, body: &Body, seq: u64, at: Perspective) -> Result<(), OutOfMemory>
-        ensures { OnOk result (self.new ≡ body_effect self.old seq at.c at.r body.now) }
+    fn take_body(
+        &mut self,
+        body: &Body,
+        seq: u64,
+        at: Perspective,
+        last: u64,
+        listener: &mut Listener,
+    ) -> Result<(), OutOfMemory>
+        ensures taken { OnOk result (self.new ≡ body_effect self.old seq at.c at.r body.now) }
+        ensures told { OnOk result (listener.new ≡ heard listener.old (told_body last self.old seq at.c at.r body.now)) }
     {
         match body {
             Body::Nothing => Ok(()),
-            Body::Op(op) => self.apply(op, seq, at),
+            Body::Op(op) => self.apply(op, seq, at, last, listener),
             Body::Elsewhere(_) => {
                 self.other = self.other.checked_add(1).ok_or(OutOfMemory)?;
                 Ok(())
@@ -182,12 +221,20 @@ impl PlainDocument {
     }
 
     // Applies an operation under number `seq`.
-    fn apply(&mut self, op: &ChannelOp, seq: u64, at: Perspective) -> Result<(), OutOfMemory>
-        ensures { OnOk result (self.new ≡ effects self.old seq at.c at.r (sub_operations op.now)) }
+    fn apply(
+        &mut self,
+        op: &ChannelOp,
+        seq: u64,
+        at: Perspective,
+        last: u64,
+        listener: &mut Listener,
+    ) -> Result<(), OutOfMemory>
+        ensures applied { OnOk result (self.new ≡ effects self.old seq at.c at.r (sub_operations op.now)) }
+        ensures told { OnOk result (listener.new ≡ heard listener.old (told_sub_operations last self.old seq at.c at.r (sub_operations op.now))) }
     {
         match op {
-            ChannelOp::Text(op) => self.apply_to_text(op, seq, at),
-            ChannelOp::Grid(op) => self.apply_to_grid(op, seq, at),
+            ChannelOp::Text(op) => self.apply_to_text(op, seq, at, last, listener),
+            ChannelOp::Grid(op) => self.apply_to_grid(op, seq, at, last, listener),
         }
     }
 

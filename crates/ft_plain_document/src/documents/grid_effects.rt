@@ -5,9 +5,12 @@ ghost use Rattle.std.specs.Borrow.{sem};
 ghost use Rattle.ft_op.specs.declared.operations.ChannelOp.TheVariants.{Grid};
 ghost use Rattle.ft_op.specs.Operation.{OnGrid, sub_operations};
 ghost use Rattle.ft_op.specs.Document.{effects, grid_effect, rows_or_cols};
+ghost use Rattle.ft_changes.specs.Told.{told_sub_operations};
 ghost use Rattle.ft_plain_document.specs.LentLists.{lends_list};
+ghost use Rattle.ft_plain_document.specs.Listeners.{heard};
 
 use crate::documents::PlainDocument;
+use crate::listeners::Listener;
 use ft_base::{OutOfMemory, Perspective};
 use ft_json::ValText;
 use ft_op::{CellOp, GridOp, Target};
@@ -20,12 +23,18 @@ impl PlainDocument {
         op: &GridOp,
         seq: u64,
         at: Perspective,
+        last: u64,
+        listener: &mut Listener,
     ) -> Result<(), OutOfMemory>
-        ensures { OnOk result (self.new ≡ effects self.old seq at.c at.r (sub_operations (Grid op.now))) }
+        ensures applied { OnOk result (self.new ≡ effects self.old seq at.c at.r (sub_operations (Grid op.now))) }
+        ensures told { OnOk result (listener.new ≡ heard listener.old (told_sub_operations last self.old seq at.c at.r (sub_operations (Grid op.now)))) }
     {
         match op {
-            GridOp::One(op) => self.apply_cell_op(op, seq, at),
-            GridOp::Group(ops) => self.apply_cell_ops(ops.as_slice(), seq, at),
+            GridOp::One(op) => {
+                listener.hear_grid(self, last, op, at)?;
+                self.apply_cell_op(op, seq, at)
+            }
+            GridOp::Group(ops) => self.apply_cell_ops(ops.as_slice(), seq, at, last, listener),
         }
     }
 
@@ -35,10 +44,14 @@ impl PlainDocument {
         ops: &[CellOp],
         seq: u64,
         at: Perspective,
+        last: u64,
+        listener: &mut Listener,
     ) -> Result<(), OutOfMemory>
-        ensures { OnOk result (self.new ≡ effects self.old seq at.c at.r (map (λ op. OnGrid op) ops.now)) }
+        ensures applied { OnOk result (self.new ≡ effects self.old seq at.c at.r (map (λ op. OnGrid op) ops.now)) }
+        ensures told { OnOk result (listener.new ≡ heard listener.old (told_sub_operations last self.old seq at.c at.r (map (λ op. OnGrid op) ops.now))) }
     {
         for op in ops {
+            listener.hear_grid(self, last, op, at)?;
             self.apply_cell_op(op, seq, at)?;
         }
         Ok(())

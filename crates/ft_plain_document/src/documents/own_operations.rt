@@ -3,11 +3,14 @@
 ghost use Rattle.std.specs.Prelude.{◌≡◌, ◌≤◌, ◌++◌, [], Err, IfErr, IfOk, Ok, OnOk, length, map};
 ghost use Rattle.ft_op.specs.Operation.{sub_operations};
 ghost use Rattle.ft_msg.specs.Client.{local_sub_operation, local_sub_operations};
+ghost use Rattle.ft_changes.specs.Told.{told_locals};
+ghost use Rattle.ft_plain_document.specs.Listeners.{heard};
 ghost use Rattle.ft_plain_document.specs.OwnEdits.{AnswersSteps, AnswersSubOperation, LeavesRefused, TakesStage};
 ghost use Rattle.ft_plain_document.specs.SubOperations.{sub_operation_of};
 
 use crate::documents::PlainDocument;
 use crate::documents::own_edits::NotTaken;
+use crate::listeners::Listener;
 use crate::moved::fill_with;
 use crate::stages::{PlainStage, PlainStages, SubOp, sub_operations};
 use ft_base::OutOfMemory;
@@ -17,21 +20,26 @@ use ft_plain_lists::ElementNames;
 use std::collections::VecDeque;
 
 impl PlainDocument {
-    /// Takes an operation of the client's own as pending stages from `first` on, after these pending ones.
+    /// Takes an operation of the client's own as pending stages from `first` on, after these pending ones; the listener
+    /// hears how the shown elements of the lists change with each.
+    ///
+    /// After a refusal nothing is said of what it heard.
     pub fn edit(
         &mut self,
         pending: &[PlainStage],
         first: u64,
         op: &ChannelOp,
+        listener: &mut Listener,
     ) -> Result<PlainStages, NotTaken>
         ensures answers { AnswersSteps (local_sub_operations self.old pending.now first (sub_operations op.now)) self.new result }
         ensures refused { LeavesRefused self.old self.new result }
+        ensures told { OnOk result (listener.new ≡ heard listener.old (told_locals self.old pending.now first (sub_operations op.now))) }
     {
         let ops = sub_operations(self.alloc(), op)?;
         if ops.len() <= 1 {
-            return self.edit_all(pending, first, ops);
+            return self.edit_all(pending, first, ops, listener);
         }
-        self.edit_copy(pending, first, ops)
+        self.edit_copy(pending, first, ops, listener)
     }
 
     // Takes these sub-operations in order, first in a copy: a refusal leaves the document as it was.
@@ -40,12 +48,14 @@ impl PlainDocument {
         pending: &[PlainStage],
         first: u64,
         ops: VecDeque<SubOp>,
+        listener: &mut Listener,
     ) -> Result<PlainStages, NotTaken>
         ensures answers { AnswersSteps (local_sub_operations self.old pending.now first (map sub_operation_of ops.items)) self.new result }
         ensures refused { LeavesRefused self.old self.new result }
+        ensures told { OnOk result (listener.new ≡ heard listener.old (told_locals self.old pending.now first (map sub_operation_of ops.items))) }
     {
         let (mut copy, ops) = beside(self.copy(), ops)?;
-        let stages = copy.edit_all(pending, first, ops);
+        let stages = copy.edit_all(pending, first, ops, listener);
         fill_with(self, copy, stages)
     }
 
@@ -55,12 +65,14 @@ impl PlainDocument {
         pending: &[PlainStage],
         first: u64,
         mut ops: VecDeque<SubOp>,
+        listener: &mut Listener,
     ) -> Result<PlainStages, NotTaken>
         ensures answers { AnswersSteps (local_sub_operations self.old pending.now first (map sub_operation_of ops.items)) self.new result }
         ensures refused { length ops.items ≤ 1 → LeavesRefused self.old self.new result }
+        ensures told { OnOk result (listener.new ≡ heard listener.old (told_locals self.old pending.now first (map sub_operation_of ops.items))) }
     {
         let mut stages = PlainStages::new(self.alloc());
-        let done = self.take_all(pending, first, &mut ops, &mut stages);
+        let done = self.take_all(pending, first, &mut ops, &mut stages, listener);
         after(done, stages)
     }
 
@@ -71,14 +83,17 @@ impl PlainDocument {
         first: u64,
         ops: &mut VecDeque<SubOp>,
         stages: &mut PlainStages,
+        listener: &mut Listener,
     ) -> Result<(), NotTaken>
         requires { stages.old ≡ [] }
         ensures taken { OnOk result (local_sub_operations self.old pending.now first (map sub_operation_of ops.old.items) ≡ Ok (self.new, stages.new)) }
         ensures answers { IfErr result (λ why. AnswersSteps (local_sub_operations self.old pending.now first (map sub_operation_of ops.old.items)) self.new (Err why)) }
         ensures refused { length ops.old.items ≤ 1 → IfErr result (λ why. LeavesRefused self.old self.new (Err why)) }
+        ensures told { OnOk result (listener.new ≡ heard listener.old (told_locals self.old pending.now first (map sub_operation_of ops.old.items))) }
     {
         let mut stage = first;
         while let Some(op) = ops.pop_front() {
+            listener.hear_local(self, stage, &op)?;
             self.take_one(pending, stages, stage, op)?;
             stage = stage.checked_add(1).ok_or(OutOfMemory)?;
         }

@@ -3,9 +3,12 @@
 ghost use Rattle.std.specs.Prelude.{◌≡◌, ℕ, IfOk, OnOk, map};
 ghost use Rattle.ft_op.specs.Operation.{OnText, segment_contents, text_sub_operations};
 ghost use Rattle.ft_op.specs.Document.{effects, text_effect};
+ghost use Rattle.ft_changes.specs.Told.{told_sub_operations};
 ghost use Rattle.ft_plain_lists.specs.Contents.{content_of};
+ghost use Rattle.ft_plain_document.specs.Listeners.{heard};
 
 use crate::documents::PlainDocument;
+use crate::listeners::Listener;
 use ft_base::{OutOfMemory, Perspective, Stamp};
 use ft_op::{BaseOp, Seg, TextOp};
 use ft_plain_lists::{Content, characters};
@@ -19,12 +22,18 @@ impl PlainDocument {
         op: &TextOp,
         seq: u64,
         at: Perspective,
+        last: u64,
+        listener: &mut Listener,
     ) -> Result<(), OutOfMemory>
-        ensures { OnOk result (self.new ≡ effects self.old seq at.c at.r (text_sub_operations op.now)) }
+        ensures applied { OnOk result (self.new ≡ effects self.old seq at.c at.r (text_sub_operations op.now)) }
+        ensures told { OnOk result (listener.new ≡ heard listener.old (told_sub_operations last self.old seq at.c at.r (text_sub_operations op.now))) }
     {
         match op {
-            TextOp::One(op) => self.apply_text_op(op, seq, at),
-            TextOp::Group(ops) => self.apply_text_ops(ops.as_slice(), seq, at),
+            TextOp::One(op) => {
+                listener.hear_text(self, last, op, at)?;
+                self.apply_text_op(op, seq, at)
+            }
+            TextOp::Group(ops) => self.apply_text_ops(ops.as_slice(), seq, at, last, listener),
             TextOp::IntervalAdd {
                 label,
                 id,
@@ -47,10 +56,14 @@ impl PlainDocument {
         ops: &[BaseOp],
         seq: u64,
         at: Perspective,
+        last: u64,
+        listener: &mut Listener,
     ) -> Result<(), OutOfMemory>
-        ensures { OnOk result (self.new ≡ effects self.old seq at.c at.r (map (λ op. OnText op) ops.now)) }
+        ensures applied { OnOk result (self.new ≡ effects self.old seq at.c at.r (map (λ op. OnText op) ops.now)) }
+        ensures told { OnOk result (listener.new ≡ heard listener.old (told_sub_operations last self.old seq at.c at.r (map (λ op. OnText op) ops.now))) }
     {
         for op in ops {
+            listener.hear_text(self, last, op, at)?;
             self.apply_text_op(op, seq, at)?;
         }
         Ok(())
