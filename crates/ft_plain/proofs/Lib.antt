@@ -1,3 +1,4 @@
+pub mod CountedElements
 pub mod PlainSteps
 pub mod RefusedEdits
 pub mod WrittenValues

@@ -3,7 +3,9 @@
 ghost use Rattle.std.specs.Prelude.{IsTrue};
 ghost use Rattle.ft_plain.specs.Own.{HasSmallLists};
 
+mod edits;
 mod reading;
+mod telling;
 
 use crate::resent::{resend, stage_numbers};
 use ft_attrib::Attribution;
@@ -11,7 +13,7 @@ use ft_base::{OutOfMemory, Steps, Text};
 use ft_json::GREATEST_COUNT;
 use ft_msg::{EditFault, Entry, Numbers, View};
 use ft_op::ChannelOp;
-use ft_plain_document::{NotTaken, PlainDocument, PlainStages, renamed_stages};
+use ft_plain_document::{Listener, PlainDocument, PlainStages, renamed_stages};
 use ft_plain_summary::{document_of, summary_of};
 use ft_replica::{OwnDocument, OwnNumbers, Resent};
 use ft_sumdoc::{IntervalRec, MOST_UNITS, SumDoc, Texts};
@@ -92,19 +94,8 @@ impl OwnDocument for PlainOwn {
         op: &ChannelOp,
         _steps: &mut Steps<G>,
     ) -> Result<usize, EditFault> {
-        let Some(first) = last.checked_add(1) else {
-            return Err(EditFault::OutOfMemory);
-        };
-        let stages = match self.doc.edit(self.stages.as_slice(), first, op) {
-            Ok(stages) => stages,
-            Err(NotTaken::OutOfMemory) => return Err(EditFault::OutOfMemory),
-            Err(NotTaken::Refused(fault)) => return Err(fault),
-        };
-        let count = stages.len();
-        if self.stages.append(stages).is_err() {
-            return Err(EditFault::OutOfMemory);
-        }
-        Ok(count)
+        let mut nobody = Listener::nobody(self.doc.alloc());
+        self.edit_heard(last, op, &mut nobody)
     }
 
     fn take(&mut self, entry: &Entry) -> Result<(), OutOfMemory> {

@@ -1,15 +1,18 @@
 //! What a document over plain lists shows.
 
-ghost use Rattle.std.specs.Prelude.{◌≡◌, IfOk};
+ghost use Rattle.std.specs.Prelude.{◌≡◌, IfOk, length};
 ghost use Rattle.ft_msg.specs.Answers.{view_content};
 ghost use Rattle.ft_msg.specs.Blame.{blame};
 ghost use Rattle.ft_msg.specs.Content.{content};
 ghost use Rattle.ft_msg.specs.Overlap.{overlap};
+ghost use Rattle.ft_changes.specs.Rest.{rest_of};
+ghost use Rattle.ft_changes.specs.Shown.{shown_content};
 ghost use Rattle.ft_plain.specs.Own.{client_at};
 
 use crate::own::PlainOwn;
 use ft_attrib::Attribution;
 use ft_base::{OutOfMemory, Text};
+use ft_changes::ShownRest;
 use ft_msg::{Numbers, Runs, Spots, View};
 use ft_plain_lists::{
     shown_cells, shown_count, shown_intervals, shown_markers, shown_origins, shown_runs, shown_text,
@@ -33,6 +36,24 @@ impl PlainOwn {
             cols: self.shown_cols(last) as u64,
             cells: self.shown_cells(last)?,
         })
+    }
+
+    /// What it shows at the last stage beside the elements, and how many these are.
+    pub(crate) fn rest_at(&self, last: u64) -> Result<ShownRest, OutOfMemory>
+        ensures { IfOk result (λ rest. rest ≡ rest_of (shown_content (client_at last self.now))) }
+    {
+        Ok(ShownRest {
+            elements: self.shown_elements(last),
+            intervals: self.shown_intervals(last)?,
+            cells: self.shown_cells(last)?,
+        })
+    }
+
+    // How many elements of the text.
+    fn shown_elements(&self, last: u64) -> u64
+        ensures { result ≡ length (shown_content (client_at last self.now)).elements }
+    {
+        shown_count(self.doc.text(), last) as u64
     }
 
     // The characters of the text, without the markers.
