@@ -89,8 +89,8 @@ impl<C: Content> Tree<C> {
     /// The element as it is settled at the stage: the same if the stage sees it, else the next one that it sees, else
     /// the last before it, else none.
     ///
-    /// It looks at the leaf alone where the stage sees that, else at the leaves up to the one where it is settled; where
-    /// that stands before it, at all behind too.
+    /// It looks at the leaf alone where the stage sees that, else at the next few leaves, and then it goes up from there and down from
+    /// the root; where the stage sees none behind, it looks before it in the same way.
     pub fn settled_at(&self, at: &Place, stage: u64) -> Option<Place>
         requires usable { IsTrue self.now.usable }
         requires on_leaf { IsOnLeaf C.units self.now.leaves at.now }

@@ -1,15 +1,11 @@
 -- Places that are found, as elements on leaves.
-use Rattle.std.proofs.Common.{◌≡◌, ℕ, zero, suc, ◌+◌, ◌-◌, ◌<◌, ◌≤◌, Bool, List, [], ◌∷◌, length, Option, Some, None, Result, Ok, Err, IsSomeAnd, nat_eq, nat_le, subst, refl, sym, ◌∙◌, ap, inl, inr, arith}
+use Rattle.std.proofs.Common.{◌≡◌, ℕ, zero, suc, ◌+◌, ◌-◌, ◌<◌, ◌≤◌, Bool, List, [], ◌∷◌, length, Option, Some, None, IsSomeAnd, subst, refl, ◌∙◌, ap, arith}
 use Rattle.std.specs.Option.{SomeIff}
-use Rattle.std.specs.Prelude.{IfOk, IfErr}
-use Rattle.std.specs.Result.{result_ok}
-use Rattle.std.proofs.lemmas.Bool.{cases_lt, cond-false, cond-true, le-leb, lt-leb, ne_eqb}
 use Rattle.ft_base.specs.declared.stamps.Stamp.{Stamp}
 use Rattle.ft_base.specs.Scan.{len, place}
 use Rattle.ft_block.specs.declared.blocks.Found.{Found}
-use Rattle.ft_block.specs.declared.blocks.OutOfRange.{OutOfRange}
 use Rattle.ft_block.specs.declared.leaves.LenView.{LenView}
-use Rattle.ft_block.specs.Leaves.{length_by, place_by, place_from, times_leaf, value_at}
+use Rattle.ft_block.specs.Leaves.{place_by, times_leaf, value_at}
 use Rattle.ft_tree_leaves.specs.declared.leaves.TreeLeaf.{TreeLeaf}
 use Rattle.ft_tree_leaves.specs.Elements.{seen_in}
 use Rattle.ft_tree_leaves.specs.LeafLists.{elements, leaf_length}
@@ -17,42 +13,8 @@ use Rattle.ft_tree_leaves.specs.Places.{place_at}
 use Rattle.ft_tree_leaves.proofs.Numbered.{place_from as place_from_number}
 use Rattle.ft_tree_blocks.specs.LeafPlaces.{IsOnLeaf, place_on}
 use Rattle.ft_tree_steps.specs.LeafSteps.{IsInLeaf, held_place}
-use Rattle.ft_tree_steps.proofs.FoundPlaces.{found_at, found_inside, len_elements}
-
-module _ {L : Type 0} (f : L → ℕ) where
-  none_from : (xs : List (ℕ × L)) (p : ℕ) → length_by f xs < p → place_from f xs p ≡ None
-  none_from [] p h = refl
-  none_from (x ∷ xs) p h =
-      let more : f x.1 < p = omega arith in
-      cond-false (nat_le p (f x.1)) _ _ (lt-leb p (f x.1) more) ∙ none_from xs (p - f x.1) (omega arith)
-
-  -- there is no place beyond what is seen
-  pub none_beyond : (xs : List (ℕ × L)) (p : ℕ) → length_by f xs < p → place_by f xs p ≡ None
-  none_beyond xs p h = cond-false (nat_eq p 0) _ _ (ne_eqb p 0 (omega arith)) ∙ none_from xs p h
-
-  -- a search that tells the place, or the length seen where the place is beyond it
-  pub place-found : (xs : List (ℕ × L)) (p : ℕ) (r : Result Found OutOfRange) → IfOk r (λ found. place_by f xs p ≡ Some found)
-      → IfErr r (λ e. e.length ≡ length_by f xs) → IfErr r (λ e. e.length < p) → result_ok r ≡ place_by f xs p
-  place-found xs p (Ok found) is length beyond = sym is
-  place-found xs p (Err e) is length beyond = sym (none_beyond xs p (subst (λ n. n < p) length beyond))
-
-  beyond_from : (xs : List (ℕ × L)) (p : ℕ) → 0 < p → place_from f xs p ≡ None → length_by f xs < p
-  beyond_from [] p some e = some
-  beyond_from (x ∷ xs) p some e = elim (cases_lt (f x.1) p) [
-    | inl later ↦
-        let rest : place_from f xs (p - f x.1) ≡ None = sym (cond-false (nat_le p (f x.1)) _ _ (lt-leb p (f x.1) later)) ∙ e in
-        omega (arith, beyond_from xs (p - f x.1) (omega arith) rest)
-    | inr here ↦
-        let found : Found = record { leaf = Some x.0; offset = p } in
-        let first : Some found ≡ None =
-        sym (cond-true (nat_le p (f x.1)) (Some found) (place_from f xs (p - f x.1)) (le-leb p (f x.1) here)) ∙ e in
-        let no : ⊥ = (cc) in
-        absurd no
-  ]
-
-  -- and where there is none, no more is seen
-  pub beyond_none : (xs : List (ℕ × L)) (p : ℕ) → 0 < p → place_by f xs p ≡ None → length_by f xs < p
-  beyond_none xs p some e = beyond_from xs p some (sym (cond-false (nat_eq p 0) _ _ (ne_eqb p 0 (omega arith))) ∙ e)
+use Rattle.ft_tree_blocks.proofs.FoundLeaves.{beyond_none, len_elements}
+use Rattle.ft_tree_steps.proofs.FoundPlaces.{found_at, found_inside}
 
 module _ {A : Type 0} (seen : A → Bool) where
   -- the place of the seen element with p seen ones before it is behind those up to the next seen one, but for itself

@@ -18,6 +18,7 @@ use Rattle.ft_tree_blocks.specs.Walks.{before_place, from_place, node_behind}
 use Rattle.ft_tree_leaves.proofs.LeafRuns.{leaf-length, place-passes}
 use Rattle.ft_tree_leaves.proofs.Runs.{len-append, place-within}
 use Rattle.ft_tree_blocks.proofs.CountedWalks.{count_up_to}
+use Rattle.ft_tree_blocks.proofs.FoundLeaves.{len_elements}
 use Rattle.ft_tree_blocks.proofs.Walks.{before-from, first_in_place, from_first, stands, up_to-before}
 
 module _ {C U : Type 0} (units : C → List U) (by : C → Option Stamp) where
@@ -115,23 +116,13 @@ module _ {C U : Type 0} (units : C → List U) (by : C → Option Stamp) where
     | inr here ↦ omega arith
   ]
 
-  -- what is seen of all leaves
-  pub len_elements : (view : LenView) (xs : List (ℕ × TreeLeaf C)) → len (seen_in view) (elements units by xs) ≡ length_by (leaf_length units view) xs
-  len_elements view [] = refl
-  len_elements view (x ∷ xs) =
-      omega (
-        arith,
-        len-append (seen_in view) (leaf_elements units by x.1) (elements units by xs),
-        leaf-length units by view x.1,
-        len_elements view xs,
-      )
-
   pub found_inside : (view : LenView) (xs : List (ℕ × TreeLeaf C)) (p : ℕ) (found : Found) → place_by (leaf_length units view) xs p ≡ Some found
       → p ≤ len (seen_in view) (elements units by xs)
   found_inside view xs p found e = elim (cases_eq p 0) [
     | inl z ↦ omega arith
     | inr d ↦
-        omega (arith, len_elements view xs, inside_from (leaf_length units view) xs p found (sym (cond-false (eqb p 0) _ _ (ne_eqb p 0 d)) ∙ e))
+        let inside = inside_from (leaf_length units view) xs p found (sym (cond-false (eqb p 0) _ _ (ne_eqb p 0 d)) ∙ e) in
+        omega (arith, len_elements units by view xs, inside)
   ]
 
   -- what is said of a leaf that was found

@@ -14,6 +14,7 @@ use Rattle.ft_tree_leaves.specs.Elements.{TreeElement, seen_in}
 use Rattle.ft_tree_leaves.specs.LeafChanges.{changed_in}
 use Rattle.ft_tree_leaves.specs.LeafLists.{Extends, elements, leaf_elements}
 use Rattle.ft_tree_steps.specs.LeafSteps.{Acts, CutsBehind, CutsSeen, GoesBehind, change_front, changed_behind}
+use Rattle.ft_tree_blocks.specs.Skips.{Skips}
 use Rattle.ft_tree_blocks.specs.Walks.{before_place, from_leaf, from_place, node_behind}
 use Rattle.ft_tree_leaves.proofs.CutLeaves.{extends_same}
 use Rattle.ft_tree_leaves.proofs.LeafRuns.{elements-append, elements-one, leaf_seen, leaf_unseen, length-leaf, place-passes}
@@ -41,6 +42,20 @@ module _ {A : Type 0} (seen : A → Bool) (f : A → A) where
       ∙ ap (λ zs. map w (xs ++ take k ys) ++ zs) (drop-append-add xs ys k)
       ∙ ap (λ zs. zs ++ drop k ys) (map-append w xs (take k ys))
       ∙ append_assoc (map w xs) (map w (take k ys)) (drop k ys)
+
+  -- elements that aren't seen are passed as they are
+  place-unseen : (n : ℕ) (es ys : List A) → len seen es ≡ 0 → place seen (suc n) (es ++ ys) ≡ length es + place seen (suc n) ys
+  place-unseen n [] ys h = omega arith
+  place-unseen n (x ∷ es) ys h = grind (arith, place-unseen n es ys)
+
+  map-unseen : (es : List A) → len seen es ≡ 0 → map (where_seen seen f) es ≡ es
+  map-unseen [] h = refl
+  map-unseen (x ∷ es) h = grind (arith, map-unseen es)
+
+  front_unseen : (n : ℕ) (es ys : List A) → len seen es ≡ 0 → change_front seen f n (es ++ ys) ≡ es ++ change_front seen f n ys
+  front_unseen zero es ys h = refl
+  front_unseen (suc n) es ys h =
+      front_past (suc n) (suc n) es ys (place-unseen n es ys h) ∙ ap (λ zs. zs ++ change_front seen f (suc n) ys) (map-unseen es h)
 
 module _ {C U : Type 0} (units : C → List U) (by : C → Option Stamp) where
   -- a leaf of which the view sees no more than that needs no cut
@@ -170,3 +185,14 @@ module _ {C U : Type 0} (units : C → List U) (by : C → Option Stamp) where
       ap (λ zs. zs ++ change_front seen f (q - p) rest) (sym head)
       ∙ ap (λ zs. take (place seen p xs) xs ++ change_front seen f (q - p) zs) (sym tail)
       ∙ sym (change_range-split seen p q f order xs)
+
+  -- where the walk goes on from the next leaf that is seen, the rest of the change is the same
+  pub changed_skips : (seen : TreeElement U → Bool) (f : TreeElement U → TreeElement U) (xs : List (ℕ × TreeLeaf C)) (from to : Option ℕ) (n : ℕ)
+      → Skips units by seen xs from to → changed_behind units by seen f xs to n ≡ changed_behind units by seen f xs from n
+  changed_skips seen f xs from to n s =
+      let front = elements units by (before_place xs from) in
+      let rest = elements units by (from_place xs to) in
+      ap (λ zs. zs ++ change_front seen f n rest) s.before
+      ∙ append_assoc front s.es (change_front seen f n rest)
+      ∙ ap (λ zs. front ++ zs) (sym (front_unseen seen f n s.es rest s.none))
+      ∙ ap (λ zs. front ++ change_front seen f n zs) (sym s.rest)

@@ -18,7 +18,7 @@ mod unmarks;
 
 pub use cuts::{cut_at, insert_at};
 pub use edits::move_at;
-pub use finds::{find_leaf, find_removed_leaf};
+pub use finds::find_removed_leaf;
 pub use joins::{join_at, sweep_joined, sweep_without};
 pub use offsets::{elements_before, is_before, seen_before_on, seen_offset};
 pub use places::{find_local, find_seen_at, seen_count, seen_left};

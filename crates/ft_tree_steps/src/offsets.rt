@@ -8,10 +8,10 @@ ghost use Rattle.ft_tree_leaves.specs.LeafLists.{elements};
 ghost use Rattle.ft_tree_leaves.specs.Places.{place_at, seen_before};
 ghost use Rattle.ft_tree_blocks.specs.LeafPlaces.{IsOnLeaf, place_on};
 
-use crate::finds::find_leaf;
 use ft_arena::NodeId;
 use ft_block::{Blocks, LenView};
 use ft_refs::Place;
+use ft_tree_blocks::find_leaf;
 use ft_tree_leaves::{Content, TreeLeaf};
 use std::marker::Brand;
 use std::sync::ledger::Blank;

@@ -10,6 +10,7 @@ ghost use Rattle.ft_tree_leaves.specs.LeafLists.{Extends, elements};
 ghost use Rattle.ft_tree_leaves.specs.LeafChanges.{changed_in};
 ghost use Rattle.ft_tree_leaves.specs.References.{KeepsReferences};
 ghost use Rattle.ft_tree_steps.specs.LeafSteps.{Acts, CutsSeen, GoesBehind, IsInLeaf, changed_behind, held_place};
+ghost use Rattle.ft_tree_blocks.specs.Skips.{Skips};
 ghost use Rattle.ft_tree_blocks.specs.Walks.{from_leaf, from_place};
 
 use crate::cuts::{cut_at, leaf_behind};
@@ -17,7 +18,9 @@ use ft_arena::NodeId;
 use ft_base::{OutOfMemory, Stamp};
 use ft_block::{Blocks, Found, LenView};
 use ft_tree_blocks::LeafBlocks;
+use ft_tree_blocks::settling::next_standing;
 use ft_tree_leaves::block_leaf::removed_stamps;
+use ft_tree_leaves::leaves::Standing;
 use ft_tree_leaves::{Content, LeafChange, TreeLeaf};
 use std::alloc::Global;
 
@@ -118,7 +121,28 @@ fn edit_first<C: Content>(
     Ok(n)
 }
 
-/// Makes the edit of the first `count` elements that the view sees from the leaf of a node on.
+// The leaf with which a range goes on behind that of a node, of which the view sees `n` elements: the next one, or, where these are none,
+// the next one that the view sees.
+fn leaf_to_edit<C: Content>(
+    blocks: &LeafBlocks<C>,
+    id: NodeId,
+    n: u64,
+    view: LenView,
+) -> Option<NodeId>
+    requires usable { IsTrue blocks.now.usable }
+    requires live { IsLeafIn blocks.now.leaves id }
+    ensures live { IsPlaceIn blocks.now.leaves result }
+    ensures skips { Skips C.units C.by (seen_in view) blocks.now.leaves (after (ids blocks.now.leaves) id) result }
+{
+    let next = blocks.next(id);
+    if n == 0 {
+        return next_standing(blocks.list(), next, Standing::SeenIn(view));
+    }
+    next
+}
+
+/// Makes the edit of the first `count` elements that the view sees from the leaf of a node on. Behind a leaf that the view doesn't see it
+/// goes on at the next one that it sees, which is found as `next_standing` does.
 pub fn edit_range<C: Content>(
     blocks: &mut LeafBlocks<C>,
     alloc: Global,
@@ -143,8 +167,9 @@ pub fn edit_range<C: Content>(
         if left == 0 {
             return Ok(());
         }
-        left -= edit_first(blocks, alloc, id, left, view, edit)?;
-        at = blocks.next(id);
+        let n = edit_first(blocks, alloc, id, left, view, edit)?;
+        left -= n;
+        at = leaf_to_edit(blocks, id, n, view);
     }
     Ok(())
 }

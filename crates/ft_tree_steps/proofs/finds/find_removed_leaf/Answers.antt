@@ -1,6 +1,6 @@
 use Rattle.std.proofs.Common.{◌∙◌}
 use Rattle.ft_tree_leaves.specs.LeafLists.{leaf_removed}
-use Rattle.ft_tree_steps.proofs.FoundOffsets.{place-found}
+use Rattle.ft_tree_blocks.proofs.FoundLeaves.{place-found}
 use Rattle.ft_tree_steps.proofs.finds.find_removed_leaf.Goals as goal
 
 pub returns : goal.returns

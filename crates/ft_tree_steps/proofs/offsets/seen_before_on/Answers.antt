@@ -1,7 +1,7 @@
 use Rattle.std.proofs.Common.{sym, ◌∙◌, arith}
 use Rattle.ft_block.specs.Leaves.{left_of}
 use Rattle.ft_tree_leaves.proofs.LeafRuns.{length-elements}
-use Rattle.ft_tree_steps.proofs.FoundPlaces.{len_elements}
+use Rattle.ft_tree_blocks.proofs.FoundLeaves.{len_elements}
 use Rattle.ft_tree_steps.proofs.OffsetCounts.{before_seen, before_unseen, seen_within}
 use Rattle.ft_tree_blocks.proofs.CountedWalks.{live_leaf}
 use Rattle.ft_tree_steps.proofs.offsets.seen_before_on.Goals as goal

@@ -1,6 +1,7 @@
 use Rattle.std.proofs.Common.{sym, ◌∙◌}
 use Rattle.ft_block.specs.Leaves.{last_stage}
-use Rattle.ft_tree_steps.proofs.FoundPlaces.{found_at, found_inside, len_elements}
+use Rattle.ft_tree_blocks.proofs.FoundLeaves.{len_elements}
+use Rattle.ft_tree_steps.proofs.FoundPlaces.{found_at, found_inside}
 use Rattle.ft_tree_steps.proofs.places.find_local.Goals as goal
 
 pub returns-in-Ok : goal.returns-in-Ok

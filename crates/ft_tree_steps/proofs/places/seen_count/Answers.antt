@@ -1,5 +1,5 @@
 use Rattle.std.proofs.Common.{sym, ◌∙◌}
-use Rattle.ft_tree_steps.proofs.FoundPlaces.{len_elements}
+use Rattle.ft_tree_blocks.proofs.FoundLeaves.{len_elements}
 use Rattle.ft_tree_steps.proofs.places.seen_count.Goals as goal
 
 pub returns : goal.returns

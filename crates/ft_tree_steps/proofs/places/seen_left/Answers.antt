@@ -1,6 +1,6 @@
 use Rattle.std.proofs.Common.{sym, ◌∙◌}
 use Rattle.ft_block.specs.Leaves.{left_of}
-use Rattle.ft_tree_steps.proofs.FoundPlaces.{len_elements}
+use Rattle.ft_tree_blocks.proofs.FoundLeaves.{len_elements}
 use Rattle.ft_tree_steps.proofs.places.seen_left.Goals as goal
 
 pub returns : goal.returns
