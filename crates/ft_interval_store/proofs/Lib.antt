@@ -1,6 +1,7 @@
 pub mod PageLists
 pub mod RisingNames
 pub mod NamesOnPages
+mod OneLabel
 pub mod OneInterval
 pub mod OperationEnds
 pub mod ShownOne

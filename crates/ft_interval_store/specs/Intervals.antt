@@ -54,6 +54,11 @@ module _ {T : Type 0} where
   abbrev pub has_label : Characters → Interval T → Bool
   has_label label i = is_eq (text_cmp label i.label)
 
+  -- all are of the label
+  abbrev pub AreOfLabel : Characters → List (Interval T) → Type 0
+  AreOfLabel label [] = ⊤
+  AreOfLabel label (i ∷ is) = (i.label ≡ label) × AreOfLabel label is
+
   -- the order of intervals
   abbrev pub interval_cmp : Interval T → Interval T → Ordering
   interval_cmp a b = name_cmp (name_of a) (name_of b)

@@ -1,12 +1,12 @@
 //! Where the interval of a name stands among intervals by rising names, which stand on pages.
 
-ghost use Rattle.std.specs.Prelude.{◌≡◌, ◌<◌, ◌^◌, length};
-ghost use Rattle.ft_interval_store.specs.Intervals.{IsCutBy, NamesRise, begins_by, name_cmp, place_of_name};
+ghost use Rattle.std.specs.Prelude.{◌≡◌, ◌<◌, ◌^◌, IsTrue, length};
+ghost use Rattle.ft_interval_store.specs.Intervals.{AreOfLabel, IsCutBy, NamesRise, begins_by, name_cmp, place_of_name};
 ghost use Rattle.ft_interval_store.specs.Pages.{AreFilled, from_pages};
 
 use crate::intervals::Held;
 use crate::pages::count_before;
-use ft_base::Text;
+use ft_base::{Datum, Text};
 use ft_props::keys::compare;
 use std::cmp::Ordering;
 
@@ -30,11 +30,38 @@ fn begins_by<T>(page: &[Held<T>], label: &Text, id: &Text) -> bool
     }
 }
 
-// The place of the name on a page, or else, as an error, the place where it would stand.
+// Whether all intervals of a page are of that label. As names rise, the first one and the last one tell.
+fn is_of_label<T>(page: &[Held<T>], label: &Text) -> bool
+    requires { NamesRise page.now }
+    ensures { IsTrue result → AreOfLabel label.now page.now }
+{
+    let Some(first) = page.first() else {
+        return false;
+    };
+    let Some(last) = page.last() else {
+        return false;
+    };
+    first.get().label.same(label) && last.get().label.same(label)
+}
+
+// The place of the id on a page of intervals of that label, or else, as an error, the place where it would stand.
+fn search_ids<T>(page: &[Held<T>], label: &Text, id: &Text) -> Result<usize, usize>
+    requires label { AreOfLabel label.now page.now }
+    requires rising { NamesRise page.now }
+    ensures { result ≡ place_of_name (label.now, id.now) page.now }
+{
+    page.binary_search_by(|i| compare(i.get().id.as_str(), id.as_str()))
+}
+
+// The place of the name on a page, or else, as an error, the place where it would stand. Where all of the page are of the label, as
+// they mostly are, ids alone are compared.
 fn search_page<T>(page: &[Held<T>], label: &Text, id: &Text) -> Result<usize, usize>
     requires { NamesRise page.now }
     ensures { result ≡ place_of_name (label.now, id.now) page.now }
 {
+    if is_of_label(page, label) {
+        return search_ids(page, label, id);
+    }
     page.binary_search_by(|i| name_order(&i.get().label, &i.get().id, label, id))
 }
 
