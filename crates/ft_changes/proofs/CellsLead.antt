@@ -43,16 +43,16 @@ module _ (k s c : ℕ) where
 
 -- ---- changes of the text
 
-text-cells : (s : ShownContent) (bs : List ElementContent) (change : ViewChange) → (after_change s change).cells ≡ s.cells
+pub text-cells : (s : ShownContent) (bs : List ElementContent) (change : ViewChange) → (after_change s change).cells ≡ s.cells
     → (after_changes s (unless_no_elements bs change)).cells ≡ s.cells
 text-cells s [] change e = refl
 text-cells s (b ∷ bs) change e = e
 
-taken-cells : (s : ShownContent) (runs : List GoneRun) → (after_changes s (map taken_run runs)).cells ≡ s.cells
+pub taken-cells : (s : ShownContent) (runs : List GoneRun) → (after_changes s (map taken_run runs)).cells ≡ s.cells
 taken-cells s [] = refl
 taken-cells s (run ∷ runs) = taken-cells (after_change s (taken_run run)) runs
 
-styled-cells : (s : ShownContent) (runs : List (ChangedRun PropertyList)) → (after_changes s (map styled_run runs)).cells ≡ s.cells
+pub styled-cells : (s : ShownContent) (runs : List (ChangedRun PropertyList)) → (after_changes s (map styled_run runs)).cells ≡ s.cells
 styled-cells s [] = refl
 styled-cells s (run ∷ runs) = styled-cells (after_change s (styled_run run)) runs
 

@@ -39,7 +39,7 @@ use Rattle.ft_changes.proofs.SlidNumbers.{AreShown, slid-number}
 
 -- ---- maps
 
-map-same : {A B : Type 0} (test : A → Bool) (f g : A → B) → ((x : A) → test x ≡ true → f x ≡ g x) → (xs : List A) → list_all test xs ≡ true
+pub map-same : {A B : Type 0} (test : A → Bool) (f g : A → B) → ((x : A) → test x ≡ true → f x ≡ g x) → (xs : List A) → list_all test xs ≡ true
     → map f xs ≡ map g xs
 map-same test f g same [] h = refl
 map-same test f g same (x ∷ xs) h =
@@ -50,7 +50,7 @@ map-twice : {A B C : Type 0} (f : B → C) (g : A → B) (xs : List A) → map f
 map-twice f g [] = refl
 map-twice f g (x ∷ xs) = ap (λ ys. f (g x) ∷ ys) (map-twice f g xs)
 
-map-none : (is : List IntervalRec) → is ≡ map (with_moved_ends (λ e. e)) is
+pub map-none : (is : List IntervalRec) → is ≡ map (with_moved_ends (λ e. e)) is
 map-none [] = refl
 map-none (i ∷ is) = ap (λ js. i ∷ js) (map-none is)
 
@@ -110,7 +110,7 @@ module _ (f : ListElement → ListElement) (named : (x : ListElement) → id (f 
       by true = ap (λ d. same_id a d || rest) (named x)
       by false = refl
 
-  range-rank : (k : ℕ) → ((x : ListElement) → seen k (f x) ≡ seen k x) → (i : ℕ) (xs : List ListElement)
+  pub range-rank : (k : ℕ) → ((x : ListElement) → seen k (f x) ≡ seen k x) → (i : ℕ) (xs : List ListElement)
       → rank (has_id a) (seen k) (change_range_from i see p q f xs) ≡ rank (has_id a) (seen k) xs
   range-rank k same i [] = refl
   range-rank k same i (x ∷ xs) = by (see x && within p q i) ∙ ap (λ m. cond (has_id a x) 0 (one_more_if (seen k x) m)) (range-rank k same
@@ -193,18 +193,18 @@ is-below made a xs h g m n c from props (b ∷ bs) l =
 
 -- ---- changes that leave intervals alone
 
-styled-intervals : (s : ShownContent) (runs : List (ChangedRun PropertyList)) → (after_changes s (map styled_run runs)).intervals ≡ s.intervals
+pub styled-intervals : (s : ShownContent) (runs : List (ChangedRun PropertyList)) → (after_changes s (map styled_run runs)).intervals ≡ s.intervals
 styled-intervals s [] = refl
 styled-intervals s (run ∷ runs) = styled-intervals (after_change s (styled_run run)) runs
 
-units-intervals : (target : Target) (s : ShownContent) (runs : List GoneRun) → (after_changes s (map (taken_units target) runs)).intervals
+pub units-intervals : (target : Target) (s : ShownContent) (runs : List GoneRun) → (after_changes s (map (taken_units target) runs)).intervals
     ≡ s.intervals
 units-intervals target s [] = refl
 units-intervals Rows s (run ∷ runs) = units-intervals Rows (after_change s (taken_units Rows run)) runs
 units-intervals Cols s (run ∷ runs) = units-intervals Cols (after_change s (taken_units Cols run)) runs
 
 -- runs of elements that go away move each end
-taken-intervals : (s : ShownContent) (runs : List GoneRun) → (after_changes s (map taken_run runs)).intervals
+pub taken-intervals : (s : ShownContent) (runs : List GoneRun) → (after_changes s (map taken_run runs)).intervals
     ≡ map (with_moved_ends (after_runs runs s.elements)) s.intervals
 taken-intervals s [] = map-none s.intervals
 taken-intervals s (run ∷ runs) =
@@ -212,7 +212,7 @@ taken-intervals s (run ∷ runs) =
     taken-intervals (after_change s (taken_run run)) runs
     ∙ map-twice (with_moved_ends (after_runs runs left)) (with_moved_ends (end_after_take run.place run.count (length left))) s.intervals
 
-detached-stays : {A : Type 0} (runs : List GoneRun) (es : List A) (j : ℕ) → after_runs runs es (negsuc j) ≡ negsuc j
+pub detached-stays : {A : Type 0} (runs : List GoneRun) (es : List A) (j : ℕ) → after_runs runs es (negsuc j) ≡ negsuc j
 detached-stays [] es j = refl
 detached-stays (run ∷ runs) es j = detached-stays runs (take_out run.place run.count es) j
 
@@ -268,7 +268,7 @@ module _ (k n c r : ℕ) where
         put-interval doc.intervals h.consistent.ends
 
   -- an insertion of no elements changes no end
-  none-put : (p : ℕ) (is : List IntervalRec) → is ≡ map (with_moved_ends (end_after_put p 0)) is
+  pub none-put : (p : ℕ) (is : List IntervalRec) → is ≡ map (with_moved_ends (end_after_put p 0)) is
   none-put p [] = refl
   none-put p (i ∷ is) = ap (λ js. i ∷ js) (none-put p is) ∙ ap (λ j. j ∷ map (with_moved_ends (end_after_put p 0)) is) (same i)
     where

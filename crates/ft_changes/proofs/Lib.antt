@@ -1,4 +1,5 @@
 pub mod RunLaws
+pub mod EditsQuiet
 pub mod ElementLaws
 pub mod AckedLists
 pub mod ShownViews
@@ -11,8 +12,11 @@ pub mod Rising
 pub mod OrderedIntervals
 pub mod ToldLaw
 pub mod LocalSteps
+pub mod LocalEnds
+pub mod LocalIntervals
 pub mod LocalLaw
 pub mod KeptClients
+pub mod KeptEdits
 pub mod KeptTells
 pub mod NamelessClients
 pub mod NothingTold

@@ -47,7 +47,7 @@ use Rattle.ft_changes.proofs.ToldItems.{Rise}
 use Rattle.ft_changes.proofs.ToldLaw.{cells-lead, intervals-lead}
 
 -- what is kept is what is shown of the lists of a document at stage k, on which nothing of a later stage is pending
-record ShowsUpTo (k : ℕ) (t : ShownContent) (doc : Document) : Type 0 where
+pub record ShowsUpTo (k : ℕ) (t : ShownContent) (doc : Document) : Type 0 where
   pub lists : ShowsLists k t doc
   pub text : list_all (is_up_to k) doc.text.items ≡ true
   pub rows : list_all (is_up_to k) doc.rows.items ≡ true
@@ -55,7 +55,7 @@ record ShowsUpTo (k : ℕ) (t : ShownContent) (doc : Document) : Type 0 where
   pub rise : Rise interval_cmp doc.intervals
 
 -- a document that was taken in range
-in-range : (p n : ℕ) (doc : Document) (taken : Document × NamedElements) → if_in_range p n doc ≡ Ok taken → (p ≤ n) × (doc ≡ taken.0)
+pub in-range : (p n : ℕ) (doc : Document) (taken : Document × NamedElements) → if_in_range p n doc ≡ Ok taken → (p ≤ n) × (doc ≡ taken.0)
 in-range p n doc taken e = by (nat_le p n) refl e
   where
     by : (b : Bool) → nat_le p n ≡ b → (let r : EditResult = cond b (Ok (doc, no_elements)) (Err (OutOfRange n)) in r) ≡ Ok taken → (p ≤ n) × (doc ≡ taken.0)
@@ -253,7 +253,7 @@ module _ (k : ℕ) where
       by None true d = subst (ShowsUpTo k t) (ap (λ (r : EditResult). elim r as (λ _. Document) [ Ok u ↦ u.0 | Err f ↦ doc ]) d) (unchanged t doc h)
       by None false d = absurd (cc)
 
-  step : (t : ShownContent) (doc : Document) (stages : List Stage) (o : SubOperation) (taken : Document × NamedElements) → ShowsUpTo (k - 1) t doc → local_sub_operation doc stages k o ≡ Ok taken
+  pub step : (t : ShownContent) (doc : Document) (stages : List Stage) (o : SubOperation) (taken : Document × NamedElements) → ShowsUpTo (k - 1) t doc → local_sub_operation doc stages k o ≡ Ok taken
       → ShowsUpTo k (after_changes t (told_local k doc o)) taken.0
   step t doc stages (OnText op) taken h e = text-step t doc op taken h e
   step t doc stages (OnIntervals op) taken h e = interval-step t doc stages op taken h e
@@ -262,14 +262,14 @@ module _ (k : ℕ) where
 -- ---- all sub-operations of an edit
 
 -- what is made of an edit's rest
-abbrev Made : Type 0
+abbrev pub Made : Type 0
 Made = Result (Document × List Stage) EditFault
 
 -- the stage at the front
-abbrev with_front : Stage → Made → Made
+abbrev pub with_front : Stage → Made → Made
 with_front here r = elim r as (λ _. Made) [ Err fault ↦ Err fault | Ok rest ↦ Ok (rest.0, here ∷ rest.1) ]
 
-front-parts : (here : Stage) (r : Made) (done : Document × List Stage) → with_front here r ≡ Ok done → (rest : Document × List Stage) × (r ≡ Ok rest) × (done ≡ (rest.0, here ∷ rest.1))
+pub front-parts : (here : Stage) (r : Made) (done : Document × List Stage) → with_front here r ≡ Ok done → (rest : Document × List Stage) × (r ≡ Ok rest) × (done ≡ (rest.0, here ∷ rest.1))
 front-parts here (Ok rest) done e =
     (rest, refl, sym (ap (λ (r : Made). elim r as (λ _. Document × List Stage) [ Ok u ↦ u | Err f ↦ done ]) e))
 front-parts here (Err f) done e = absurd (cc)
@@ -348,7 +348,7 @@ module _ (inserts removes : SubOperation → Bool) (stages : List Stage) (last :
       joined (is_up_to last e) (list_all (is_up_to last) xs)
       (joined (has_occurred_at_stage last e.ins) _ (insertion-below e.ins r.0) (removals-below e.dels e.removal_stage q.1 r.1)) (all-below xs p.1)
 
-client-shows : (x : NaiveClient) → IsReady x → Rise interval_cmp x.doc.intervals → ShowsUpTo x.last_stage (shown_content x) x.doc
+pub client-shows : (x : NaiveClient) → IsReady x → Rise interval_cmp x.doc.intervals → ShowsUpTo x.last_stage (shown_content x) x.doc
 client-shows x ready rise =
     record {
       lists = record { elements = refl; rows = refl; cols = refl };
@@ -372,11 +372,11 @@ rest-leads m z before after elements rows cols =
     ∙ ap (λ es. made es m.rows m.cols) elements ∙ ap (λ i. made z.elements i m.cols) rows ∙ ap (λ i. made z.elements z.rows i) cols
 
 -- the client has this document, and these further stages
-record IsEdited (x y : NaiveClient) (doc : Document) (stages : List Stage) : Type 0 where
+pub record IsEdited (x y : NaiveClient) (doc : Document) (stages : List Stage) : Type 0 where
   pub doc_is : y.doc ≡ doc
   pub last : y.last_stage ≡ x.last_stage + length stages
 
-drafted : (x z : NaiveClient) (n : ℕ) (doc : Document) (stages : List Stage) (sent : Option SentAs) → IsEdited x z doc stages → IsEdited x (with_draft sent n z) doc stages
+pub drafted : (x z : NaiveClient) (n : ℕ) (doc : Document) (stages : List Stage) (sent : Option SentAs) → IsEdited x z doc stages → IsEdited x (with_draft sent n z) doc stages
 drafted x z n doc stages None h = h
 drafted x z n doc stages (Some sent) h = record { doc_is = h.doc_is; last = h.last }
 

@@ -44,7 +44,7 @@ module _ (j k : ℕ) (le : j ≤ k) where
       let p = both (has_occurred_at_stage j t) (list_all (has_occurred_at_stage j) ts) h in
       joined (has_occurred_at_stage k t) (list_all (has_occurred_at_stage k) ts) (later t p.0) (all-later ts p.1)
 
-  seen-later : (e : ListElement) → is_up_to j e ≡ true → seen k e ≡ seen j e
+  pub seen-later : (e : ListElement) → is_up_to j e ≡ true → seen k e ≡ seen j e
   seen-later e h =
       let p = both (has_occurred_at_stage j e.ins) (list_all (has_occurred_at_stage j) (e.dels ++ removal_stamp e.removal_stage)) h in
       ap (λ b. b && not (list_any (has_occurred_at_stage k) (e.dels ++ removal_stamp e.removal_stage))) (later e.ins p.0 ∙ sym p.0)
@@ -93,7 +93,7 @@ at_own : (k : ℕ) → nat_le k k ≡ true
 at_own k = grind (arith, nat_tests)
 
 -- an element with a removal of the stage isn't seen at it
-local-hidden : (k : ℕ) (e : ListElement) → seen k (with_pending_removal k e) ≡ false
+pub local-hidden : (k : ℕ) (e : ListElement) → seen k (with_pending_removal k e) ≡ false
 local-hidden k e = by (has_occurred_at_stage k e.ins) (list_any (has_occurred_at_stage k) (e.dels ++ Local k ∷ [])) (marked e.dels)
   where
     marked : (ds : List Stamp) → list_any (has_occurred_at_stage k) (ds ++ Local k ∷ []) ≡ true

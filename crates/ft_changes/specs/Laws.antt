@@ -20,7 +20,7 @@ use Rattle.ft_msg.specs.Indexed.{indexed_client}
 use Rattle.ft_msg.specs.Process.{after_entry, is_op, is_own, is_own_join, process}
 use Rattle.ft_msg.specs.Reached.{IsReached}
 use Rattle.ft_changes.specs.Shown.{ShownContent, after_changes, as_view, shown_content}
-use Rattle.ft_changes.specs.Told.{told_cells, told_edit, told_intervals, told_lists, told_of_entry}
+use Rattle.ft_changes.specs.Told.{told_cells, told_edit, told_edit_lists, told_intervals, told_lists, told_of_entry}
 
 -- what is kept as elements is the view
 abbrev pub ShownIsContent : Type 0
@@ -128,6 +128,11 @@ abbrev pub changes_intervals : SubOperation → Bool
 changes_intervals (OnIntervals op) = true
 changes_intervals _ = false
 
+-- whether it is one of the table
+abbrev pub changes_table : SubOperation → Bool
+changes_table (OnGrid op) = true
+changes_table _ = false
+
 -- whether a message has such a sub-operation
 abbrev pub has_sub_operation : (SubOperation → Bool) → Body → Bool
 has_sub_operation test (Op op) = list_any test (sub_operations op)
@@ -196,3 +201,30 @@ CellsToldAreSet =
     (x y : NaiveClient) (entry : Entry) → IsReached x → has_fitting_body entry ≡ true → process x entry ≡ Ok y
     → told_cells (after_lists x entry).cells (shown_content y).cells
     ≡ told_cells (filter (is_set_by x entry) (after_lists x entry).cells) (filter (is_set_by x entry) (shown_content y).cells)
+
+-- what an editor shows once it has applied what it is told of the lists by an edit, before cells and intervals
+abbrev pub after_edit_lists : NaiveClient → ChannelOp → ShownContent
+after_edit_lists x op = after_changes (shown_content x) (told_edit_lists x op)
+
+-- an edit without an operation of intervals tells none, whatever is pending
+abbrev pub EditsMoveNoInterval : Type 0
+EditsMoveNoInterval =
+    (x y : NaiveClient) (op : ChannelOp) → IsReached x → local_edit x op ≡ Ok y → list_any changes_intervals (sub_operations op) ≡ false
+    → told_intervals (after_edit_lists x op).intervals (shown_content y).intervals ≡ []
+
+-- and one without an operation of the table tells no cell
+abbrev pub EditsLeaveCells : Type 0
+EditsLeaveCells =
+    (x y : NaiveClient) (op : ChannelOp) → IsReached x → local_edit x op ≡ Ok y → list_any changes_table (sub_operations op) ≡ false
+    → told_cells (after_edit_lists x op).cells (shown_content y).cells ≡ []
+
+-- so it is with a client that keeps x but for what compaction takes away, and is z after the edit
+abbrev pub KeptEditsMoveNoInterval : Type 0
+KeptEditsMoveNoInterval =
+    (kept x z : NaiveClient) (op : ChannelOp) → IsReached x → IsCompacted kept x → local_edit kept op ≡ Ok z
+    → list_any changes_intervals (sub_operations op) ≡ false → told_intervals (after_edit_lists kept op).intervals (shown_content z).intervals ≡ []
+
+abbrev pub KeptEditsLeaveCells : Type 0
+KeptEditsLeaveCells =
+    (kept x z : NaiveClient) (op : ChannelOp) → IsReached x → IsCompacted kept x → local_edit kept op ≡ Ok z
+    → list_any changes_table (sub_operations op) ≡ false → told_cells (after_edit_lists kept op).cells (shown_content z).cells ≡ []

@@ -1,5 +1,6 @@
 use Rattle.ft_changes.proofs.CellsTold.{kept-unset-cells-tell-nothing}
 use Rattle.ft_changes.proofs.KeptClients.{kept-is-shown, told-by-stand-in}
+use Rattle.ft_changes.proofs.KeptEdits.{kept-edits-leave-cells, kept-edits-move-no-interval}
 use Rattle.ft_changes.proofs.KeptTells.{kept-ack-tells-nothing, kept-join-tells-nothing, kept-tells, kept-tells-edits}
 use Rattle.ft_changes.proofs.KeptTold.{kept-tells-the-same}
 use Rattle.ft_changes.proofs.NamelessClients.{nameless-is-shown}
@@ -35,3 +36,9 @@ returns-clause-cells c = kept-unset-cells-tell-nothing
 
 pub returns-clause-quiet : goal.returns-clause-quiet
 returns-clause-quiet c = kept-quiet-intervals
+
+pub returns-clause-still : goal.returns-clause-still
+returns-clause-still c = kept-edits-move-no-interval
+
+pub returns-clause-texts : goal.returns-clause-texts
+returns-clause-texts c = kept-edits-leave-cells
