@@ -1,3 +1,4 @@
+pub mod ComparedParts
 pub mod FewNodeReads
 pub mod FoundNumbers
 pub mod KnownSteps

@@ -20,12 +20,15 @@ use Rattle.ft_laws_compaction.proofs.KeptSteps.{entries-answer}
 use Rattle.ft_laws_compaction.proofs.Runs.{run-facts}
 use Rattle.ft_laws_compaction.proofs.SameContent.{show-alike}
 use Rattle.ft_changes.specs.declared.changes.ViewChange.{ViewChange}
+use Rattle.ft_changes.specs.Laws.{after_edit_lists}
 use Rattle.ft_changes.specs.Shown.{after_changes, shown_content}
-use Rattle.ft_changes.specs.Told.{told_body, told_edit, told_lists, told_locals, told_of_edit, told_of_entry, told_rest}
+use Rattle.ft_changes.specs.Told.{told_body, told_edit, told_edit_lists, told_lists, told_locals, told_of_edit, told_of_entry, told_rest}
 use Rattle.ft_changes.proofs.KeptClients.{kept-is-shown}
 use Rattle.ft_changes.proofs.KeptTells.{kept-ack-tells-nothing, kept-join-tells-nothing}
 use Rattle.ft_replica.specs.Linked.{LinkedState, linked_as}
-use Rattle.ft_replica.specs.Telling.{TakesOther}
+use Rattle.ft_replica.specs.Telling.{IsEnough, TakesOther}
+use Rattle.ft_replica.specs.Comparing.{compared_part}
+use Rattle.ft_replica.specs.declared.comparing.Compared.{Compared}
 use Rattle.ft_replica.proofs.MadeSteps.{after-other, after-taken}
 use Rattle.ft_replica.proofs.Replicas.{taken-alike}
 
@@ -85,7 +88,7 @@ module _ {D : Type 0} (entry : Entry) (s : LinkedState D) (p : NaiveClient) (res
       record { last_is = sym (ap (λ (t : LinkedState D). t.last_stage) rest); taken = taken; join = none.0; own = none.1 }
 
 -- the lists change by the body alone
-other-lists : (entry : Entry) (last : ℕ) (p : NaiveClient) → TakesOther entry last p
+pub other-lists : (entry : Entry) (last : ℕ) (p : NaiveClient) → TakesOther entry last p
     → told_body last p.doc entry.msg.seq entry.origin (reference_number entry.msg.ref_seq) entry.msg.body ≡ told_lists p entry
 other-lists entry last p t =
     let body : ℕ → List ViewChange = λ k. told_body k p.doc entry.msg.seq entry.origin (reference_number entry.msg.ref_seq) entry.msg.body in
@@ -95,23 +98,31 @@ other-lists entry last p t =
     ∙ ap (λ b. cond b [] (body p.last_stage)) t.own
     )
 
-pub other-told : (entry : Entry) (last : ℕ) (p : NaiveClient) (lists all : List ViewChange) → TakesOther entry last p
+pub other-told : (entry : Entry) (last : ℕ) (p : NaiveClient) (compared : Compared) (lists all : List ViewChange) → TakesOther entry last p
+    → IsEnough compared entry p
     → lists ≡ told_body last p.doc entry.msg.seq entry.origin (reference_number entry.msg.ref_seq) entry.msg.body
-    → all ≡ lists ++ told_rest (after_changes (shown_content p) lists) (shown_content (after_foreign_message p entry)) → all ≡ told_of_entry p entry
-other-told entry last p lists all t told is =
+    → all ≡ lists ++ told_rest (compared_part compared (after_changes (shown_content p) lists))
+    (compared_part compared (shown_content (after_foreign_message p entry)))
+    → all ≡ told_of_entry p entry
+other-told entry last p compared lists all t enough told is =
+    let rest : List ViewChange → NaiveClient → List ViewChange =
+    λ cs y. told_rest (compared_part compared (after_changes (shown_content p) cs)) (compared_part compared (shown_content y)) in
     is
-    ∙ ap (λ cs. cs ++ told_rest (after_changes (shown_content p) cs) (shown_content (after_foreign_message p entry))) (told ∙ other-lists entry last p t)
-    ∙ ap (λ y. told_lists p entry ++ told_rest (after_changes (shown_content p) (told_lists p entry)) (shown_content y)) (sym (after-other entry last p t))
+    ∙ ap (λ cs. cs ++ rest cs (after_foreign_message p entry)) (told ∙ other-lists entry last p t)
+    ∙ ap (λ y. told_lists p entry ++ rest (told_lists p entry) y) (sym (after-other entry last p t))
+    ∙ ap (λ cs. told_lists p entry ++ cs) enough
 
 -- ---- an edit
 
 pub edit-told : (p y : NaiveClient) (op : ChannelOp) → local_edit p op ≡ Ok y → told_of_edit p op ≡ told_edit p y op
 edit-told p y op e = ap (λ (r : Result NaiveClient EditFault). elim r as (λ _. List ViewChange) [ Err fault ↦ [] | Ok z ↦ told_edit p z op ]) e
 
-pub edited-told : (p y : NaiveClient) (op : ChannelOp) (last : ℕ) (lists all : List ViewChange) → p.last_stage ≡ last → local_edit p op ≡ Ok y
+pub edited-told : (p y : NaiveClient) (op : ChannelOp) (last : ℕ) (compared : Compared) (lists all : List ViewChange) → p.last_stage ≡ last → local_edit p op ≡ Ok y
+    → told_rest (compared_part compared (after_edit_lists p op)) (compared_part compared (shown_content y)) ≡ told_rest (after_edit_lists p op) (shown_content y)
     → lists ≡ told_locals p.doc (stages_of p) (last + 1) (sub_operations op)
-    → all ≡ lists ++ told_rest (after_changes (shown_content p) lists) (shown_content y) → all ≡ told_of_edit p op
-edited-told p y op last lists all is taken told made =
+    → all ≡ lists ++ told_rest (compared_part compared (after_changes (shown_content p) lists)) (compared_part compared (shown_content y)) → all ≡ told_of_edit p op
+edited-told p y op last compared lists all is taken enough told made =
     made
-    ∙ ap (λ cs. cs ++ told_rest (after_changes (shown_content p) cs) (shown_content y)) (told ∙ ap (λ n. told_locals p.doc (stages_of p) (n + 1) (sub_operations op)) (sym is))
-    ∙ sym (edit-told p y op taken)
+    ∙ ap (λ cs. cs ++ told_rest (compared_part compared (after_changes (shown_content p) cs)) (compared_part compared (shown_content y)))
+    (told ∙ ap (λ n. told_locals p.doc (stages_of p) (n + 1) (sub_operations op)) (sym is))
+    ∙ ap (λ cs. told_edit_lists p op ++ cs) enough ∙ sym (edit-told p y op taken)

@@ -1,3 +1,4 @@
+pub mod Comparing
 pub mod Kept
 pub mod Linked
 pub mod Own

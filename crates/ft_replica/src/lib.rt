@@ -3,6 +3,7 @@
 //! A call that can't return `OutOfMemory` takes no memory; one that can returns it where there is no room.
 #![tactic(auto)]
 
+pub mod comparing;
 mod connections;
 pub mod document;
 mod linked;
@@ -12,6 +13,7 @@ pub mod replica;
 mod stopping;
 pub mod telling;
 
+pub use comparing::Compared;
 pub use document::{OwnDocument, OwnNumbers, Resent};
 pub use replica::ReplicaOver;
 pub use telling::{TellingDocument, ToldEdit};

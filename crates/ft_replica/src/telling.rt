@@ -1,5 +1,6 @@
 //! What a client asks of its document that tells what changes in its view.
 
+use crate::comparing::Compared;
 use crate::document::OwnDocument;
 use ft_base::OutOfMemory;
 use ft_changes::{ShownRest, ViewChanges};
@@ -31,6 +32,7 @@ pub trait TellingDocument: OwnDocument {
     ghost use Rattle.ft_changes.specs.Shown.{shown_content};
     ghost use Rattle.ft_changes.specs.Told.{told_body, told_locals};
     ghost use Rattle.ft_laws_names.specs.WellNamed.{IsWellNamed};
+    ghost use Rattle.ft_replica.specs.Comparing.{compared_part};
     ghost use Rattle.ft_replica.specs.Own.{AnswersStages, HeldDocument, HoldsOne, NamesFit, held_by, with_entry};
     ghost use Rattle.ft_replica.specs.Telling.{counted};
 
@@ -51,9 +53,10 @@ pub trait TellingDocument: OwnDocument {
         ensures told { (held : HeldDocument) → NamesFit held → held.last ≡ last → Self.holds self.old held
             → IfOk result (λ changes. changes ≡ told_body last held.doc entry.now.msg.seq entry.now.origin (reference_number entry.now.msg.ref_seq) entry.now.msg.body) };
 
-    /// What is shown at the last stage beside the elements, and how many these are.
-    fn shown_rest(&self, last: u64) -> Result<ShownRest, OutOfMemory>
+    /// What is compared of what is shown at the last stage beside the elements, and how many these are. Cells or intervals that
+    /// aren't compared are left empty, and cost nothing.
+    fn shown_rest(&self, last: u64, compared: Compared) -> Result<ShownRest, OutOfMemory>
         requires { HoldsOne Self.holds self.now (λ p. p.last_stage ≡ last) }
         ensures { (low : ℕ) (p : NaiveClient) → IsWellNamed p → p.last_stage ≡ last → Self.holds self.now (held_by low p)
-            → IfOk result (λ rest. rest ≡ rest_of (shown_content p)) };
+            → IfOk result (λ rest. rest ≡ rest_of (compared_part compared (shown_content p))) };
 }

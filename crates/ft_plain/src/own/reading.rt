@@ -8,6 +8,7 @@ ghost use Rattle.ft_msg.specs.Overlap.{overlap};
 ghost use Rattle.ft_changes.specs.Rest.{rest_of};
 ghost use Rattle.ft_changes.specs.Shown.{shown_content};
 ghost use Rattle.ft_plain.specs.Own.{client_at};
+ghost use Rattle.ft_replica.specs.Comparing.{compared_part};
 
 use crate::own::PlainOwn;
 use ft_attrib::Attribution;
@@ -17,6 +18,7 @@ use ft_msg::{Numbers, Runs, Spots, View};
 use ft_plain_lists::{
     shown_cells, shown_count, shown_intervals, shown_markers, shown_origins, shown_runs, shown_text,
 };
+use ft_replica::Compared;
 use ft_sumdoc::meeting::meeting;
 use ft_sumdoc::{CellRecs, IntervalRec, IntervalRecs};
 
@@ -38,15 +40,37 @@ impl PlainOwn {
         })
     }
 
-    /// What it shows at the last stage beside the elements, and how many these are.
-    pub(crate) fn rest_at(&self, last: u64) -> Result<ShownRest, OutOfMemory>
-        ensures { IfOk result (λ rest. rest ≡ rest_of (shown_content (client_at last self.now))) }
+    /// What is compared of what it shows at the last stage beside the elements, and how many these are.
+    pub(crate) fn rest_at(&self, last: u64, compared: Compared) -> Result<ShownRest, OutOfMemory>
+        ensures { IfOk result (λ rest. rest ≡ rest_of (compared_part compared (shown_content (client_at last self.now)))) }
     {
         Ok(ShownRest {
             elements: self.shown_elements(last),
-            intervals: self.shown_intervals(last)?,
-            cells: self.shown_cells(last)?,
+            intervals: self.compared_intervals(last, compared)?,
+            cells: self.compared_cells(last, compared)?,
         })
+    }
+
+    // The intervals, if they are compared.
+    fn compared_intervals(&self, last: u64, compared: Compared) -> Result<IntervalRecs, OutOfMemory>
+        ensures { IfOk result (λ intervals. intervals ≡ (compared_part compared (shown_content (client_at last self.now))).intervals) }
+    {
+        if compared.intervals {
+            self.shown_intervals(last)
+        } else {
+            Ok(IntervalRecs::new(self.doc.alloc()))
+        }
+    }
+
+    // The cells, if they are compared.
+    fn compared_cells(&self, last: u64, compared: Compared) -> Result<CellRecs, OutOfMemory>
+        ensures { IfOk result (λ cells. cells ≡ (compared_part compared (shown_content (client_at last self.now))).cells) }
+    {
+        if compared.cells {
+            self.shown_cells(last)
+        } else {
+            Ok(CellRecs::new(self.doc.alloc()))
+        }
     }
 
     // How many elements of the text.

@@ -6,7 +6,7 @@ use ft_changes::{ShownRest, ViewChanges};
 use ft_msg::{EditFault, Entry};
 use ft_op::ChannelOp;
 use ft_plain_document::Listener;
-use ft_replica::{TellingDocument, ToldEdit};
+use ft_replica::{Compared, TellingDocument, ToldEdit};
 
 impl TellingDocument for PlainOwn {
     fn edit_telling(&mut self, last: u64, op: &ChannelOp) -> Result<ToldEdit, EditFault> {
@@ -22,7 +22,7 @@ impl TellingDocument for PlainOwn {
         self.doc.take_telling(entry, last)
     }
 
-    fn shown_rest(&self, last: u64) -> Result<ShownRest, OutOfMemory> {
-        self.rest_at(last)
+    fn shown_rest(&self, last: u64, compared: Compared) -> Result<ShownRest, OutOfMemory> {
+        self.rest_at(last, compared)
     }
 }

@@ -13,11 +13,13 @@ ghost use Rattle.ft_changes.specs.Shown.{ShownContent, after_changes, shown_cont
 ghost use Rattle.ft_changes.specs.Told.{told_of_edit, told_of_entry, told_rest};
 ghost use Rattle.ft_laws_compaction.specs.Keeping.{IsMadeOrKept};
 ghost use Rattle.ft_laws_names.specs.WellNamed.{IsWellNamed};
+ghost use Rattle.ft_replica.specs.Comparing.{compared_part};
 ghost use Rattle.ft_replica.specs.Linked.{Anyone, AnswersLinked, KeepsLink, RunsForOne, TakesEntry};
 ghost use Rattle.ft_replica.specs.Own.{AnswersStages, HeldDocument, HoldsOne, NamesFit, held_by, with_entry};
-ghost use Rattle.ft_replica.specs.Telling.{AddsTold, AddsToldFewer, TakesOther, counted};
+ghost use Rattle.ft_replica.specs.Telling.{AddsTold, AddsToldFewer, IsEnough, TakesOther, counted};
 ghost use Rattle.ft_replica.specs.Unsent.{with_sent};
 
+use crate::comparing::Compared;
 use crate::linked::LinkedClient;
 use crate::telling::{TellingDocument, ToldEdit};
 use ft_base::{List, OutOfMemory};
@@ -117,29 +119,32 @@ impl<D: TellingDocument> LinkedClient<D> {
         if self.is_from_itself(entry) {
             return self.take(entry);
         }
-        let told = take_into_document(&mut self.doc, self.last_stage, entry)?;
+        let compared = Compared::by_message(self.pending.len() != 0, &entry.msg.body);
+        let told = take_into_document(&mut self.doc, self.last_stage, compared, entry)?;
         changes.append(told)?;
         Ok(())
     }
 }
 
-// Takes the next message, which comes from another client or has no operation, and tells what changes in the view.
+// Takes the next message, which comes from another client or has no operation, and tells what changes in the view, where
+// it is enough to compare so much of what is shown beside the lists.
 //
 // Returns `OutOfMemory` where there is no room for that, or a number would pass its greatest.
 fn take_into_document<D: TellingDocument>(
     doc: &mut D,
     last: u64,
+    compared: Compared,
     entry: &Entry,
 ) -> Result<ViewChanges, OutOfMemory>
     requires formed { IsWellFormedMessage entry.now.msg }
     requires known { HoldsOne D.holds doc.old (TakesOther entry.now last) }
     ensures takes { (held : HeldDocument) → NamesFit held → D.holds doc.old held → OnOk result (D.holds doc.new (with_entry entry.now held)) }
-    ensures told { (start : Document) (low : ℕ) (p : NaiveClient) → IsMadeOrKept start p → TakesOther entry.now last p → D.holds doc.old (held_by low p)
+    ensures told { (start : Document) (low : ℕ) (p : NaiveClient) → IsMadeOrKept start p → TakesOther entry.now last p → IsEnough compared entry.now p → D.holds doc.old (held_by low p)
         → IfOk result (λ changes. changes ≡ told_of_entry p entry.now) }
 {
-    let before = doc.shown_rest(last)?;
+    let before = doc.shown_rest(last, compared)?;
     let mut changes = doc.take_telling(last, entry)?;
-    tell_rest(doc, last, before, &mut changes)?;
+    tell_rest(doc, last, compared, before, &mut changes)?;
     Ok(changes)
 }
 
@@ -159,34 +164,36 @@ fn edit_document<D: TellingDocument>(
     ensures told { (start : Document) (low : ℕ) (p : NaiveClient) → IsMadeOrKept start p → p.last_stage ≡ last → D.holds doc.old (held_by low p)
         → IfOk result (λ edit. edit.changes ≡ told_of_edit p op.now) }
 {
-    let Ok(before) = doc.shown_rest(last) else {
+    let compared = Compared::by_edit(op);
+    let Ok(before) = doc.shown_rest(last, compared) else {
         return Err(EditFault::OutOfMemory);
     };
     let mut edit = doc.edit_telling(last, op)?;
     let Some(last) = last.checked_add(edit.stages as u64) else {
         return Err(EditFault::OutOfMemory);
     };
-    if tell_rest(doc, last, before, &mut edit.changes).is_err() {
+    if tell_rest(doc, last, compared, before, &mut edit.changes).is_err() {
         return Err(EditFault::OutOfMemory);
     }
     Ok(edit)
 }
 
-// Behind changes of the lists, adds what is left to tell, where so much was shown before them.
+// Behind changes of the lists, adds what is left to tell of what is compared, where so much was shown before them.
 //
 // Returns `OutOfMemory` where there is no room for it, or a number would pass its greatest.
 fn tell_rest<D: TellingDocument>(
     doc: &D,
     last: u64,
+    compared: Compared,
     before: ShownRest,
     changes: &mut ViewChanges,
 ) -> Result<(), OutOfMemory>
     requires { HoldsOne D.holds doc.now (λ p. p.last_stage ≡ last) }
-    ensures { (s : ShownContent) (low : ℕ) (p : NaiveClient) → rest_of s ≡ before → IsTrue (are_of_lists changes.old)
+    ensures { (s : ShownContent) (low : ℕ) (p : NaiveClient) → rest_of (compared_part compared s) ≡ before → IsTrue (are_of_lists changes.old)
         → IsWellNamed p → p.last_stage ≡ last → D.holds doc.now (held_by low p)
-        → OnOk result (changes.new ≡ changes.old ++ told_rest (after_changes s changes.old) (shown_content p)) }
+        → OnOk result (changes.new ≡ changes.old ++ told_rest (compared_part compared (after_changes s changes.old)) (compared_part compared (shown_content p))) }
 {
-    let after = doc.shown_rest(last)?;
+    let after = doc.shown_rest(last, compared)?;
     add_rest(changes, before, &after)
 }
 

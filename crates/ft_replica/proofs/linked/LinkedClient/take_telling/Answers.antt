@@ -1,9 +1,10 @@
-use Rattle.std.proofs.Common.{◌≡◌, ◌∙◌, ◌||◌, ◌&&◌, ◌++◌, false, nat_eq, None, append-nil, ap, subst, sym}
+use Rattle.std.proofs.Common.{◌≡◌, ◌∙◌, ◌||◌, ◌&&◌, ◌++◌, false, nat_eq, None, append-nil, ap, length, subst, sym}
 use Rattle.std.specs.List.{list_any}
 use Rattle.ft_msg.specs.Process.{is_op, is_own_join, process_fault}
 use Rattle.ft_replica.specs.Linked.{LinkedState, RunsForOne}
 use Rattle.ft_replica.specs.Own.{held_by}
-use Rattle.ft_replica.specs.Telling.{TakesOther}
+use Rattle.ft_replica.specs.Telling.{IsEnough, TakesOther}
+use Rattle.ft_replica.proofs.ComparedParts.{enough-compared, idle-stages}
 use Rattle.ft_replica.proofs.LinkedEntries.{takes-entry}
 use Rattle.ft_replica.proofs.LinkedReads.{none-refuses}
 use Rattle.ft_replica.proofs.LinkedSteps.{holds-one, state}
@@ -59,4 +60,6 @@ returns-clause-told g c =
     let other = other-client entry s p l.rest taken (sym c.is_from_itself.ensures ∙ c.if-is_from_itself.false) in
     let here = subst (λ n. TakesOther entry n p) last other in
     let document = subst (λ (t : LinkedState _). D.holds t.document (held_by low p)) (sym c.self.view_is) l.document in
-    c.in_ok-append.ensures.ok ∙ ap (λ cs. c.args.changes.now ++ cs) (c.in_ok-told.ensures.told start low p made here document)
+    let enough = subst (λ compared. IsEnough compared entry p) (sym c.by_message-compared.ensures)
+    (enough-compared start p entry i.last_stage here _ c.requires.formed made (λ idle. idle-stages s p l.rest c.len.result (c.len.ensures ∙ ap (λ (t : LinkedState _). length t.pending) c.self.view_is) idle)) in
+    c.in_ok-append.ensures.ok ∙ ap (λ cs. c.args.changes.now ++ cs) (c.in_ok-told.ensures.told start low p made here enough document)

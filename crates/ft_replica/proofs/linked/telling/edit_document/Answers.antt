@@ -5,6 +5,10 @@ use Rattle.ft_changes.proofs.RestSteps.{locals-of-lists}
 use Rattle.ft_changes.specs.Rest.{are_of_lists}
 use Rattle.ft_changes.specs.Shown.{shown_content}
 use Rattle.ft_replica.specs.Own.{HoldsOne, held_by}
+use Rattle.ft_changes.specs.Laws.{after_edit_lists}
+use Rattle.ft_changes.specs.Told.{told_rest}
+use Rattle.ft_replica.specs.Comparing.{compared_part}
+use Rattle.ft_replica.proofs.ComparedParts.{edit-compared}
 use Rattle.ft_replica.proofs.LinkedSteps.{made-named}
 use Rattle.ft_replica.proofs.MadeSteps.{edited-client, edited-named, holds-edited}
 use Rattle.ft_replica.proofs.ToldSteps.{edited-told, went-well}
@@ -32,4 +36,6 @@ returns-clause-told g c = λ start low p made is h.
     let last = t.last_is ∙ ap (λ n. n + edit.stages) is ∙ sym c.in-Some.ensures.1 in
     let all = went-well c.tell_rest.result (sym c.if-is_err.ensures.value)
     (c.tell_rest.ensures (shown_content p) low t.client (sym before) of_lists (edited-named op start p t.client made t.taken) last t.document) in
-    edited-told p t.client op c.args.last edit.changes _ is t.taken lists all
+    let enough = subst (λ compared. told_rest (compared_part compared (after_edit_lists p op)) (compared_part compared (shown_content t.client)) ≡ told_rest (after_edit_lists p op) (shown_content t.client))
+    (sym c.by_edit-compared.ensures) (edit-compared start p t.client op made t.taken) in
+    edited-told p t.client op c.args.last _ edit.changes _ is t.taken enough lists all

@@ -29,7 +29,7 @@ pub returns-clause-takes : goal.returns-clause-takes
 returns-clause-takes g c = c.in_ok-changes.ensures.takes
 
 pub returns-clause-told : goal.returns-clause-told
-returns-clause-told g c = λ start low p made t h.
+returns-clause-told g c = λ start low p made t enough h.
     let entry = c.args.entry.now in
     let named = made-named start p made in
     let y = after_foreign_message p entry in
@@ -38,4 +38,4 @@ returns-clause-told g c = λ start low p made t h.
     let of_lists = subst (λ cs. are_of_lists cs ≡ true) (sym lists)
     (body-of-lists c.args.last p.doc entry.msg.seq entry.origin (reference_number entry.msg.ref_seq) entry.msg.body) in
     let all = c.in_ok-tell_rest.ensures (shown_content p) low y (sym before) of_lists (named-after start p entry c.args.last c.requires.formed made t) t.last_is (c.in_ok-changes.ensures.takes (held_by low p) named h) in
-    other-told entry c.args.last p c.in_ok-changes.changes _ t lists all
+    other-told entry c.args.last p c.args.compared c.in_ok-changes.changes _ t enough lists all
