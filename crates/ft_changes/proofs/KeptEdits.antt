@@ -30,19 +30,22 @@ reached-ready x reached = client-ready-from reached.start reached.steps x (reach
 reached-edit : (x y : NaiveClient) (op : ChannelOp) → IsReached x → local_edit x op ≡ Ok y → IsReached y
 reached-edit x y op reached e = reached-after x y (Edits op) reached (ap unless_refused e) refl
 
-pub edits-move-no-interval : (x y : NaiveClient) (op : ChannelOp) → IsReached x → local_edit x op ≡ Ok y → list_any changes_intervals (sub_operations op) ≡ false
+pub edits-move-no-interval : (x y : NaiveClient) (op : ChannelOp) → IsReached x → local_edit x op ≡ Ok y → list_any changes_intervals
+    (sub_operations op) ≡ false
     → told_intervals (after_edit_lists x op).intervals (shown_content y).intervals ≡ []
 edits-move-no-interval x y op reached e none =
     edit-tells-no-interval x y op (reached-ready x reached) (reached-ready y (reached-edit x y op reached e)) (reached-rise x reached) e none
 
-pub edits-leave-cells : (x y : NaiveClient) (op : ChannelOp) → IsReached x → local_edit x op ≡ Ok y → list_any changes_table (sub_operations op) ≡ false
+pub edits-leave-cells : (x y : NaiveClient) (op : ChannelOp) → IsReached x → local_edit x op ≡ Ok y → list_any changes_table (sub_operations op)
+    ≡ false
     → told_cells (after_edit_lists x op).cells (shown_content y).cells ≡ []
 edits-leave-cells x y op reached e none = edit-tells-no-cell x y op (reached-ready x reached) (reached-rise x reached) e none
 
 -- ---- a client that keeps another
 
 -- where it takes a step, so does the whole one, which it keeps then
-whole-taken : {E : Type 0} {a b : Result NaiveClient E} (z : NaiveClient) → AnswersAlike E a b → a ≡ Ok z → (y : NaiveClient) × ((b ≡ Ok y) × IsCompacted z y)
+whole-taken : {E : Type 0} {a b : Result NaiveClient E} (z : NaiveClient) → AnswersAlike E a b → a ≡ Ok z → (y : NaiveClient) ×
+    ((b ≡ Ok y) × IsCompacted z y)
 whole-taken z (refused fault) e = absurd (cc)
 whole-taken {E} z (taken kept x k) e =
     (x, (refl, subst (λ w. IsCompacted w x) (ap (λ (r : Result NaiveClient E). elim r as (λ _. NaiveClient) [ Ok u ↦ u | Err f ↦ kept ]) e) k))
@@ -60,8 +63,10 @@ module _ (kept x z : NaiveClient) (op : ChannelOp) (reached : IsReached x) (k : 
       let next = reached-edit x answer.0 op reached answer.1.0 in
       kept-ready next.steps answer.0 z (reached-sound answer.0 next) answer.1.1
 
-  pub kept-edits-move-no-interval : list_any changes_intervals (sub_operations op) ≡ false → told_intervals (after_edit_lists kept op).intervals (shown_content z).intervals ≡ []
+  pub kept-edits-move-no-interval : list_any changes_intervals (sub_operations op) ≡ false → told_intervals (after_edit_lists kept op).intervals
+      (shown_content z).intervals ≡ []
   kept-edits-move-no-interval none = edit-tells-no-interval kept z op ready after rise e none
 
-  pub kept-edits-leave-cells : list_any changes_table (sub_operations op) ≡ false → told_cells (after_edit_lists kept op).cells (shown_content z).cells ≡ []
+  pub kept-edits-leave-cells : list_any changes_table (sub_operations op) ≡ false → told_cells (after_edit_lists kept op).cells
+      (shown_content z).cells ≡ []
   kept-edits-leave-cells none = edit-tells-no-cell kept z op ready rise e none

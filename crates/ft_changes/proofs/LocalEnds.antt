@@ -90,7 +90,8 @@ module _ (m : ℕ) (see P : ListElement → Bool) (p q : ℕ) (f : ListElement �
       by true false e = (refl, refl)
       by false w e = (refl, refl)
 
-  range-find : (i : ℕ) (xs : List ListElement) → list_all P xs ≡ true → SameName (find (seen m) (change_range_from i see p q f xs)) (find (seen m) xs)
+  range-find : (i : ℕ) (xs : List ListElement) → list_all P xs ≡ true → SameName (find (seen m) (change_range_from i see p q f xs))
+      (find (seen m) xs)
   range-find i [] h = refl
   range-find i (x ∷ xs) h =
       let g = both (P x) (list_all P xs) h in
@@ -102,7 +103,8 @@ module _ (m : ℕ) (see P : ListElement → Bool) (p q : ℕ) (f : ListElement �
   range-settled a i (x ∷ xs) h l n e =
       let g = both (P x) (list_all P xs) h in
       let j = one_more_if (see x) i in
-      settled-alike m _ x (one-alike i x g.0) (change_range_from j see p q f xs) xs a l n e (range-find j xs g.1) (λ u v d. range-settled a j xs g.1 u v d)
+      settled-alike m _ x (one-alike i x g.0) (change_range_from j see p q f xs) xs a l n e (range-find j xs g.1)
+      (λ u v d. range-settled a j xs g.1 u v d)
 
   pub settle-range : (xs : List ListElement) → list_all P xs ≡ true → (o : Option ElementId) → settle (change_range see p q f xs) m o ≡ settle xs m o
   settle-range xs h None = refl
@@ -135,7 +137,8 @@ module _ (f : ListElement → ListElement) (named : (x : ListElement) → id (f 
       after : List ListElement
       after = change_range_from (one_more_if (see x) i) see p q f xs
 
-      by : (b : Bool) → not (is_known after (id (cond b (f x) x))) && are_distinct_elements after ≡ not (is_known after (id x)) && are_distinct_elements after
+      by : (b : Bool) → not (is_known after (id (cond b (f x) x))) && are_distinct_elements after ≡ not
+          (is_known after (id x)) && are_distinct_elements after
       by true = ap (λ d. not (is_known after d) && are_distinct_elements after) (named x)
       by false = refl
 
@@ -149,7 +152,8 @@ module _ (m : ℕ) (a : ElementId) where
   find-none [] h = refl
   find-none (x ∷ new) h = by (seen m x) h (λ g. find-none new g)
     where
-      by : (b : Bool) → b || list_any (seen m) new ≡ false → (list_any (seen m) new ≡ false → find (seen m) new ≡ None) → cond b (Some x) (find (seen m) new) ≡ None
+      by : (b : Bool) → b || list_any (seen m) new ≡ false → (list_any (seen m) new ≡ false → find (seen m) new ≡ None) → cond b (Some x)
+          (find (seen m) new) ≡ None
       by true g rest = absurd (cc)
       by false g rest = rest g
 
@@ -178,7 +182,8 @@ module _ (m : ℕ) (a : ElementId) where
   settled-front (x ∷ new) xs h g l = by (has_id a x) (seen m x) h g (λ d e. settled-front new xs d e l)
     where
       by : (b s : Bool) → b || is_known new a ≡ false → s || list_any (seen m) new ≡ false
-          → (is_known new a ≡ false → list_any (seen m) new ≡ false → settled_after (has_id a) (seen m) l (new ++ xs) ≡ settled_after (has_id a) (seen m) l xs)
+          → (is_known new a ≡ false → list_any (seen m) new ≡ false → settled_after (has_id a) (seen m) l (new ++ xs) ≡ settled_after (has_id a)
+          (seen m) l xs)
           → cond b (option_or (find (seen m) (x ∷ (new ++ xs))) l) (settled_after (has_id a) (seen m) (cond s (Some x) l) (new ++ xs))
           ≡ settled_after (has_id a) (seen m) l xs
       by true s d e rest = absurd (cc)
@@ -200,7 +205,8 @@ module _ (m : ℕ) (a : ElementId) where
     settled-put (suc p) (x ∷ xs) l =
         let r = cond (see x) p (suc p) in
         let n = cond (seen m x) (Some x) l in
-        ap (λ o. cond (has_id a x) (option_or (cond (seen m x) (Some x) o) l) (settled_after (has_id a) (seen m) n (put see no_run r new xs))) (find-put r xs)
+        ap (λ o. cond (has_id a x) (option_or (cond (seen m x) (Some x) o) l) (settled_after (has_id a) (seen m) n (put see no_run r new xs)))
+        (find-put r xs)
         ∙ ap (cond (has_id a x) (option_or (find (seen m) (x ∷ xs)) l)) (settled-put r xs n)
 
     pub settle-put : (p : ℕ) (xs : List ListElement) → settle (put see no_run p new xs) m (Some a) ≡ settle xs m (Some a)
@@ -253,7 +259,8 @@ module _ (see : ListElement → Bool) (new : List ListElement) where
 
 module _ (j k : ℕ) (low : j < k) where
   -- the new elements of the stage are not seen before it
-  pub fresh-unseen : (m : ℕ) → m ≤ j → (n : ℕ) (props : PropertyList) (bs : List ElementContent) → list_any (seen m) (new_elements n (Local k) [] None props bs) ≡ false
+  pub fresh-unseen : (m : ℕ) → m ≤ j → (n : ℕ) (props : PropertyList) (bs : List ElementContent) → list_any (seen m)
+      (new_elements n (Local k) [] None props bs) ≡ false
   fresh-unseen m l n props [] = refl
   fresh-unseen m l n props (b ∷ bs) =
       let late : nat_le k m ≡ false = grind (arith, nat_tests) in
@@ -267,7 +274,8 @@ module _ (j k : ℕ) (low : j < k) where
       by (Acked s c) e = refl
       by (Local i) e = let apart : nat_eq i k ≡ false = grind (arith, nat_tests, e, low) in ap (λ b. b && nat_eq x.nth n) apart
 
-  name-other : (n : ℕ) (a : ElementId) (xs : List ListElement) → list_all (is_up_to j) xs ≡ true → is_known xs a ≡ true → same_id a (PendingId k n) ≡ false
+  name-other : (n : ℕ) (a : ElementId) (xs : List ListElement) → list_all (is_up_to j) xs ≡ true → is_known xs a ≡ true → same_id a
+      (PendingId k n) ≡ false
   name-other n a [] h g = absurd (cc)
   name-other n a (x ∷ xs) h g =
       let p = both (is_up_to j x) (list_all (is_up_to j) xs) h in
@@ -278,7 +286,8 @@ module _ (j k : ℕ) (low : j < k) where
       by true e f u ih = ap (λ i. same_id i (PendingId k n)) (same_id-eq a (id x) e) ∙ one-other n x u
       by false e f u ih = ih f
 
-  pub fresh-other : (a : ElementId) (xs : List ListElement) → list_all (is_up_to j) xs ≡ true → is_known xs a ≡ true → (n : ℕ) (props : PropertyList) (bs : List ElementContent)
+  pub fresh-other : (a : ElementId) (xs : List ListElement) → list_all (is_up_to j) xs ≡ true → is_known xs a ≡ true → (n : ℕ)
+      (props : PropertyList) (bs : List ElementContent)
       → is_known (new_elements n (Local k) [] None props bs) a ≡ false
   fresh-other a xs h g n props [] = refl
   fresh-other a xs h g n props (b ∷ bs) =
@@ -340,7 +349,8 @@ module _ (j k : ℕ) (low : j ≤ k) where
   named-later a [] h = refl
   named-later a (x ∷ xs) h =
       let p = both (is_up_to j x) (list_all (is_up_to j) xs) h in
-      ap (λ b. (has_id a x && b) || has_named (seen k) xs a) (seen-later j k low x p.0) ∙ ap (λ b. (has_id a x && seen j x) || b) (named-later a xs p.1)
+      ap (λ b. (has_id a x && b) || has_named (seen k) xs a) (seen-later j k low x p.0) ∙ ap (λ b. (has_id a x && seen j x) || b)
+      (named-later a xs p.1)
 
   rank-later : (a : ElementId) (xs : List ListElement) → list_all (is_up_to j) xs ≡ true → rank (has_id a) (seen k) xs ≡ rank (has_id a) (seen j) xs
   rank-later a [] h = refl
@@ -353,6 +363,7 @@ module _ (j k : ℕ) (low : j ≤ k) where
   number-later xs h None = refl
   number-later xs h (Some a) = ap pos (rank-later a xs h)
 
-  pub end-later : (xs : List ListElement) → list_all (is_up_to j) xs ≡ true → (o : Option ElementId) → is_end_at j xs o ≡ true → is_end_at k xs o ≡ true
+  pub end-later : (xs : List ListElement) → list_all (is_up_to j) xs ≡ true → (o : Option ElementId) → is_end_at j xs o ≡ true → is_end_at k xs o
+      ≡ true
   end-later xs h None e = refl
   end-later xs h (Some a) e = named-later a xs h ∙ e

@@ -253,7 +253,8 @@ module _ (k : ℕ) where
       by None true d = subst (ShowsUpTo k t) (ap (λ (r : EditResult). elim r as (λ _. Document) [ Ok u ↦ u.0 | Err f ↦ doc ]) d) (unchanged t doc h)
       by None false d = absurd (cc)
 
-  pub step : (t : ShownContent) (doc : Document) (stages : List Stage) (o : SubOperation) (taken : Document × NamedElements) → ShowsUpTo (k - 1) t doc → local_sub_operation doc stages k o ≡ Ok taken
+  pub step : (t : ShownContent) (doc : Document) (stages : List Stage) (o : SubOperation) (taken : Document × NamedElements) → ShowsUpTo
+      (k - 1) t doc → local_sub_operation doc stages k o ≡ Ok taken
       → ShowsUpTo k (after_changes t (told_local k doc o)) taken.0
   step t doc stages (OnText op) taken h e = text-step t doc op taken h e
   step t doc stages (OnIntervals op) taken h e = interval-step t doc stages op taken h e
@@ -269,7 +270,8 @@ Made = Result (Document × List Stage) EditFault
 abbrev pub with_front : Stage → Made → Made
 with_front here r = elim r as (λ _. Made) [ Err fault ↦ Err fault | Ok rest ↦ Ok (rest.0, here ∷ rest.1) ]
 
-pub front-parts : (here : Stage) (r : Made) (done : Document × List Stage) → with_front here r ≡ Ok done → (rest : Document × List Stage) × (r ≡ Ok rest) × (done ≡ (rest.0, here ∷ rest.1))
+pub front-parts : (here : Stage) (r : Made) (done : Document × List Stage) → with_front here r ≡ Ok done → (rest : Document × List Stage) ×
+    (r ≡ Ok rest) × (done ≡ (rest.0, here ∷ rest.1))
 front-parts here (Ok rest) done e =
     (rest, refl, sym (ap (λ (r : Made). elim r as (λ _. Document × List Stage) [ Ok u ↦ u | Err f ↦ done ]) e))
 front-parts here (Err f) done e = absurd (cc)
@@ -376,7 +378,8 @@ pub record IsEdited (x y : NaiveClient) (doc : Document) (stages : List Stage) :
   pub doc_is : y.doc ≡ doc
   pub last : y.last_stage ≡ x.last_stage + length stages
 
-pub drafted : (x z : NaiveClient) (n : ℕ) (doc : Document) (stages : List Stage) (sent : Option SentAs) → IsEdited x z doc stages → IsEdited x (with_draft sent n z) doc stages
+pub drafted : (x z : NaiveClient) (n : ℕ) (doc : Document) (stages : List Stage) (sent : Option SentAs) → IsEdited x z doc stages → IsEdited x
+    (with_draft sent n z) doc stages
 drafted x z n doc stages None h = h
 drafted x z n doc stages (Some sent) h = record { doc_is = h.doc_is; last = h.last }
 

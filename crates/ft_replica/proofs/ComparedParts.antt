@@ -106,14 +106,16 @@ told-parts compared s t cells intervals =
     by-cells true e = refl
     by-cells false e = sym (cells e)
 
-    by-intervals : (b : Bool) → compared.intervals ≡ b → told_intervals (cond b s.intervals []) (cond b t.intervals []) ≡ told_intervals s.intervals t.intervals
+    by-intervals : (b : Bool) → compared.intervals ≡ b → told_intervals (cond b s.intervals []) (cond b t.intervals [])
+        ≡ told_intervals s.intervals t.intervals
     by-intervals true e = refl
     by-intervals false e = sym (intervals e)
 
 -- ---- operations
 
 -- the sub-operations of a group are of the text, or of the table
-any_text : (test : SubOperation → Bool) → ((op : BaseOp) → test (OnText op) ≡ false) → (ops : List BaseOp) → list_any test (map (λ op. OnText op) ops) ≡ false
+any_text : (test : SubOperation → Bool) → ((op : BaseOp) → test (OnText op) ≡ false) → (ops : List BaseOp) → list_any test
+    (map (λ op. OnText op) ops) ≡ false
 any_text test none [] = refl
 any_text test none (op ∷ ops) = ap (λ b. b || list_any test (map (λ op. OnText op) ops)) (none op) ∙ any_text test none ops
 
@@ -153,7 +155,8 @@ module _ (k : ℕ) (p : NaiveClient) (s c r : ℕ) where
       map (interval_record k doc.text.items) (shown_intervals doc.text.items doc.intervals (stages_of p))
 
   pub without-operation : (body : Body) → is_op body ≡ false
-      → ((after_changes (shown_content p) (told_body k p.doc s c r body)).intervals ≡ (shown_content p).intervals) × (intervals_after body ≡ intervals_after Nothing)
+      → ((after_changes (shown_content p) (told_body k p.doc s c r body)).intervals ≡ (shown_content p).intervals) ×
+          (intervals_after body ≡ intervals_after Nothing)
   without-operation (Op op) h = absurd (cc)
   without-operation Nothing h = (refl, refl)
   without-operation (Elsewhere address) h = (refl, refl)
@@ -182,14 +185,17 @@ module _ (start : Document) (p : NaiveClient) (entry : Entry) (last : ℕ) (t : 
       let body = entry.msg.body in
       let x = m.whole in
       let fits = well-formed-fits entry formed in
-      let a = taken-alike (after_entry p entry) (entries-answer m.reached.steps x p entry (reached-sound x m.reached) m.keeps fits) (after-taken p entry t.taken) in
+      let a = taken-alike (after_entry p entry) (entries-answer m.reached.steps x p entry (reached-sound x m.reached) m.keeps fits)
+              (after-taken p entry t.taken) in
       told-parts (compared_by pending body) (after_lists p entry) (shown_content (after_entry p entry))
       (λ unset. kept-unset-cells-tell-nothing p x a.0 entry m.reached m.keeps fits a.1.0 unset)
       (λ few. by pending (is_op body) refl refl (neither (pending && is_op body) (has_sub_operation changes_intervals body) few) (λ h. idle-untold h)
       (λ e h. kept-quiet-intervals p x a.0 entry m.reached m.keeps fits a.1.0 (none e) h))
     where
-      by : (waits op : Bool) → pending ≡ waits → is_op entry.msg.body ≡ op → (waits && op ≡ false) × (has_sub_operation changes_intervals entry.msg.body ≡ false)
-          → (is_op entry.msg.body ≡ false → Untold) → (pending ≡ false → has_sub_operation changes_intervals entry.msg.body ≡ false → Untold) → Untold
+      by : (waits op : Bool) → pending ≡ waits → is_op entry.msg.body ≡ op → (waits && op ≡ false) ×
+          (has_sub_operation changes_intervals entry.msg.body ≡ false)
+          → (is_op entry.msg.body ≡ false → Untold) → (pending ≡ false → has_sub_operation changes_intervals entry.msg.body ≡ false → Untold)
+              → Untold
       by waits false e d h idle quiet = idle d
       by true true e d h idle quiet = absurd (cc)
       by false true e d h idle quiet = quiet e h.1
@@ -218,7 +224,8 @@ none-pending : (edits : List PendingEdit) → length (map part_of edits) ≡ 0 �
 none-pending [] h = refl
 none-pending (e ∷ edits) h = absurd (cc)
 
-pub idle-stages : {D : Type 0} (s : LinkedState D) (p : NaiveClient) → s ≡ linked_as p s.document → (n : ℕ) → n ≡ length s.pending → not (nat_eq n 0) ≡ false
+pub idle-stages : {D : Type 0} (s : LinkedState D) (p : NaiveClient) → s ≡ linked_as p s.document → (n : ℕ) → n ≡ length s.pending → not
+    (nat_eq n 0) ≡ false
     → stages_of p ≡ []
 idle-stages s p rest n count idle =
     let zero_is : n ≡ 0 = grind (arith, nat_tests, idle) in
