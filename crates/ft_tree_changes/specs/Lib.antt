@@ -1,0 +1,2 @@
+pub mod ShownOverlays
+pub mod Fronts
