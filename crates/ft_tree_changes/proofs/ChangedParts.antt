@@ -44,7 +44,8 @@ module _ {P : Type 0} (same : P → P → Bool) (itself : (x : P) → same x x �
   changed-longer (run ∷ next ∷ []) p m n y = by (nat_eq (next.place + next.count) p) refl (same next.props y) refl
     where
       by : (b : Bool) → nat_eq (next.place + next.count) p ≡ b → (e : Bool) → same next.props y ≡ e
-          → with_changed_behind same (with_changed_behind same (run ∷ next ∷ []) p m y) (p + m) n y ≡ with_changed_behind same (run ∷ next ∷ []) p (m + n) y
+          → with_changed_behind same (with_changed_behind same (run ∷ next ∷ []) p m y) (p + m) n y
+          ≡ with_changed_behind same (run ∷ next ∷ []) p (m + n) y
       by true b true e =
           let joins : nat_eq (next.place + (next.count + m)) (p + m) ≡ true = grind (arith, nat_tests, b) in
           let sum : next.count + m + n ≡ next.count + (m + n) = omega arith in
@@ -69,8 +70,9 @@ module _ {A P : Type 0} (same : P → P → Bool) (props : A → P) (mark : A �
 
 -- ---- elements that are alike
 
-module _ {A U P : Type 0} (same : P → P → Bool) (itself : (a : P) → same a a ≡ true) (props : A → P) (mark : A → A) (seen shown : A → Bool) (f : U → A)
-    (p q : ℕ) (b s : Bool) (x y : P) (sees : (u : U) → seen (f u) ≡ b) (shows : (u : U) → shown (f u) ≡ s) (had : (u : U) → props (f u) ≡ x)
+module _ {A U P : Type 0} (same : P → P → Bool) (itself : (a : P) → same a a ≡ true) (props : A → P) (mark : A → A)
+    (seen shown : A → Bool) (f : U → A) (p q : ℕ) (b s : Bool) (x y : P)
+    (sees : (u : U) → seen (f u) ≡ b) (shows : (u : U) → shown (f u) ≡ s) (had : (u : U) → props (f u) ≡ x)
     (has : (u : U) → props (mark (f u)) ≡ y) where
   abbrev places : ℕ → ℕ → List A → List (ℕ × P)
   places n i es = changed_places same props mark n i seen shown p q es
@@ -79,7 +81,8 @@ module _ {A U P : Type 0} (same : P → P → Bool) (itself : (a : P) → same a
   changes n = s && (b && within p q n) && not (same x y)
 
   step : (n i : ℕ) (u : U) (es : List A)
-      → places n i (f u ∷ es) ≡ cond (changes n) ((i, y) ∷ places (one_more_if b n) (one_more_if s i) es) (places (one_more_if b n) (one_more_if s i) es)
+      → places n i (f u ∷ es) ≡ cond (changes n) ((i, y) ∷ places (one_more_if b n) (one_more_if s i) es)
+      (places (one_more_if b n) (one_more_if s i) es)
   step n i u es = grind (arith, sees u, shows u, had u, has u)
 
   -- none of them changes
@@ -88,7 +91,8 @@ module _ {A U P : Type 0} (same : P → P → Bool) (itself : (a : P) → same a
   changed-none n i [] back none = ap (λ m. places m i back) (if-none b n) ∙ ap (λ j. places (n + cond b 0 0) j back) (if-none s i)
   changed-none n i (u ∷ us) back none =
       step n i u (map f us ++ back)
-      ∙ ap (λ t. cond t ((i, y) ∷ places (one_more_if b n) (one_more_if s i) (map f us ++ back)) (places (one_more_if b n) (one_more_if s i) (map f us ++ back)))
+      ∙ ap (λ t. cond t ((i, y) ∷ places (one_more_if b n) (one_more_if s i) (map f us ++ back))
+      (places (one_more_if b n) (one_more_if s i) (map f us ++ back)))
       (none n (omega arith) (omega arith))
       ∙ changed-none (one_more_if b n) (one_more_if s i) us back (λ j l h. none j (later b l) (within_more b h))
       ∙ ap (λ m. places m (one_more_if s i + cond s (length us) 0) back) (if-more b n (length us))
@@ -118,7 +122,8 @@ module _ {A U P : Type 0} (same : P → P → Bool) (itself : (a : P) → same a
       let beside : suc i ≡ i + 1 = omega arith in
       let sum : 1 + suc (length us) ≡ suc (suc (length us)) = omega arith in
       let first = step n i u (f v ∷ map f us ++ back) in
-      let rest = changed-all seen_all shown_all differ (with_changed_behind same runs i 1 y) (suc n) (suc i) v us back (omega (arith, h)) (omega (arith, k)) in
+      let rest = changed-all seen_all shown_all differ (with_changed_behind same runs i 1 y) (suc n) (suc i) v us back (omega (arith, h))
+      (omega (arith, k)) in
       let joined = ap (λ j. with_changed_behind same (with_changed_behind same runs i 1 y) j (suc (length us)) y) beside
       ∙ changed-longer same itself runs i 1 (suc (length us)) y ∙ ap (λ m. with_changed_behind same runs i m y) sum in
       grind (arith, seen_all, shown_all, differ, first, one-inside p q n h (omega (arith, k)), rest, joined, next, more)
@@ -126,7 +131,8 @@ module _ {A U P : Type 0} (same : P → P → Bool) (itself : (a : P) → same a
   part : b ≡ true → s ≡ true → same x y ≡ false → (runs : List (ChangedRun P)) (n i : ℕ) (us : List U) (back : List A)
       → (0 < length us → (p ≤ n) × (n + length us ≤ q))
       → with_all_changed same runs (places n i (map f us ++ back))
-      ≡ with_all_changed same (cond (nat_eq (length us) 0) runs (with_changed_behind same runs i (length us) y)) (places (n + length us) (i + length us) back)
+      ≡ with_all_changed same (cond (nat_eq (length us) 0) runs (with_changed_behind same runs i (length us) y))
+      (places (n + length us) (i + length us) back)
   part seen_all shown_all differ runs n i [] back h =
       let none : n ≡ n + 0 = omega arith in
       let same_place : i ≡ i + 0 = omega arith in
@@ -135,7 +141,8 @@ module _ {A U P : Type 0} (same : P → P → Bool) (itself : (a : P) → same a
       let some : (p ≤ n) × (n + suc (length us) ≤ q) = h (omega arith) in
       let positive : nat_eq (suc (length us)) 0 ≡ false = grind (arith, nat_tests) in
       changed-all seen_all shown_all differ runs n i u us back some.0 some.1
-      ∙ ap (λ t. with_all_changed same (cond t runs (with_changed_behind same runs i (suc (length us)) y)) (places (n + suc (length us)) (i + suc (length us)) back)) (sym positive)
+      ∙ ap (λ t. with_all_changed same (cond t runs (with_changed_behind same runs i (suc (length us)) y))
+      (places (n + suc (length us)) (i + suc (length us)) back)) (sym positive)
 
   -- the same where elements before them and behind them stay
   parts : b ≡ true → s ≡ true → same x y ≡ false → (runs : List (ChangedRun P)) (n i : ℕ) (us vs ws : List U) (back : List A)
@@ -147,10 +154,12 @@ module _ {A U P : Type 0} (same : P → P → Bool) (itself : (a : P) → same a
       (places (n + length us + length vs + length ws) (i + length us + length vs + length ws) back)
   parts seen_all shown_all differ runs n i us vs ws back before inside behind =
       let runs_then = cond (nat_eq (length vs) 0) runs (with_changed_behind same runs (i + length us) (length vs) y) in
-      ap (with_all_changed same runs) (stays n i us (map f vs ++ (map f ws ++ back)) (λ j l h. none-before p q j (omega (arith, h, before (omega (arith, l, h))))))
+      ap (with_all_changed same runs) (stays n i us (map f vs ++ (map f ws ++ back))
+      (λ j l h. none-before p q j (omega (arith, h, before (omega (arith, l, h))))))
       ∙ part seen_all shown_all differ runs (n + length us) (i + length us) vs (map f ws ++ back) inside
       ∙ ap (with_all_changed same runs_then)
-      (stays (n + length us + length vs) (i + length us + length vs) ws back (λ j l h. none-inside p q j (omega (arith, l, behind (omega (arith, l, h))))))
+      (stays (n + length us + length vs) (i + length us + length vs) ws back
+      (λ j l h. none-inside p q j (omega (arith, l, behind (omega (arith, l, h))))))
     where
       stays : (m j : ℕ) (zs : List U) (es : List A) → ((k : ℕ) → m ≤ k → k < m + length zs → within p q k ≡ false)
           → places m j (map f zs ++ es) ≡ places (m + length zs) (j + length zs) es
@@ -178,10 +187,14 @@ module _ {A U P : Type 0} (same : P → P → Bool) (itself : (a : P) → same a
       (λ h. omega (arith, first, before (omega (arith, h, first))))
       (λ h. let r = inside (omega (arith, h, middle)) in (omega (arith, first, r.0), omega (arith, first, middle, r.1)))
       (λ h. omega (arith, first, middle, behind (omega (arith, h, last))))
-      ∙ ap (λ m. with_all_changed same (cond (nat_eq (length vs) 0) runs (with_changed_behind same runs (i + length ms) (length vs) y)) (places m (i + length ms + length vs + length ws) back)) all
-      ∙ ap (λ j. with_all_changed same (cond (nat_eq (length vs) 0) runs (with_changed_behind same runs (i + length ms) (length vs) y)) (places (n + length us) j back)) each
-      ∙ ap (λ m. with_all_changed same (cond (nat_eq (length vs) 0) runs (with_changed_behind same runs (i + m) (length vs) y)) (places (n + length us) (i + length us) back)) first
-      ∙ ap (λ m. with_all_changed same (cond (nat_eq m 0) runs (with_changed_behind same runs (i + k) m y)) (places (n + length us) (i + length us) back)) middle
+      ∙ ap (λ m. with_all_changed same (cond (nat_eq (length vs) 0) runs (with_changed_behind same runs (i + length ms) (length vs) y))
+      (places m (i + length ms + length vs + length ws) back)) all
+      ∙ ap (λ j. with_all_changed same (cond (nat_eq (length vs) 0) runs (with_changed_behind same runs (i + length ms) (length vs) y))
+      (places (n + length us) j back)) each
+      ∙ ap (λ m. with_all_changed same (cond (nat_eq (length vs) 0) runs (with_changed_behind same runs (i + m) (length vs) y))
+      (places (n + length us) (i + length us) back)) first
+      ∙ ap (λ m. with_all_changed same (cond (nat_eq m 0) runs (with_changed_behind same runs (i + k) m y))
+      (places (n + length us) (i + length us) back)) middle
 
   -- a walk over elements that are alike, of which k stand before those c that may change
   pub changed-leaf : (runs : List (ChangedRun P)) (n i k c : ℕ) (us : List U) (back : List A)
@@ -206,8 +219,10 @@ module _ {A U P : Type 0} (same : P → P → Bool) (itself : (a : P) → same a
           let many : cond b (length us) 0 ≡ length us = ap (λ z. cond z (length us) 0) d in
           let each : cond s (length us) 0 ≡ length us = ap (λ z. cond z (length us) 0) t in
           changed-both d t e runs n i k c us back (omega (arith, fits, size)) before inside (λ h. behind (omega (arith, h, size)))
-          ∙ ap (λ m. with_all_changed same (cond (nat_eq c 0) runs (with_changed_behind same runs (i + k) c y)) (places (n + m) (i + length us) back)) (sym many)
-          ∙ ap (λ m. with_all_changed same (cond (nat_eq c 0) runs (with_changed_behind same runs (i + k) c y)) (places (n + cond b (length us) 0) (i + m) back)) (sym each)
+          ∙ ap (λ m. with_all_changed same (cond (nat_eq c 0) runs (with_changed_behind same runs (i + k) c y))
+          (places (n + m) (i + length us) back)) (sym many)
+          ∙ ap (λ m. with_all_changed same (cond (nat_eq c 0) runs (with_changed_behind same runs (i + k) c y))
+          (places (n + cond b (length us) 0) (i + m) back)) (sym each)
           ∙ ap (λ z. with_all_changed same (cond (nat_eq c 0) runs (cond z runs (with_changed_behind same runs (i + k) c y))) onward) (sym e)
       by true d true t true e =
           stays (λ j. grind (arith, e, d, t))

@@ -108,7 +108,8 @@ module _ {C U : Type 0} (units : C → List U) (by : C → Option Stamp) (xs : L
   -- the run ends in the leaf
   pub front-alone : k < m → not (is_acked e.ins) ≡ false
       → left + cond s k 0
-      ≡ len (seen_in shown) (take (length head + k) (elements units by xs)) + shown_in_run is_pending (seen_in shown) (drop (length head + k) (elements units by xs))
+      ≡ len (seen_in shown) (take (length head + k) (elements units by xs)) + shown_in_run is_pending (seen_in shown)
+      (drop (length head + k) (elements units by xs))
   front-alone less settled =
       let acked : not (is_acked leaf.stamps.ins) ≡ false = ap (λ (t : Element). not (is_acked t.ins)) same ∙ settled in
       omega (
@@ -121,7 +122,8 @@ module _ {C U : Type 0} (units : C → List U) (by : C → Option Stamp) (xs : L
   -- the run goes on behind the leaf
   pub front-on : (k < m → not (is_acked e.ins) ≡ true) → (next : Option ℕ) → next ≡ after (ids xs) id
       → left + cond s m 0 + shown_in_run is_pending (seen_in shown) (held_from units by xs next)
-      ≡ len (seen_in shown) (take (length head + k) (elements units by xs)) + shown_in_run is_pending (seen_in shown) (drop (length head + k) (elements units by xs))
+      ≡ len (seen_in shown) (take (length head + k) (elements units by xs)) + shown_in_run is_pending (seen_in shown)
+      (drop (length head + k) (elements units by xs))
   front-on pends next on =
       let onward = ap (λ o. shown_in_run is_pending (seen_in shown) (held_from units by xs o)) on in
       elim (cases_lt k m) [

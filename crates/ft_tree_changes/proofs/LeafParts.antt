@@ -66,7 +66,8 @@ module _ {A U : Type 0} (seen shown : A → Bool) (f : U → A) (p q : ℕ) wher
       let some : (p ≤ n) × (n + suc (length us) ≤ q) = h (omega arith) in
       let positive : nat_eq (suc (length us)) 0 ≡ false = grind (arith, nat_tests) in
       gone-inside seen shown f p q sees shows runs n i u us back some.0 some.1
-      ∙ ap (λ b. with_all_gone (cond b runs (with_gone_behind runs i (suc (length us)))) (gone_places (n + suc (length us)) i seen shown p q back)) (sym positive)
+      ∙ ap (λ b. with_all_gone (cond b runs (with_gone_behind runs i (suc (length us))))
+      (gone_places (n + suc (length us)) i seen shown p q back)) (sym positive)
 
   -- a leaf that is seen and shown, in three parts
   gone-parts : ((u : U) → seen (f u) ≡ true) → ((u : U) → shown (f u) ≡ true) → (runs : List GoneRun) (n i : ℕ) (us vs ws : List U) (back : List A)
@@ -101,13 +102,16 @@ module _ {A U : Type 0} (seen shown : A → Bool) (f : U → A) (p q : ℕ) wher
       (λ h. omega (arith, first, before (omega (arith, h, first))))
       (λ h. let r = inside (omega (arith, h, middle)) in (omega (arith, first, r.0), omega (arith, first, middle, r.1)))
       (λ h. omega (arith, first, middle, behind (omega (arith, h, last))))
-      ∙ ap (λ m. with_all_gone (with_some_behind runs (i + length ms) (length vs)) (gone_places m (i + length ms + length ws) seen shown p q back)) all
+      ∙ ap (λ m. with_all_gone (with_some_behind runs (i + length ms) (length vs))
+      (gone_places m (i + length ms + length ws) seen shown p q back)) all
       ∙ ap (λ j. with_all_gone (with_some_behind runs (i + length ms) (length vs)) (gone_places (n + length us) j seen shown p q back)) kept
-      ∙ ap (λ m. with_all_gone (with_some_behind runs (i + m) (length vs)) (gone_places (n + length us) (i + (length us - c)) seen shown p q back)) first
+      ∙ ap (λ m. with_all_gone (with_some_behind runs (i + m) (length vs))
+      (gone_places (n + length us) (i + (length us - c)) seen shown p q back)) first
       ∙ ap (λ m. with_all_gone (with_some_behind runs (i + k) m) (gone_places (n + length us) (i + (length us - c)) seen shown p q back)) middle
 
   -- a walk over a leaf, of which k elements stand before those c that go
-  pub gone-leaf : (b s : Bool) → ((u : U) → seen (f u) ≡ b) → ((u : U) → shown (f u) ≡ s) → (runs : List GoneRun) (n i k c : ℕ) (us : List U) (back : List A)
+  pub gone-leaf : (b s : Bool) → ((u : U) → seen (f u) ≡ b) → ((u : U) → shown (f u) ≡ s)
+      → (runs : List GoneRun) (n i k c : ℕ) (us : List U) (back : List A)
       → k + c ≤ cond (b && s) (length us) 0 → (0 < k → n + k ≤ p) → (0 < c → (p ≤ n + k) × (n + k + c ≤ q))
       → (k + c < cond (b && s) (length us) 0 → q ≤ n + k + c)
       → with_all_gone runs (gone_places n i seen shown p q (map f us ++ back))
@@ -126,7 +130,8 @@ module _ {A U : Type 0} (seen shown : A → Bool) (f : U → A) (p q : ℕ) wher
       ap (with_all_gone runs) (gone-unseen seen shown f p q s hides shows n i us back)
       ∙ ap (λ j. with_all_gone runs (gone_places n j seen shown p q back)) (more s none)
       ∙ ap (λ m. with_all_gone runs (gone_places m (i + (cond s (length us) 0 - c)) seen shown p q back)) stays
-      ∙ ap (λ m. with_all_gone (with_some_behind runs (i + k) m) (gone_places (n + 0) (i + (cond s (length us) 0 - c)) seen shown p q back)) (sym none)
+      ∙ ap (λ m. with_all_gone (with_some_behind runs (i + k) m)
+      (gone_places (n + 0) (i + (cond s (length us) 0 - c)) seen shown p q back)) (sym none)
     where
       more : (t : Bool) → c ≡ 0 → cond t (i + length us) i ≡ i + (cond t (length us) 0 - c)
       more true e = omega (arith, e)

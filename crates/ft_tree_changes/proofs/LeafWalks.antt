@@ -40,7 +40,8 @@ module _ {C U : Type 0} (units : C → List U) (by : C → Option Stamp) (xs : L
   cut-whole id = sym (elements-append units by (left_of xs id) (from_place xs (Some id))) ∙ ap (elements units by) (before-from xs (Some id))
 
   -- no more are seen before it than there are
-  pub front-most : (seen : TreeElement U → Bool) (id : ℕ) → len seen (elements units by (left_of xs id)) + length (held_from (Some id)) ≤ length (elements units by xs)
+  pub front-most : (seen : TreeElement U → Bool) (id : ℕ)
+      → len seen (elements units by (left_of xs id)) + length (held_from (Some id)) ≤ length (elements units by xs)
   front-most seen id =
       omega (
         arith,

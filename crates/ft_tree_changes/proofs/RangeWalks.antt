@@ -40,7 +40,8 @@ if-both true s n = refl
 if-both false s n = refl
 
 -- two readings of a value, of which one decides whether the other counts
-pub read_if : {A : Type 0} (test : A → Bool) (size : A → ℕ) (o : Option A) (b : Bool) (n : ℕ) → option_map test o ≡ Some b → option_map size o ≡ Some n
+pub read_if : {A : Type 0} (test : A → Bool) (size : A → ℕ) (o : Option A) (b : Bool) (n : ℕ) → option_map test o ≡ Some b
+    → option_map size o ≡ Some n
     → option_map (λ x. cond (test x) (size x) 0) o ≡ Some (cond b n 0)
 read_if test size None b n e h = absurd cc
 read_if test size (Some x) b n e h =
@@ -48,7 +49,8 @@ read_if test size (Some x) b n e h =
 
 module _ {C U : Type 0} (units : C → List U) (by : C → Option Stamp) (xs : List (ℕ × TreeLeaf C)) (once : (i : ℕ) → times_leaf xs i ≤ 1) where
   -- the leaf of the element behind p seen ones
-  pub front-found : (view shown : LenView) (p : ℕ) (found : Found) (leaf seen shown_before : ℕ) → place_by (leaf_length units view) xs (p + 1) ≡ Some found
+  pub front-found : (view shown : LenView) (p : ℕ) (found : Found) (leaf seen shown_before : ℕ)
+      → place_by (leaf_length units view) xs (p + 1) ≡ Some found
       → found.leaf ≡ Some leaf → seen ≡ p + 1 - found.offset → shown_before ≡ len (seen_in shown) (elements units by (left_of xs leaf))
       → IsFront units by xs view shown p (record { leaf = leaf; seen = seen; shown = shown_before })
   front-found view shown p found leaf seen shown_before e is counted before =
@@ -97,16 +99,21 @@ module _ {C U : Type 0} (units : C → List U) (by : C → Option Stamp) (xs : L
         ∙ ap (λ j. gone_places front.seen j (seen_in view) (seen_in shown) p q back) shown-before)
 
     pub changed-front : (g : OverlayState → OverlayState) (q : ℕ)
-        → changed_places same_props shown_of_element (with_overlay g) front.seen front.shown (seen_in view) (seen_in shown) p q (held_from units by xs (Some front.leaf))
+        → changed_places same_props shown_of_element (with_overlay g) front.seen front.shown (seen_in view) (seen_in shown) p q
+        (held_from units by xs (Some front.leaf))
         ≡ changed_places same_props shown_of_element (with_overlay g) 0 0 (seen_in view) (seen_in shown) p q (elements units by xs)
     changed-front g q =
-        sym (ap (changed_places same_props shown_of_element (with_overlay g) 0 0 (seen_in view) (seen_in shown) p q) (sym (cut-whole units by xs front.leaf))
-        ∙ changed-behind (seen_in view) (seen_in shown) same_props shown_of_element (with_overlay g) p q 0 0 head back (omega (arith, is.few, is.seen))
-        ∙ ap (λ m. changed_places same_props shown_of_element (with_overlay g) m (0 + len (seen_in shown) head) (seen_in view) (seen_in shown) p q back) seen-before
+        sym (ap (changed_places same_props shown_of_element (with_overlay g) 0 0 (seen_in view) (seen_in shown) p q)
+        (sym (cut-whole units by xs front.leaf))
+        ∙ changed-behind (seen_in view) (seen_in shown) same_props shown_of_element (with_overlay g) p q 0 0 head back
+        (omega (arith, is.few, is.seen))
+        ∙ ap (λ m. changed_places same_props shown_of_element (with_overlay g) m (0 + len (seen_in shown) head) (seen_in view)
+        (seen_in shown) p q back) seen-before
         ∙ ap (λ j. changed_places same_props shown_of_element (with_overlay g) front.seen j (seen_in view) (seen_in shown) p q back) shown-before)
 
   module _ (id : ℕ) (live : IsLeafIn xs id) (next : Option ℕ) (on : next ≡ after (ids xs) id) (view shown : LenView) (seen shows both : ℕ)
-      (sees : option_map (leaf_length units view) (value_at xs id) ≡ Some seen) (are_shown : option_map (leaf_length units shown) (value_at xs id) ≡ Some shows)
+      (sees : option_map (leaf_length units view) (value_at xs id) ≡ Some seen)
+      (are_shown : option_map (leaf_length units shown) (value_at xs id) ≡ Some shows)
       (are_both : option_map (both_length units view shown) (value_at xs id) ≡ Some both) where
     abbrev there : (v : TreeLeaf C) × (value_at xs id ≡ Some v)
     there = live_value xs id live
@@ -163,7 +170,8 @@ module _ {C U : Type 0} (units : C → List U) (by : C → Option Stamp) (xs : L
     pub gone-on : (p q : ℕ) (runs : List GoneRun) (n i k c : ℕ)
         → k + c ≤ both → (0 < k → n + k ≤ p) → (0 < c → (p ≤ n + k) × (n + k + c ≤ q)) → (k + c < both → q ≤ n + k + c)
         → with_all_gone runs (gone_places n i (seen_in view) (seen_in shown) p q (held_from units by xs (Some id)))
-        ≡ with_all_gone (with_some_behind runs (i + k) c) (gone_places (n + seen) (i + (shows - c)) (seen_in view) (seen_in shown) p q (held_from units by xs next))
+        ≡ with_all_gone (with_some_behind runs (i + k) c) (gone_places (n + seen) (i + (shows - c)) (seen_in view) (seen_in shown) p q
+        (held_from units by xs next))
     gone-on p q runs n i k c fits before inside behind =
         let places : ℕ → ℕ → List (TreeElement U) → List ℕ = λ m j es. gone_places m j (seen_in view) (seen_in shown) p q es in
         let runs_then = with_some_behind runs (i + k) c in
@@ -181,7 +189,8 @@ module _ {C U : Type 0} (units : C → List U) (by : C → Option Stamp) (xs : L
         → with_all_changed same_props runs
         (changed_places same_props shown_of_element (with_overlay g) n i (seen_in view) (seen_in shown) p q (held_from units by xs (Some id)))
         ≡ with_all_changed same_props (with_part_changed same_props runs (i + k) c (shown_of o) (shown_of (g o)))
-        (changed_places same_props shown_of_element (with_overlay g) (n + seen) (i + shows) (seen_in view) (seen_in shown) p q (held_from units by xs next))
+        (changed_places same_props shown_of_element (with_overlay g) (n + seen) (i + shows) (seen_in view) (seen_in shown) p q
+        (held_from units by xs next))
     changed-on g o reads p q runs n i k c fits before inside behind =
         let is : leaf.overlay ≡ o = read_value (λ x. x.overlay) (value_at xs id) leaf o there.1 reads in
         let places : ℕ → ℕ → List (TreeElement U) → List (ℕ × PropertyList) =
@@ -189,22 +198,27 @@ module _ {C U : Type 0} (units : C → List U) (by : C → Option Stamp) (xs : L
         let runs_then = with_part_changed same_props runs (i + k) c (shown_of leaf.overlay) (shown_of (g leaf.overlay)) in
         ap (λ es. with_all_changed same_props runs (places n i es)) (elements-from units by xs id leaf once there.1)
         ∙ changed-leaf same_props (λ x. (same_props-Decides x x).1 refl) shown_of_element (with_overlay g) (seen_in view) (seen_in shown) f p q b s
-        (shown_of leaf.overlay) (shown_of (g leaf.overlay)) (λ u. refl) (λ u. refl) (λ u. refl) (λ u. refl) runs n i k c us (held_from units by xs (after (ids xs) id))
+        (shown_of leaf.overlay) (shown_of (g leaf.overlay)) (λ u. refl) (λ u. refl) (λ u. refl) (λ u. refl) runs n i k c us
+        (held_from units by xs (after (ids xs) id))
         (subst (λ m. k + c ≤ m) (sym both-is) fits) before inside (subst (λ m. k + c < m → q ≤ n + k + c) (sym both-is) behind)
-        ∙ ap (λ m. with_all_changed same_props runs_then (places (n + m) (i + cond s (length us) 0) (held_from units by xs (after (ids xs) id)))) seen-is
+        ∙ ap (λ m. with_all_changed same_props runs_then (places (n + m) (i + cond s (length us) 0)
+        (held_from units by xs (after (ids xs) id)))) seen-is
         ∙ ap (λ m. with_all_changed same_props runs_then (places (n + seen) (i + m) (held_from units by xs (after (ids xs) id)))) shown-is
         ∙ ap (λ es. with_all_changed same_props runs_then (places (n + seen) (i + shows) es)) rest
-        ∙ ap (λ r. with_all_changed same_props (with_part_changed same_props runs (i + k) c (shown_of r) (shown_of (g r))) (places (n + seen) (i + shows) (held_from units by xs next))) is
+        ∙ ap (λ r. with_all_changed same_props (with_part_changed same_props runs (i + k) c (shown_of r) (shown_of (g r)))
+        (places (n + seen) (i + shows) (held_from units by xs next))) is
 
 -- ---- two changes of which the same is shown
 
-pub changed_runs-alike : {A P : Type 0} (same : P → P → Bool) (props : A → P) (f g : A → A) (alike : (x : A) → props (f x) ≡ props (g x)) (seen shown : A → Bool) (p q n i : ℕ) (es : List A)
+pub changed_runs-alike : {A P : Type 0} (same : P → P → Bool) (props : A → P) (f g : A → A)
+    → ((x : A) → props (f x) ≡ props (g x)) → (seen shown : A → Bool) (p q n i : ℕ) (es : List A)
     → changed_runs_from same props f n i seen shown p q es ≡ changed_runs_from same props g n i seen shown p q es
 changed_runs-alike same props f g alike seen shown p q n i [] = refl
 changed_runs-alike same props f g alike seen shown p q n i (x ∷ es) =
     let m = one_more_if (seen x) n in
     let j = one_more_if (shown x) i in
-    ap (λ y. with_changed_run same (shown x && (seen x && within p q n) && not (same (props x) y)) i y (changed_runs_from same props f m j seen shown p q es)) (alike x)
+    ap (λ y. with_changed_run same (shown x && (seen x && within p q n) && not (same (props x) y)) i y
+    (changed_runs_from same props f m j seen shown p q es)) (alike x)
     ∙ ap (with_changed_run same (shown x && (seen x && within p q n) && not (same (props x) (props (g x)))) i (props (g x)))
     (changed_runs-alike same props f g alike seen shown p q m j es)
 

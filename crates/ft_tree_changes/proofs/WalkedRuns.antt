@@ -34,9 +34,11 @@ module _ {A : Type 0} (seen shown : A → Bool) where
       ap (λ m. gone_places m i seen shown p q back) seen_before ∙ ap (λ j. gone_places (n + 0) j seen shown p q back) shown_before
   gone-behind p q n i (x ∷ front) back h = by (λ m j. gone-behind p q m j front back) (seen x) refl (shown x) refl
     where
-      by : ((m j : ℕ) → m + len seen front ≤ p → gone_places m j seen shown p q (front ++ back) ≡ gone_places (m + len seen front) (j + len shown front) seen shown p q back)
+      by : ((m j : ℕ) → m + len seen front ≤ p → gone_places m j seen shown p q (front ++ back)
+          ≡ gone_places (m + len seen front) (j + len shown front) seen shown p q back)
           → (b : Bool) → seen x ≡ b → (s : Bool) → shown x ≡ s
-          → gone_places n i seen shown p q (x ∷ front ++ back) ≡ gone_places (n + len seen (x ∷ front)) (i + len shown (x ∷ front)) seen shown p q back
+          → gone_places n i seen shown p q (x ∷ front ++ back)
+          ≡ gone_places (n + len seen (x ∷ front)) (i + len shown (x ∷ front)) seen shown p q back
       by rest true b true s =
           let before : within p q n ≡ false = grind (arith, nat_tests, h, b) in
           grind (arith, b, s, before, rest (suc n) (suc i) (grind (arith, h, b)))
@@ -56,7 +58,8 @@ module _ {A : Type 0} (seen shown : A → Bool) where
       ∙ ap (λ j. changed_places same props f (n + 0) j seen shown p q back) shown_before
   changed-behind same props f p q n i (x ∷ front) back h = by (λ m j. changed-behind same props f p q m j front back) (seen x) refl (shown x) refl
     where
-      by : ((m j : ℕ) → m + len seen front ≤ p → changed_places same props f m j seen shown p q (front ++ back) ≡ changed_places same props f (m + len seen front) (j + len shown front) seen shown p q back)
+      by : ((m j : ℕ) → m + len seen front ≤ p → changed_places same props f m j seen shown p q (front ++ back)
+          ≡ changed_places same props f (m + len seen front) (j + len shown front) seen shown p q back)
           → (b : Bool) → seen x ≡ b → (s : Bool) → shown x ≡ s
           → changed_places same props f n i seen shown p q (x ∷ front ++ back)
           ≡ changed_places same props f (n + len seen (x ∷ front)) (i + len shown (x ∷ front)) seen shown p q back
@@ -167,7 +170,8 @@ module _ {A U : Type 0} (seen shown : A → Bool) (f : U → A) (p q : ℕ) wher
       grind (arith, sees u, shows u, none-inside p q n h, rest)
 
   -- elements in the range
-  pub gone-inside : ((u : U) → seen (f u) ≡ true) → ((u : U) → shown (f u) ≡ true) → (runs : List GoneRun) (n i : ℕ) (u : U) (us : List U) (back : List A)
+  pub gone-inside : ((u : U) → seen (f u) ≡ true) → ((u : U) → shown (f u) ≡ true)
+      → (runs : List GoneRun) (n i : ℕ) (u : U) (us : List U) (back : List A)
       → p ≤ n → n + suc (length us) ≤ q
       → with_all_gone runs (gone_places n i seen shown p q (f u ∷ map f us ++ back))
       ≡ with_all_gone (with_gone_behind runs i (suc (length us))) (gone_places (n + suc (length us)) i seen shown p q back)

@@ -14,7 +14,8 @@ abbrev pub both_length : {C U : Type 0} → (C → List U) → LenView → LenVi
 both_length units view shown x = cond (sees_in view x.stamps) (leaf_length units shown x) 0
 
 -- before the leaf so many elements are seen and shown, and no more than p are seen
-pub record IsFront {C U : Type 0} (units : C → List U) (by : C → Option Stamp) (xs : List (ℕ × TreeLeaf C)) (view shown : LenView) (p : ℕ) (front : Front) : Type 0 where
+pub record IsFront {C U : Type 0} (units : C → List U) (by : C
+    → Option Stamp) (xs : List (ℕ × TreeLeaf C)) (view shown : LenView) (p : ℕ) (front : Front) : Type 0 where
   pub live : IsLeafIn xs front.leaf
   pub seen : front.seen ≡ len (seen_in view) (elements units by (left_of xs front.leaf))
   pub shown_before : front.shown ≡ len (seen_in shown) (elements units by (left_of xs front.leaf))

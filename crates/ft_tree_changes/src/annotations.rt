@@ -33,8 +33,8 @@ pub(crate) enum Annotation<'a> {
 /// The maximal runs of elements that `shown` sees among those that `view` sees from the `p`-th, counted from 0, up to
 /// before the `q`-th to which changes of the acknowledged properties give others than are shown now, equal ones in a run.
 ///
-/// It goes down to the first of them, and from there over the leaves up to the last one; what is shown of a leaf then is worked
-/// out once. Returns `OutOfMemory` where there is no room for that and for the runs.
+/// It goes down to the first of them, and from there over the leaves up to the last one, and works out once for each leaf
+/// what is shown of it then. Returns `OutOfMemory` where there is no room for that and for the runs.
 pub fn changed_runs<C: Content>(
     tree: &Tree<C>,
     p: u64,
@@ -71,9 +71,10 @@ pub fn changed_runs_at_stage<C: Content>(
     requires within { q ≤ len (seen_in view) (elements C.units C.by tree.now.leaves) }
 
     // Whichever stage it is.
-    ensures { let all = elements C.units C.by tree.now.leaves in
+    ensures { let change = λ (stage : ℕ). with_overlay (after_pending_changes stage changes.now) in
+        let all = elements C.units C.by tree.now.leaves in
         IfOk result (λ runs. (stage : ℕ) → runs.items
-        ≡ changed_runs same_props shown_of_element (with_overlay (after_pending_changes stage changes.now)) (seen_in view) (seen_in shown) p q all) }
+        ≡ changed_runs same_props shown_of_element (change stage) (seen_in view) (seen_in shown) p q all) }
 {
     annotated_runs(tree, p, q, view, shown, Annotation::Pending(changes))
 }
@@ -93,7 +94,8 @@ fn annotated_runs<C: Content>(
     requires order { p ≤ q }
     requires within { q ≤ len (seen_in view) (elements C.units C.by tree.now.leaves) }
     ensures { let all = elements C.units C.by tree.now.leaves in
-        IfOk result (λ runs. runs.items ≡ changed_runs same_props shown_of_element (with_overlay (annotated annotation.entry)) (seen_in view) (seen_in shown) p q all) }
+        let change = with_overlay (annotated annotation.entry) in
+        IfOk result (λ runs. runs.items ≡ changed_runs same_props shown_of_element change (seen_in view) (seen_in shown) p q all) }
 {
     if p == q {
         return Ok(Vec::new(tree.allocator()));
@@ -116,7 +118,8 @@ fn annotated_behind<C: Content>(
     requires front { IsFront C.units C.by tree.now.leaves view shown p front }
     requires order { p < q }
     ensures { let all = elements C.units C.by tree.now.leaves in
-        IfOk result (λ runs. runs.items ≡ changed_runs same_props shown_of_element (with_overlay (annotated annotation.entry)) (seen_in view) (seen_in shown) p q all) }
+        let change = with_overlay (annotated annotation.entry) in
+        IfOk result (λ runs. runs.items ≡ changed_runs same_props shown_of_element change (seen_in view) (seen_in shown) p q all) }
 {
     // What holds of the leaves at any time is read off its contract.
     let _first = tree.first_leaf();

@@ -19,7 +19,8 @@ use ft_tree::{Content, Tree};
 /// The maximal runs of elements that `shown` sees among those that `view` sees from the `p`-th, counted from 0, up to
 /// before the `q`-th.
 ///
-/// It goes down to the first of them, and from there over the leaves up to the last one. Returns `OutOfMemory` where there is no room for the runs.
+/// It goes down to the first of them, and from there over the leaves up to the last one. Returns `OutOfMemory` where there is
+/// no room for the runs.
 pub fn gone_runs<C: Content>(
     tree: &Tree<C>,
     p: u64,

@@ -26,8 +26,10 @@ loop-next-init g c =
       live = c.requires.front.live;
       seen = fits.0;
       shown = fits.1;
-      all = ap (λ rs. with_all_changed same_props rs (changed_places same_props shown_of_element change c.args.front.seen c.args.front.shown seen shown c.args.p c.args.q (held_from us by xs (Some c.args.front.leaf)))) c.new-runs.ensures.items
-          ∙ ap (with_all_changed same_props []) (changed-front us by xs c.first_leaf-first.ensures.once c.args.view c.args.shown c.args.p c.args.front c.requires.front (annotated c.args.annotation) c.args.q);
+      all = ap (λ rs. with_all_changed same_props rs (changed_places same_props shown_of_element change c.args.front.seen
+          c.args.front.shown seen shown c.args.p c.args.q (held_from us by xs (Some c.args.front.leaf)))) c.new-runs.ensures.items
+          ∙ ap (with_all_changed same_props []) (changed-front us by xs c.first_leaf-first.ensures.once c.args.view c.args.shown c.args.p
+          c.args.front c.requires.front (annotated c.args.annotation) c.args.q);
     }
 
 pub returns : goal.returns
@@ -39,7 +41,8 @@ returns g c =
     let shown = seen_in {U = g.row.C-Unit.Denot} c.args.shown in
     let change = with_overlay {U = g.row.C-Unit.Denot} (annotated c.args.annotation) in
     let l = c.loop-next in
-    ap (λ (o : Option ℕ). with_all_changed same_props l.runs.items (changed_places same_props shown_of_element change l.place l.before seen shown c.args.p c.args.q (held_from us by xs o))) (sym c.in_default.is)
+    ap (λ (o : Option ℕ). with_all_changed same_props l.runs.items (changed_places same_props shown_of_element change l.place l.before seen
+    shown c.args.p c.args.q (held_from us by xs o))) (sym c.in_default.is)
     ∙ l.invariant.all
     ∙ sym (shown_runs-placed shown_of_element change seen shown c.args.p c.args.q (elements us by xs))
 
@@ -129,7 +132,8 @@ returns-then-q-place g c =
     let change = with_overlay {U = g.row.C-Unit.Denot} (annotated c.args.annotation) in
     let l = c.loop-next in
     let past : c.args.q ≤ l.place = omega (arith, c.if-q-place.true) in
-    ap (with_all_changed same_props l.runs.items) (sym (changed-past same_props shown_of_element change seen shown c.args.p c.args.q l.place l.before (held_from us by xs l.next) past))
+    ap (with_all_changed same_props l.runs.items) (sym (changed-past same_props shown_of_element change seen shown c.args.p c.args.q
+    l.place l.before (held_from us by xs l.next) past))
     ∙ l.invariant.all
     ∙ sym (shown_runs-placed shown_of_element change seen shown c.args.p c.args.q (elements us by xs))
 
@@ -152,15 +156,20 @@ loop-next-preserved g c =
     let n = c.part_within-part.result.count in
     let fit = counts-fit us by xs once id live next on c.args.view c.args.shown _ _ _ c.counts_of-counts.ensures.seen c.counts_of-counts.ensures.shown
     c.counts_of-counts.ensures.both in
-    let step = changed-on us by xs once id live next on c.args.view c.args.shown _ _ _ c.counts_of-counts.ensures.seen c.counts_of-counts.ensures.shown
-    c.counts_of-counts.ensures.both (annotated c.args.annotation) _ c.leaf_overlay-overlay.ensures c.args.p c.args.q l.runs.items l.place l.before k n c.part_within-part.ensures.inside c.part_within-part.ensures.before
+    let step = changed-on us by xs once id live next on c.args.view c.args.shown _ _ _ c.counts_of-counts.ensures.seen
+    c.counts_of-counts.ensures.shown
+    c.counts_of-counts.ensures.both (annotated c.args.annotation) _ c.leaf_overlay-overlay.ensures c.args.p c.args.q l.runs.items l.place
+    l.before k n c.part_within-part.ensures.inside c.part_within-part.ensures.before
     c.part_within-part.ensures.count c.part_within-part.ensures.behind in
     record {
       live = subst (IsPlaceIn xs) (sym on) (after_in_place xs id);
       seen = omega (arith, at_leaf, fit.seen_fit, l.invariant.seen);
       shown = omega (arith, at_leaf, fit.shown_fit, l.invariant.shown);
-      all = ap (λ rs. with_all_changed same_props rs (changed_places same_props shown_of_element change (l.place + c.counts_of-counts.result.seen) (l.before + c.counts_of-counts.result.shown) seen shown c.args.p c.args.q (held_from us by xs next))) c.in_ok-push_annotated.ensures
+      all = ap (λ rs. with_all_changed same_props rs (changed_places same_props shown_of_element change
+          (l.place + c.counts_of-counts.result.seen) (l.before + c.counts_of-counts.result.shown) seen shown c.args.p c.args.q
+          (held_from us by xs next))) c.in_ok-push_annotated.ensures
           ∙ sym step
-          ∙ ap (λ (o : Option ℕ). with_all_changed same_props l.runs.items (changed_places same_props shown_of_element change l.place l.before seen shown c.args.p c.args.q (held_from us by xs o))) (sym c.in-Some.is)
+          ∙ ap (λ (o : Option ℕ). with_all_changed same_props l.runs.items (changed_places same_props shown_of_element change l.place
+          l.before seen shown c.args.p c.args.q (held_from us by xs o))) (sym c.in-Some.is)
           ∙ l.invariant.all;
     }

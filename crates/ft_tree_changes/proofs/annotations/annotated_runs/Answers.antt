@@ -11,4 +11,5 @@ returns-then-p-q g c =
     let empty : c.args.q ≤ c.args.p = omega (arith, c.if-p-q.true) in
     let all = elements g.C.Content.units g.C.Content.by c.args.tree.now.leaves in
     c.new.ensures.items
-    ∙ sym (changed-empty (seen_in c.args.view) (seen_in c.args.shown) c.args.p c.args.q empty same_props shown_of_element (with_overlay (annotated c.args.annotation)) 0 0 all)
+    ∙ sym (changed-empty (seen_in c.args.view) (seen_in c.args.shown) c.args.p c.args.q empty same_props shown_of_element
+    (with_overlay (annotated c.args.annotation)) 0 0 all)

@@ -15,5 +15,6 @@ returns g c =
     IfOk-weaker c.annotated_runs.result _ _
     (λ runs made (stage : ℕ). made
     ∙ changed_runs-alike same_props shown_of_element (with_overlay (after_pending_changes 0 set)) (with_overlay (after_pending_changes stage set))
-    (λ (e : TreeElement g.row.C-Unit.Denot). shown-on_top 0 set e.overlay ∙ sym (shown-on_top stage set e.overlay)) (seen_in c.args.view) (seen_in c.args.shown) c.args.p c.args.q 0 0 all)
+    (λ (e : TreeElement g.row.C-Unit.Denot). shown-on_top 0 set e.overlay ∙ sym (shown-on_top stage set e.overlay)) (seen_in c.args.view)
+    (seen_in c.args.shown) c.args.p c.args.q 0 0 all)
     c.annotated_runs.ensures

@@ -28,23 +28,27 @@ pub unreachable-requires-in_default-leaf : goal.unreachable-requires-in_default-
 unreachable-requires-in_default-leaf g c =
     let xs = c.args.tree.now.leaves in
     let found = c.in-Some.found in
-    let front = found_front (leaf_length g.C.Content.units c.args.view) xs (c.args.p + 1) found c.first_leaf-first.ensures.once (omega arith) (sym c.find.ensures ∙ c.in-Some.is) in
+    let front = found_front (leaf_length g.C.Content.units c.args.view) xs (c.args.p + 1) found c.first_leaf-first.ensures.once
+    (omega arith) (sym c.find.ensures ∙ c.in-Some.is) in
     let some = front.is in let none = c.in_default-leaf.is in (cc)
 
 pub overflow_sub-seen : goal.overflow_sub-seen
 overflow_sub-seen g c =
     let xs = c.args.tree.now.leaves in
     let found = c.in-Some.found in
-    let front = found_front (leaf_length g.C.Content.units c.args.view) xs (c.args.p + 1) found c.first_leaf-first.ensures.once (omega arith) (sym c.find.ensures ∙ c.in-Some.is) in
+    let front = found_front (leaf_length g.C.Content.units c.args.view) xs (c.args.p + 1) found c.first_leaf-first.ensures.once
+    (omega arith) (sym c.find.ensures ∙ c.in-Some.is) in
     omega (arith, front.count)
 
 pub position_of-shown-requires-clause-live : goal.position_of-shown-requires-clause-live
 position_of-shown-requires-clause-live g c =
-    let front = front-found g.C.Content.units g.C.Content.by c.args.tree.now.leaves c.first_leaf-first.ensures.once c.args.view c.args.shown c.args.p c.in-Some.found
+    let front = front-found g.C.Content.units g.C.Content.by c.args.tree.now.leaves c.first_leaf-first.ensures.once c.args.view
+    c.args.shown c.args.p c.in-Some.found
     c.in-Some-leaf.leaf _ _ (sym c.find.ensures ∙ c.in-Some.is) c.in-Some-leaf.is refl refl in
     front.live
 
 pub returns : goal.returns
 returns g c =
-    front-found g.C.Content.units g.C.Content.by c.args.tree.now.leaves c.first_leaf-first.ensures.once c.args.view c.args.shown c.args.p c.in-Some.found
+    front-found g.C.Content.units g.C.Content.by c.args.tree.now.leaves c.first_leaf-first.ensures.once c.args.view c.args.shown c.args.p
+    c.in-Some.found
     c.in-Some-leaf.leaf _ _ (sym c.find.ensures ∙ c.in-Some.is) c.in-Some-leaf.is refl c.position_of-shown.ensures

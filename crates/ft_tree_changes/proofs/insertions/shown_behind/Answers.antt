@@ -13,7 +13,8 @@ use Rattle.ft_tree_changes.proofs.insertions.shown_behind.Goals as goal
 use Rattle.ft_tree_changes.proofs.insertions.shown_behind.Goals.{else-offset-len-via-then-offset-len+else-not-is_pending, else-offset-len-via-else-offset-len}
 
 pub shown_pending-requires-clause-live : goal.shown_pending-requires-clause-live
-shown_pending-requires-clause-live g c = subst (IsPlaceIn c.args.tree.now.leaves) (sym c.next_leaf.ensures) (after_in_place c.args.tree.now.leaves c.args.id)
+shown_pending-requires-clause-live g c = subst (IsPlaceIn c.args.tree.now.leaves) (sym c.next_leaf.ensures)
+    (after_in_place c.args.tree.now.leaves c.args.id)
 
 pub overflow_add-result : goal.overflow_add-result
 overflow_add-result g c =
@@ -42,7 +43,8 @@ overflow_add-result-3 g c =
     let xs = c.args.tree.now.leaves in
     let next = c.next_leaf.result in
     let front = front-most us by xs (seen_in c.args.shown) c.args.id in
-    let held = held-on us by xs c.first_leaf-first.ensures.once c.args.id c.requires.live next c.leaf_len-len.result c.next_leaf.ensures c.leaf_len-len.ensures.value in
+    let held = held-on us by xs c.first_leaf-first.ensures.once c.args.id c.requires.live next c.leaf_len-len.result c.next_leaf.ensures
+    c.leaf_len-len.ensures.value in
     let count = if-most c.leaf_is_seen-is_shown.result c.leaf_len-len.result in
     let run = run-most is_pending (seen_in c.args.shown) (held_from us by xs next) in
     omega (arith, c.position_of-left.ensures, c.count_if-2.ensures, c.shown_pending.ensures, front, held, count, run, c.first_leaf-first.ensures.few)
@@ -76,7 +78,8 @@ returns g c =
     ∙ ap (λ n. left + cond s len 0 + n) c.shown_pending.ensures
     ∙ elim c.else-offset-len.branch [
       | else-offset-len-via-then-offset-len+else-not-is_pending w ↦
-          front-on us by xs once c.args.id c.requires.live c.args.shown len c.args.offset left s w.leaf_element.result.now c.leaf_len-len.ensures.value
+          front-on us by xs once c.args.id c.requires.live c.args.shown len c.args.offset left s w.leaf_element.result.now
+          c.leaf_len-len.ensures.value
           c.leaf_is_seen-is_shown.ensures w.leaf_element.ensures c.position_of-left.ensures fits
           (λ less. sym w.is_pending.ensures ∙ w.if-not-is_pending.false) c.next_leaf.result c.next_leaf.ensures
       | else-offset-len-via-else-offset-len w ↦

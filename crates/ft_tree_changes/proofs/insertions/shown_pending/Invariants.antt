@@ -14,7 +14,8 @@ invariant-loop-next g l =
     let xs = l.tree.leaves in
     record {
       live : IsPlaceIn xs l.next;
-      run : l.count + shown_in_run is_pending (seen_in l.shown) (held_from us by xs l.next) ≡ shown_in_run is_pending (seen_in l.shown) (held_from us by xs l.fn.from);
+      run : l.count + shown_in_run is_pending (seen_in l.shown) (held_from us by xs l.next)
+          ≡ shown_in_run is_pending (seen_in l.shown) (held_from us by xs l.fn.from);
     }
 
 abbrev pub decreases-loop-next : goal.decreases-loop-next

@@ -22,8 +22,10 @@ loop-next-init g c =
       live = c.requires.front.live;
       seen = fits.0;
       shown = fits.1;
-      all = ap (λ rs. with_all_gone rs (gone_places c.args.front.seen c.args.front.shown seen shown c.args.p c.args.q (held_from us by xs (Some c.args.front.leaf)))) c.new-runs.ensures.items
-          ∙ ap (with_all_gone []) (gone-front us by xs c.first_leaf-first.ensures.once c.args.view c.args.shown c.args.p c.args.front c.requires.front c.args.q);
+      all = ap (λ rs. with_all_gone rs (gone_places c.args.front.seen c.args.front.shown seen shown c.args.p c.args.q
+          (held_from us by xs (Some c.args.front.leaf)))) c.new-runs.ensures.items
+          ∙ ap (with_all_gone []) (gone-front us by xs c.first_leaf-first.ensures.once c.args.view c.args.shown c.args.p c.args.front
+          c.requires.front c.args.q);
     }
 
 pub returns : goal.returns
@@ -34,7 +36,8 @@ returns g c =
     let seen = seen_in {U = g.row.C-Unit.Denot} c.args.view in
     let shown = seen_in {U = g.row.C-Unit.Denot} c.args.shown in
     let l = c.loop-next in
-    ap (λ (o : Option ℕ). with_all_gone l.runs.items (gone_places l.place l.left seen shown c.args.p c.args.q (held_from us by xs o))) (sym c.in_default.is)
+    ap (λ (o : Option ℕ). with_all_gone l.runs.items (gone_places l.place l.left seen shown c.args.p c.args.q (held_from us by xs o)))
+    (sym c.in_default.is)
     ∙ l.invariant.all
     ∙ sym (gone_runs-placed seen shown c.args.p c.args.q 0 0 (elements us by xs))
 
@@ -156,14 +159,17 @@ loop-next-preserved g c =
     let fit = counts-fit us by xs once id live next on c.args.view c.args.shown _ _ _ c.counts_of-counts.ensures.seen c.counts_of-counts.ensures.shown
     c.counts_of-counts.ensures.both in
     let step = gone-on us by xs once id live next on c.args.view c.args.shown _ _ _ c.counts_of-counts.ensures.seen c.counts_of-counts.ensures.shown
-    c.counts_of-counts.ensures.both c.args.p c.args.q l.runs.items l.place l.left k n c.part_within-part.ensures.inside c.part_within-part.ensures.before
+    c.counts_of-counts.ensures.both c.args.p c.args.q l.runs.items l.place l.left k n c.part_within-part.ensures.inside
+    c.part_within-part.ensures.before
     c.part_within-part.ensures.count c.part_within-part.ensures.behind in
     record {
       live = subst (IsPlaceIn xs) (sym on) (after_in_place xs id);
       seen = omega (arith, at_leaf, fit.seen_fit, l.invariant.seen);
       shown = omega (arith, at_leaf, fit.shown_fit, l.invariant.shown);
-      all = ap (λ rs. with_all_gone rs (gone_places (l.place + c.counts_of-counts.result.seen) (l.left + (c.counts_of-counts.result.shown - n)) seen shown c.args.p c.args.q (held_from us by xs next))) c.in_ok-push_gone.ensures
+      all = ap (λ rs. with_all_gone rs (gone_places (l.place + c.counts_of-counts.result.seen)
+          (l.left + (c.counts_of-counts.result.shown - n)) seen shown c.args.p c.args.q (held_from us by xs next))) c.in_ok-push_gone.ensures
           ∙ sym step
-          ∙ ap (λ (o : Option ℕ). with_all_gone l.runs.items (gone_places l.place l.left seen shown c.args.p c.args.q (held_from us by xs o))) (sym c.in-Some.is)
+          ∙ ap (λ (o : Option ℕ). with_all_gone l.runs.items (gone_places l.place l.left seen shown c.args.p c.args.q
+          (held_from us by xs o))) (sym c.in-Some.is)
           ∙ l.invariant.all;
     }
