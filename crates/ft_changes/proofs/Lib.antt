@@ -39,3 +39,6 @@ pub mod SetCells
 pub mod RestSteps
 pub mod RunsInOrder
 pub mod SameShown
+pub mod HeardChanges
+pub mod RunsBeside
+pub mod ToldNext

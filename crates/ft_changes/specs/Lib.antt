@@ -5,3 +5,4 @@ pub mod Told
 pub mod Telling
 pub mod Laws
 pub mod Rest
+pub mod Listeners

@@ -4,11 +4,13 @@
 pub mod changes;
 mod items;
 pub mod laws;
+pub mod listeners;
 pub mod rest;
 pub mod runs;
 pub mod telling;
 
 pub use changes::{ViewChange, ViewChanges};
+pub use listeners::Listener;
 pub use rest::{ShownRest, add_rest};
 pub use runs::{StyledRun, TakenRun};
 pub use telling::Telling;

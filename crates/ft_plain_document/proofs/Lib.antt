@@ -1,4 +1,3 @@
-pub mod HeardChanges
 pub mod IntervalTaken
 pub mod RenamedNames
 pub mod ShownStages

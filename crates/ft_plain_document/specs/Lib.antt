@@ -1,5 +1,4 @@
 pub mod LentLists
-pub mod Listeners
 pub mod OwnEdits
 pub mod Renamed
 pub mod SubOperations

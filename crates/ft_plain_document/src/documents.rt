@@ -5,12 +5,13 @@ ghost use Rattle.ft_op.specs.Operation.{sub_operations};
 ghost use Rattle.ft_op.specs.Document.{effects, empty, with_skip};
 ghost use Rattle.ft_msg.specs.Agreed.{body_effect, reference_number, take_entry, with_numbers};
 ghost use Rattle.ft_msg.specs.WellFormed.{HasNumbersInRange};
+ghost use Rattle.ft_changes.specs.Listeners.{heard};
 ghost use Rattle.ft_changes.specs.Told.{told_body, told_sub_operations};
-ghost use Rattle.ft_plain_document.specs.Listeners.{heard};
 
 mod acknowledgements;
 pub(crate) mod building;
 mod grid_effects;
+mod hearing;
 pub(crate) mod held;
 mod interval_effects;
 pub(crate) mod own_cells;
@@ -23,10 +24,9 @@ mod telling;
 mod text_effects;
 mod trimming;
 
-use crate::listeners::Listener;
 use building::DocumentNumbers;
 use ft_base::{OutOfMemory, Perspective};
-use ft_changes::ViewChanges;
+use ft_changes::{Listener, ViewChanges};
 use ft_msg::{Body, Entry};
 use ft_op::ChannelOp;
 use ft_plain_lists::{PlainCells, PlainElement, PlainInterval, PlainIntervals, PlainList};

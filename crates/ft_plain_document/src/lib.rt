@@ -4,7 +4,6 @@
 #![tactic(auto)]
 
 mod documents;
-mod listeners;
 mod moved;
 mod renamings;
 mod stages;
@@ -13,6 +12,5 @@ pub use documents::PlainDocument;
 pub use documents::building::{DocumentNumbers, GridParts, TextParts};
 pub use documents::held::Held;
 pub use documents::own_edits::NotTaken;
-pub use listeners::Listener;
 pub use renamings::Renaming;
 pub use stages::{PlainStage, PlainStages, SubOp, renamed_stages};

@@ -3,15 +3,16 @@
 ghost use Rattle.std.specs.Prelude.{◌≡◌, ◌+◌, OnOk};
 ghost use Rattle.ft_op.specs.Operation.{sub_operations};
 ghost use Rattle.ft_msg.specs.Client.{local_sub_operations};
+ghost use Rattle.ft_changes.specs.Listeners.{heard};
 ghost use Rattle.ft_changes.specs.Told.{told_locals};
 ghost use Rattle.ft_replica.specs.Own.{AnswersStages, HeldDocument};
-ghost use Rattle.ft_plain_document.specs.Listeners.{heard};
 ghost use Rattle.ft_plain.specs.Own.{HoldsExactly};
 
 use crate::own::PlainOwn;
+use ft_changes::Listener;
 use ft_msg::EditFault;
 use ft_op::ChannelOp;
-use ft_plain_document::{Listener, NotTaken};
+use ft_plain_document::NotTaken;
 
 impl PlainOwn {
     /// Takes an edit as pending stages behind the last one, and returns how many; the listener hears how the shown elements of

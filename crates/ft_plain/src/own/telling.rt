@@ -2,10 +2,9 @@
 
 use crate::own::PlainOwn;
 use ft_base::OutOfMemory;
-use ft_changes::{ShownRest, ViewChanges};
+use ft_changes::{Listener, ShownRest, ViewChanges};
 use ft_msg::{EditFault, Entry};
 use ft_op::ChannelOp;
-use ft_plain_document::Listener;
 use ft_replica::{Compared, TellingDocument, ToldEdit};
 
 impl TellingDocument for PlainOwn {

@@ -5,13 +5,13 @@ ghost use Rattle.std.specs.Borrow.{sem};
 ghost use Rattle.ft_op.specs.declared.operations.ChannelOp.TheVariants.{Grid};
 ghost use Rattle.ft_op.specs.Operation.{OnGrid, sub_operations};
 ghost use Rattle.ft_op.specs.Document.{effects, grid_effect, rows_or_cols};
+ghost use Rattle.ft_changes.specs.Listeners.{heard};
 ghost use Rattle.ft_changes.specs.Told.{told_sub_operations};
 ghost use Rattle.ft_plain_document.specs.LentLists.{lends_list};
-ghost use Rattle.ft_plain_document.specs.Listeners.{heard};
 
 use crate::documents::PlainDocument;
-use crate::listeners::Listener;
 use ft_base::{OutOfMemory, Perspective};
+use ft_changes::Listener;
 use ft_json::ValText;
 use ft_op::{CellOp, GridOp, Target};
 use ft_plain_lists::PlainList;
@@ -31,7 +31,7 @@ impl PlainDocument {
     {
         match op {
             GridOp::One(op) => {
-                listener.hear_grid(self, last, op, at)?;
+                self.tell_grid(listener, last, op, at)?;
                 self.apply_cell_op(op, seq, at)
             }
             GridOp::Group(ops) => self.apply_cell_ops(ops.as_slice(), seq, at, last, listener),
@@ -51,7 +51,7 @@ impl PlainDocument {
         ensures told { OnOk result (listener.new ≡ heard listener.old (told_sub_operations last self.old seq at.c at.r (map (λ op. OnGrid op) ops.now))) }
     {
         for op in ops {
-            listener.hear_grid(self, last, op, at)?;
+            self.tell_grid(listener, last, op, at)?;
             self.apply_cell_op(op, seq, at)?;
         }
         Ok(())

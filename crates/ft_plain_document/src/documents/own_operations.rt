@@ -3,18 +3,18 @@
 ghost use Rattle.std.specs.Prelude.{◌≡◌, ◌≤◌, ◌++◌, [], Err, IfErr, IfOk, Ok, OnOk, length, map};
 ghost use Rattle.ft_op.specs.Operation.{sub_operations};
 ghost use Rattle.ft_msg.specs.Client.{local_sub_operation, local_sub_operations};
+ghost use Rattle.ft_changes.specs.Listeners.{heard};
 ghost use Rattle.ft_changes.specs.Told.{told_locals};
-ghost use Rattle.ft_plain_document.specs.Listeners.{heard};
 ghost use Rattle.ft_plain_document.specs.OwnEdits.{AnswersSteps, AnswersSubOperation, LeavesRefused, TakesStage};
 ghost use Rattle.ft_plain_document.specs.SubOperations.{sub_operation_of};
 
 use crate::documents::PlainDocument;
 use crate::documents::own_edits::NotTaken;
-use crate::listeners::Listener;
 use crate::moved::fill_with;
 use crate::stages::{PlainStage, PlainStages, SubOp, sub_operations};
 use ft_base::OutOfMemory;
 use ft_base::moved::{after, all_three, beside, both};
+use ft_changes::Listener;
 use ft_op::ChannelOp;
 use ft_plain_lists::ElementNames;
 use std::collections::VecDeque;
@@ -93,7 +93,7 @@ impl PlainDocument {
     {
         let mut stage = first;
         while let Some(op) = ops.pop_front() {
-            listener.hear_local(self, stage, &op)?;
+            self.tell_local(listener, stage, &op)?;
             self.take_one(pending, stages, stage, op)?;
             stage = stage.checked_add(1).ok_or(OutOfMemory)?;
         }

@@ -3,13 +3,13 @@
 ghost use Rattle.std.specs.Prelude.{◌≡◌, ℕ, IfOk, OnOk, map};
 ghost use Rattle.ft_op.specs.Operation.{OnText, segment_contents, text_sub_operations};
 ghost use Rattle.ft_op.specs.Document.{effects, text_effect};
+ghost use Rattle.ft_changes.specs.Listeners.{heard};
 ghost use Rattle.ft_changes.specs.Told.{told_sub_operations};
 ghost use Rattle.ft_plain_lists.specs.Contents.{content_of};
-ghost use Rattle.ft_plain_document.specs.Listeners.{heard};
 
 use crate::documents::PlainDocument;
-use crate::listeners::Listener;
 use ft_base::{OutOfMemory, Perspective, Stamp};
+use ft_changes::Listener;
 use ft_op::{BaseOp, Seg, TextOp};
 use ft_plain_lists::{Content, characters};
 use ft_props::{Changes, PropSet, Props};
@@ -30,7 +30,7 @@ impl PlainDocument {
     {
         match op {
             TextOp::One(op) => {
-                listener.hear_text(self, last, op, at)?;
+                self.tell_text(listener, last, op, at)?;
                 self.apply_text_op(op, seq, at)
             }
             TextOp::Group(ops) => self.apply_text_ops(ops.as_slice(), seq, at, last, listener),
@@ -63,7 +63,7 @@ impl PlainDocument {
         ensures told { OnOk result (listener.new ≡ heard listener.old (told_sub_operations last self.old seq at.c at.r (map (λ op. OnText op) ops.now))) }
     {
         for op in ops {
-            listener.hear_text(self, last, op, at)?;
+            self.tell_text(listener, last, op, at)?;
             self.apply_text_op(op, seq, at)?;
         }
         Ok(())

@@ -2,7 +2,7 @@ use Rattle.std.proofs.Common.{◌≡◌, drop, map}
 use Rattle.ft_op.specs.Operation.{OnGrid}
 use Rattle.ft_op.specs.Document.{effects}
 use Rattle.ft_changes.specs.Told.{told_sub_operations}
-use Rattle.ft_plain_document.specs.Listeners.{heard}
+use Rattle.ft_changes.specs.Listeners.{heard}
 use Rattle.ft_plain_document.proofs.documents.PlainDocument.apply_cell_ops.Given as goal
 
 -- the rest of the operations makes of the document what all made of the one at first, and the listener hears the rest of what is told

@@ -4,8 +4,8 @@ use Rattle.ft_msg.specs.Client.{local_sub_operations}
 use Rattle.ft_plain_document.specs.OwnEdits.{with_stages}
 use Rattle.ft_plain_document.specs.SubOperations.{sub_operation_of}
 use Rattle.ft_changes.specs.Told.{told_local, told_locals}
-use Rattle.ft_plain_document.specs.Listeners.{heard}
-use Rattle.ft_plain_document.proofs.HeardChanges.{heard-more}
+use Rattle.ft_changes.specs.Listeners.{heard}
+use Rattle.ft_changes.proofs.HeardChanges.{heard-more}
 use Rattle.ft_plain_document.proofs.OwnSteps.{first_taken, first_told}
 use Rattle.ft_plain_document.proofs.documents.PlainDocument.take_all.Goals as goal
 
@@ -29,7 +29,7 @@ loop-op-preserved c =
     let sub = sub_operation_of op in
     let others = map sub_operation_of rest in
     let behind = told_locals new (pending ++ (l.stages ++ (here ∷ []))) (l.stage + 1) others in
-    let told = ap (λ listener. heard listener behind) c.in_ok-hear_local.ensures
+    let told = ap (λ listener. heard listener behind) c.in_ok-tell_local.ensures
     ∙ heard-more l.listener (told_local l.stage l.self sub) behind
     ∙ ap (heard l.listener) (sym (first_told l.self pending l.stages l.stage sub others (new, names) taken.takes))
     ∙ ap (λ ops. heard l.listener (told_locals l.self (pending ++ l.stages) l.stage (map sub_operation_of ops))) (sym popped)

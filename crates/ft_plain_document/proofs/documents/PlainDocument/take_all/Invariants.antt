@@ -1,7 +1,7 @@
 use Rattle.std.proofs.Common.{◌≡◌, ◌+◌, [], ◌++◌, length, map}
 use Rattle.ft_msg.specs.Client.{local_sub_operations}
 use Rattle.ft_changes.specs.Told.{told_locals}
-use Rattle.ft_plain_document.specs.Listeners.{heard}
+use Rattle.ft_changes.specs.Listeners.{heard}
 use Rattle.ft_plain_document.specs.OwnEdits.{with_stages}
 use Rattle.ft_plain_document.specs.SubOperations.{sub_operation_of}
 use Rattle.ft_plain_document.proofs.documents.PlainDocument.take_all.Given as goal

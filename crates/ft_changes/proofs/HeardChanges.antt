@@ -1,8 +1,8 @@
 -- What a listener heard, of changes one after another.
 use Rattle.std.proofs.Common.{◌≡◌, Bool, true, false, cond, List, [], ◌++◌, ap, append_assoc, append-nil}
 use Rattle.ft_changes.specs.declared.changes.ViewChange.{ViewChange}
-use Rattle.ft_plain_document.specs.declared.listeners.Listener.{Listener}
-use Rattle.ft_plain_document.specs.Listeners.{heard}
+use Rattle.ft_changes.specs.declared.listeners.Listener.{Listener}
+use Rattle.ft_changes.specs.Listeners.{heard}
 
 all-heard : (b : Bool) (old more rest : List ViewChange) → (old ++ cond b more []) ++ cond b rest [] ≡ old ++ cond b (more ++ rest) []
 all-heard true old more rest = append_assoc old more rest

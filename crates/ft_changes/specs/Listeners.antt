@@ -1,7 +1,7 @@
 -- What a listener heard.
 use Rattle.std.specs.Prelude.{List, [], ◌++◌, cond}
 use Rattle.ft_changes.specs.declared.changes.ViewChange.{ViewChange}
-use Rattle.ft_plain_document.specs.declared.listeners.Listener.{Listener}
+use Rattle.ft_changes.specs.declared.listeners.Listener.{Listener}
 
 -- after these changes, which only one that listens hears
 abbrev pub heard : Listener → List ViewChange → Listener
