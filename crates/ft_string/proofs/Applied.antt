@@ -45,7 +45,7 @@ pub same-place : (o : Option ℕ) → option_map (λ i. i) o ≡ o
 same-place None = refl
 same-place (Some i) = refl
 
-le-false : (m n : ℕ) → n < m → nat_le m n ≡ false
+pub le-false : (m n : ℕ) → n < m → nat_le m n ≡ false
 le-false m n l = grind (arith, nat_tests)
 
 pub choice-true : {A : Type 0} (b : Bool) (x y : A) → b ≡ true → cond b x y ≡ x

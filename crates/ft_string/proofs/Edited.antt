@@ -54,7 +54,7 @@ pub count-is : (tree : TreeState TextContent) (c : CollectionsState) (ops : List
     → seen_count (state_of tree c ops given usable) ≡ len (seen_in last_stage) (text_elements tree)
 count-is tree c ops given usable = count-bare (text_elements tree)
 
-count-held : (last : ℕ) → last < 18446744073709551616 → (tree : TreeState TextContent) (c : CollectionsState) (ops : List PendingOp)
+pub count-held : (last : ℕ) → last < 18446744073709551616 → (tree : TreeState TextContent) (c : CollectionsState) (ops : List PendingOp)
     (given : ℕ) (usable : Bool) (doc : Document)
     (stages : List Stage) → AreUpTo last doc.text.items → HoldsText (state_of tree c ops given usable) doc stages
     → seen_count (state_of tree c ops given usable) ≡ len (seen last) doc.text.items

@@ -9,6 +9,8 @@ pub mod Depths
 pub mod Wholes
 pub mod Standing
 pub mod Edited
+pub mod ToldChains
+pub mod ToldTexts
 pub mod RisingBeside
 pub mod Intervals
 pub mod AppliedIntervals

@@ -106,7 +106,7 @@ stage_of k op = record { stage = k; sub_operation = OnText op; names = no_elemen
 
 module _ (c : CollectionsState) (ops : List PendingOp) (given : ℕ) (usable : Bool) (stages : List Stage) where
   -- a stage more on elements
-  push-op : (tree : TreeState TextContent) (doc : Document) (m : ℕ) (op : BaseOp) → Holds tree c ops given usable (m + 1) doc stages
+  pub push-op : (tree : TreeState TextContent) (doc : Document) (m : ℕ) (op : BaseOp) → Holds tree c ops given usable (m + 1) doc stages
       → Holds tree c (ops ++ (record { stage = m + 1; op = op } ∷ [])) given usable (m + 1) doc (stages ++ (stage_of (m + 1) op ∷ []))
   push-op tree doc m op h = record {
     named = record {
@@ -152,7 +152,7 @@ module _ (c : CollectionsState) (ops : List PendingOp) (given : ℕ) (usable : B
         → place_of_end new.refs r ≡ option_map (λ i. i) (place_of_end tree.refs r)
     unmoved changes r = end-moved (λ i. i) tree.refs new.refs changes r
 
-    taken-op : (op : BaseOp) → TakesOp (m + 1) op tree new → Holds new c ops given usable (m + 1) (taken_document m op doc) stages
+    pub taken-op : (op : BaseOp) → TakesOp (m + 1) op tree new → Holds new c ops given usable (m + 1) (taken_document m op doc) stages
     taken-op (Insert p seg props) t =
         let us = segment_contents seg in
         let b = elements-of c ops given usable m stages tree doc h in
@@ -183,7 +183,7 @@ abbrev pub AreOrdered : List BaseOp → Type 0
 AreOrdered [] = Unit {0}
 AreOrdered (op ∷ os) = IsOrdered op × AreOrdered os
 
-fits-true : (p n : ℕ) (doc : Document) → nat_le p n ≡ true → if_in_range p n doc ≡ Ok (doc, no_elements)
+pub fits-true : (p n : ℕ) (doc : Document) → nat_le p n ≡ true → if_in_range p n doc ≡ Ok (doc, no_elements)
 fits-true p n doc h = ap (λ b. cond b (Ok (doc, no_elements)) (Err (OutOfRange n))) h
 
 fits-false : (p n : ℕ) (doc : Document) → nat_le p n ≡ false → if_in_range p n doc ≡ Err (OutOfRange n)
@@ -192,7 +192,7 @@ fits-false p n doc h = ap (λ b. cond b (Ok (doc, no_elements)) (Err (OutOfRange
 refused-as : {a b : EditFault} → a ≡ b → let r : Result (Document × NamedElements) EditFault = Err a in let s : Result (Document × NamedElements) EditFault = Err b in r ≡ s
 refused-as h = (cc)
 
-count-step : (b : Bool) (r : Result ℕ EditFault) (fault : EditFault) → is_ok (cond b r (Err fault)) ≡ true → (b ≡ true) × (is_ok r ≡ true)
+pub count-step : (b : Bool) (r : Result ℕ EditFault) (fault : EditFault) → is_ok (cond b r (Err fault)) ≡ true → (b ≡ true) × (is_ok r ≡ true)
 count-step true r fault h = (refl, h)
 count-step false r fault h = (cc)
 
@@ -201,7 +201,7 @@ count-refused : (b : Bool) (r : Result ℕ EditFault) (mine fault : EditFault) �
 count-refused true r mine fault h = inl (refl, h)
 count-refused false r mine fault h = inr (refl, (cc))
 
-le-back : (m n : ℕ) → nat_le m n ≡ true → m ≤ n
+pub le-back : (m n : ℕ) → nat_le m n ≡ true → m ≤ n
 le-back m n h = grind (arith, nat_tests)
 
 -- operations that fit are taken, and what they make is held

@@ -3,6 +3,7 @@ pub mod State
 pub mod Holds
 pub mod Edits
 pub mod Parts
+pub mod Told
 pub mod Acks
 pub mod Rejoins
 pub mod Calls

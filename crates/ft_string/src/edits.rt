@@ -4,6 +4,8 @@ ghost use Rattle.std.specs.Prelude.{◌≡◌, ◌≢◌, ◌+◌, ◌*◌, ◌-
 ghost use Rattle.std.specs.List.{AllByRecursion};
 ghost use Rattle.ft_base.specs.Scan.{len};
 ghost use Rattle.ft_block.specs.declared.leaves.LenView.TheVariants.{Stage as at_stage};
+ghost use Rattle.ft_changes.specs.Listeners.{heard};
+ghost use Rattle.ft_changes.specs.Told.{told_locals};
 ghost use Rattle.ft_interval.specs.State.{StandsOn};
 ghost use Rattle.ft_interval_store.specs.Intervals.{name_in};
 ghost use Rattle.ft_interval_store.specs.State.{IsAboveAll, IsAsBefore, IsRefusedEdit, Pushes, is_add, is_interval_operation, is_shown, placed, text_elements};
@@ -21,13 +23,16 @@ ghost use Rattle.ft_string.specs.Edits.{IsShort, edit_fault_of, is_refusal, seen
 ghost use Rattle.ft_string.specs.Holds.{HoldsSome, HoldsText, IsTextSound};
 ghost use Rattle.ft_string.specs.Parts.{TakesOp, TakesOps, noted};
 ghost use Rattle.ft_string.specs.State.{KeepsRest};
+ghost use Rattle.ft_string.specs.Told.{told_of_all_own, told_of_own};
 
 use crate::pending::PendingOp;
 use crate::strings::SharedString;
+use crate::telling::tell_own;
 use ft_arena::NodeId;
 use ft_base::moved::push_behind;
 use ft_base::{Datum, OutOfMemory, Steps};
 use ft_block::LenView;
+use ft_changes::Listener;
 use ft_interval::Collections;
 use ft_interval_store::IntervalFault;
 use ft_msg::EditFault;
@@ -74,12 +79,13 @@ fn note(pending: &mut VecDeque<PendingOp>, op: &BaseOp, stage: u64) -> Result<()
     push_behind(pending, PendingOp { stage, op })
 }
 
-// Makes an operation at a pending stage, and notes it.
+// Makes an operation at a pending stage, and notes it. The listener hears how the shown elements change.
 fn take_noted<G: Ledger>(
     tree: &mut Tree<TextContent>,
     pending: &mut VecDeque<PendingOp>,
     op: &BaseOp,
     stage: u64,
+    listener: &mut Listener,
     steps: &mut Steps<G>,
 ) -> Result<(), OutOfMemory>
     requires usable { IsTrue tree.old.usable }
@@ -89,19 +95,22 @@ fn take_noted<G: Ledger>(
     ensures taken { OnOk result (TakesOp stage op.now tree.old tree.new) }
     ensures noted { OnOk result (pending.new.items ≡ pending.old.items ++ record { stage = stage; op = op.now } ∷ []) }
     ensures reads { IsShort (One op.now) → steps.new ≤ steps.old + 9 * (tree.old.depth + 1) }
+    ensures told { OnOk result (listener.new ≡ heard listener.old (told_of_own stage op.now (text_elements tree.old))) }
 {
+    tell_own(tree, op, listener)?;
     match take_op(tree, op, stage, steps) {
         Ok(()) => note(pending, op, stage),
         Err(_) => Err(OutOfMemory),
     }
 }
 
-// Makes operations one after another, each at the next stage, and notes them.
+// Makes operations one after another, each at the next stage, and notes them. The listener hears of each before the next.
 fn take_all<G: Ledger>(
     tree: &mut Tree<TextContent>,
     pending: &mut VecDeque<PendingOp>,
     ops: &[BaseOp],
     first: u64,
+    listener: &mut Listener,
     steps: &mut Steps<G>,
 ) -> Result<(), OutOfMemory>
     requires usable { IsTrue tree.old.usable }
@@ -112,10 +121,11 @@ fn take_all<G: Ledger>(
     ensures taken { OnOk result (TakesOps first ops.now tree.old tree.new) }
     ensures noted { OnOk result (pending.new.items ≡ pending.old.items ++ noted first ops.now) }
     ensures reads { (op : BaseOp) → ops.now ≡ op ∷ [] → IsShort (One op) → steps.new ≤ steps.old + 9 * (tree.old.depth + 1) }
+    ensures told { OnOk result (listener.new ≡ heard listener.old (told_of_all_own first ops.now (text_elements tree.old))) }
 {
     let mut stage = first;
     for op in ops {
-        take_noted(tree, pending, op, stage, steps)?;
+        take_noted(tree, pending, op, stage, listener, steps)?;
         stage += 1;
     }
     Ok(())
@@ -198,11 +208,38 @@ impl SharedString {
         ensures reads { IsShort op.now → steps.new ≤ steps.old + 9 * (self.old.depth + 1) }
         ensures depth { 4 ^ self.old.depth ≤ length self.old.elements + 1 }
     {
+        let mut nobody = Listener::nobody(self.allocator());
+        self.edit_telling(op, first, &mut nobody, steps)
+    }
+
+    /// As `edit`; the listener hears how the shown elements change with each stage. After a refusal nothing is said of what it
+    /// heard.
+    pub fn edit_telling<G: Ledger>(
+        &mut self,
+        op: &TextOp,
+        first: u64,
+        listener: &mut Listener,
+        steps: &mut Steps<G>,
+    ) -> Result<u64, EditFault>
+        requires usable { IsTrue self.old.usable }
+        requires none_given { self.old.given ≡ 0 }
+        requires formed { IsWellFormedText op.now }
+        requires some { 1 ≤ first }
+        requires held { HoldsSome (first - 1) self.old }
+        ensures answers { (doc : Document) → (stages : List Stage) → IsTextSound (first - 1) doc stages → HoldsText self.old doc stages
+            → AnswersEdit self.new stages (local_sub_operations doc stages first (text_sub_operations op.now)) result }
+        ensures leaves { IfErr result (Leaves self.old self.new) }
+        ensures rest { OnOk result (KeepsRest self.old self.new) }
+        ensures reads { IsShort op.now → steps.new ≤ steps.old + 9 * (self.old.depth + 1) }
+        ensures depth { 4 ^ self.old.depth ≤ length self.old.elements + 1 }
+        ensures told { (doc : Document) → (stages : List Stage) → IsTextSound (first - 1) doc stages → HoldsText self.old doc stages
+            → OnOk result (listener.new ≡ heard listener.old (told_locals doc stages first (text_sub_operations op.now))) }
+    {
         // How deep a search goes is read off its contract.
         let _leaf = self.first_leaf();
         match op {
-            TextOp::One(op) => self.edit_elements(slice::from_ref(op), first, steps),
-            TextOp::Group(ops) => self.edit_elements(ops.as_slice(), first, steps),
+            TextOp::One(op) => self.edit_elements(slice::from_ref(op), first, listener, steps),
+            TextOp::Group(ops) => self.edit_elements(ops.as_slice(), first, listener, steps),
             TextOp::IntervalAdd { .. }
             | TextOp::IntervalChange { .. }
             | TextOp::IntervalDelete { .. } => self.edit_interval(op, first),
@@ -243,6 +280,7 @@ impl SharedString {
         &mut self,
         ops: &[BaseOp],
         first: u64,
+        listener: &mut Listener,
         steps: &mut Steps<G>,
     ) -> Result<u64, EditFault>
         requires usable { IsTrue self.old.usable }
@@ -255,6 +293,8 @@ impl SharedString {
         ensures leaves { IfErr result (Leaves self.old self.new) }
         ensures rest { OnOk result (KeepsRest self.old self.new) }
         ensures reads { (op : BaseOp) → ops.now ≡ op ∷ [] → IsShort (One op) → steps.new ≤ steps.old + 9 * (self.old.depth + 1) }
+        ensures told { (doc : Document) → (stages : List Stage) → IsTextSound (first - 1) doc stages → HoldsText self.old doc stages
+            → OnOk result (listener.new ≡ heard listener.old (told_locals doc stages first (map (λ op. OnText op) ops.now))) }
     {
         match self.test(ops, first) {
             Ok(()) => {}
@@ -265,7 +305,7 @@ impl SharedString {
             Err(fault) => return Err(fault),
         }
         self.usable = false;
-        match take_all(&mut self.tree, &mut self.ops, ops, first, steps) {
+        match take_all(&mut self.tree, &mut self.ops, ops, first, listener, steps) {
             Ok(()) => {
                 self.usable = true;
                 Ok(ops.len() as u64)

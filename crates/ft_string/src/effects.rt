@@ -2,7 +2,9 @@
 
 ghost use Rattle.std.specs.Prelude.{◌≡◌, ℕ, ◌+◌, ◌≤◌, ◌∷◌, [], List, true, IfOk, IsTrue, OnErr, OnOk, false, map};
 ghost use Rattle.std.specs.List.{AllByRecursion};
-ghost use Rattle.ft_interval_store.specs.State.{is_interval_operation};
+ghost use Rattle.ft_changes.specs.Listeners.{heard};
+ghost use Rattle.ft_changes.specs.Told.{told_sub_operations};
+ghost use Rattle.ft_interval_store.specs.State.{is_interval_operation, text_elements};
 ghost use Rattle.ft_op.specs.Document.{Document, effects};
 ghost use Rattle.ft_op.specs.Operation.{OnIntervals, OnText, text_sub_operations};
 ghost use Rattle.ft_op.specs.Stages.{Stage};
@@ -13,10 +15,13 @@ ghost use Rattle.ft_string.specs.Calls.{IsApplied};
 ghost use Rattle.ft_string.specs.Holds.{HoldsText, IsTextSound};
 ghost use Rattle.ft_string.specs.Parts.{AppliesOp, TriesOp, TriesOps};
 ghost use Rattle.ft_string.specs.State.{KeepsRest};
+ghost use Rattle.ft_string.specs.Told.{told_of_op, told_of_ops};
 
 use crate::strings::SharedString;
+use crate::telling::tell_op;
 use ft_base::{OutOfMemory, Perspective, Steps};
 use ft_block::LenView;
+use ft_changes::Listener;
 use ft_op::{BaseOp, TextOp};
 use ft_text::contents::insert_remote;
 use ft_text::lengths::{end_of, have_room, put_in_by, sum};
@@ -55,7 +60,7 @@ fn apply_op<G: Ledger>(
 }
 
 // Applies an operation under number `seq`, if the perspective sees the elements for it, and returns how many it skipped: one,
-// where it doesn't.
+// where it doesn't. The listener hears how the shown elements change.
 //
 // Returns `OutOfMemory` where there is no room for it, or the number of elements would pass its limit.
 fn try_op<G: Ledger>(
@@ -63,6 +68,7 @@ fn try_op<G: Ledger>(
     op: &BaseOp,
     seq: u64,
     at: Perspective,
+    listener: &mut Listener,
     steps: &mut Steps<G>,
 ) -> Result<u64, OutOfMemory>
     requires usable { IsTrue tree.old.usable }
@@ -70,6 +76,7 @@ fn try_op<G: Ledger>(
     requires floor { tree.old.floor ≤ at.r }
     ensures tries { IfOk result (λ skipped. TriesOp seq at op.now skipped tree.old tree.new) }
     ensures one { IfOk result (λ skipped. skipped ≤ 1) }
+    ensures told { OnOk result (listener.new ≡ heard listener.old (told_of_op at op.now (text_elements tree.old))) }
 {
     if tree.length(LenView::At(at)) < end_of(op) {
         return Ok(1);
@@ -77,13 +84,15 @@ fn try_op<G: Ledger>(
     if !have_room(tree.made(), put_in_by(op)) {
         return Err(OutOfMemory);
     }
+    tell_op(tree, op, at, listener)?;
     match apply_op(tree, op, seq, at, steps) {
         Ok(()) => Ok(0),
         Err(_) => Err(OutOfMemory),
     }
 }
 
-// Applies operations under number `seq` one after another, and returns how many were out of range.
+// Applies operations under number `seq` one after another, and returns how many were out of range. The listener hears of each
+// before the next.
 //
 // Returns `OutOfMemory` where there is no room for them, or the number of elements would pass its limit.
 fn try_all<G: Ledger>(
@@ -91,16 +100,18 @@ fn try_all<G: Ledger>(
     ops: &[BaseOp],
     seq: u64,
     at: Perspective,
+    listener: &mut Listener,
     steps: &mut Steps<G>,
 ) -> Result<u64, OutOfMemory>
     requires usable { IsTrue tree.old.usable }
     requires formed { AllByRecursion IsWellFormedBase ops.now }
     requires floor { tree.old.floor ≤ at.r }
-    ensures { IfOk result (λ skipped. TriesOps seq at ops.now skipped tree.old tree.new) }
+    ensures tries { IfOk result (λ skipped. TriesOps seq at ops.now skipped tree.old tree.new) }
+    ensures told { OnOk result (listener.new ≡ heard listener.old (told_of_ops seq at ops.now (text_elements tree.old))) }
 {
     let mut skipped: u64 = 0;
     for op in ops {
-        let more = try_op(tree, op, seq, at, steps)?;
+        let more = try_op(tree, op, seq, at, listener, steps)?;
         skipped = sum(skipped, more)?;
     }
     Ok(skipped)
@@ -128,9 +139,37 @@ impl SharedString {
         ensures rest { OnOk result (KeepsRest self.old self.new) }
         ensures err { OnErr result (self.new.usable ≡ false) }
     {
+        let mut nobody = Listener::nobody(self.allocator());
+        self.apply_telling(op, seq, at, &mut nobody, steps)
+    }
+
+    /// As `apply`; the listener hears how the shown elements change with each sub-operation.
+    pub fn apply_telling<G: Ledger>(
+        &mut self,
+        op: &TextOp,
+        seq: u64,
+        at: Perspective,
+        listener: &mut Listener,
+        steps: &mut Steps<G>,
+    ) -> Result<u64, OutOfMemory>
+        requires usable { IsTrue self.old.usable }
+        requires none_given { self.old.given ≡ 0 }
+        requires formed { IsWellFormedText op.now }
+        requires floor { self.old.floor ≤ at.r }
+        ensures applied { (last : ℕ) → (doc : Document) → (stages : List Stage) → IsTextSound last doc stages → HoldsText self.old doc stages
+            → IfOk result (IsApplied self.new doc (effects doc seq at.c at.r (text_sub_operations op.now)) stages) }
+        ensures rest { OnOk result (KeepsRest self.old self.new) }
+        ensures err { OnErr result (self.new.usable ≡ false) }
+        ensures told { (last : ℕ) → (doc : Document) → (stages : List Stage) → IsTextSound last doc stages → HoldsText self.old doc stages
+            → OnOk result (listener.new ≡ heard listener.old (told_sub_operations last doc seq at.c at.r (text_sub_operations op.now))) }
+    {
         match op {
-            TextOp::One(op) => self.apply_to_elements(slice::from_ref(op), seq, at, steps),
-            TextOp::Group(ops) => self.apply_to_elements(ops.as_slice(), seq, at, steps),
+            TextOp::One(op) => {
+                self.apply_to_elements(slice::from_ref(op), seq, at, listener, steps)
+            }
+            TextOp::Group(ops) => {
+                self.apply_to_elements(ops.as_slice(), seq, at, listener, steps)
+            }
             TextOp::IntervalAdd { .. }
             | TextOp::IntervalChange { .. }
             | TextOp::IntervalDelete { .. } => self.apply_to_intervals(op, seq, at),
@@ -143,6 +182,7 @@ impl SharedString {
         ops: &[BaseOp],
         seq: u64,
         at: Perspective,
+        listener: &mut Listener,
         steps: &mut Steps<G>,
     ) -> Result<u64, OutOfMemory>
         requires usable { IsTrue self.old.usable }
@@ -152,9 +192,11 @@ impl SharedString {
             → IfOk result (IsApplied self.new doc (effects doc seq at.c at.r (map (λ op. OnText op) ops.now)) stages) }
         ensures rest { OnOk result (KeepsRest self.old self.new) }
         ensures err { OnErr result (self.new.usable ≡ false) }
+        ensures told { (last : ℕ) → (doc : Document) → (stages : List Stage) → IsTextSound last doc stages → HoldsText self.old doc stages
+            → OnOk result (listener.new ≡ heard listener.old (told_sub_operations last doc seq at.c at.r (map (λ op. OnText op) ops.now))) }
     {
         self.usable = false;
-        let skipped = try_all(&mut self.tree, ops, seq, at, steps)?;
+        let skipped = try_all(&mut self.tree, ops, seq, at, listener, steps)?;
         self.usable = true;
         Ok(skipped)
     }

@@ -17,5 +17,6 @@ mod shown;
 pub mod soundness;
 pub mod strings;
 mod summaries;
+mod telling;
 
 pub use strings::SharedString;

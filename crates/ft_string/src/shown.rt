@@ -1,11 +1,13 @@
 //! What is shown of a shared text: its elements, its intervals, and who inserted what.
 
 ghost use Rattle.std.specs.Prelude.{◌≡◌, ◌≤◌, ◌+◌, ℕ, List, IfOk, IsTrue, OnOk, filter, length, map};
+ghost use Rattle.ft_base.specs.Scan.{len};
 ghost use Rattle.ft_msg.specs.Blame.{origin_of};
 ghost use Rattle.ft_msg.specs.Content.{interval_record, stage_view};
 ghost use Rattle.ft_msg.specs.Overlap.{ReadsFewNodes};
 ghost use Rattle.ft_op.specs.Document.{Document};
 ghost use Rattle.ft_op.specs.Stages.{Stage, shown_intervals};
+ghost use Rattle.ft_props.specs.Element.{seen};
 ghost use Rattle.ft_interval.specs.State.{StandsOn};
 ghost use Rattle.ft_interval_store.specs.Shown.{shown_intervals as all_shown, shown_record};
 ghost use Rattle.ft_interval_store.specs.State.{placed, text_elements};
@@ -17,11 +19,12 @@ ghost use Rattle.ft_string.specs.State.{has_label};
 ghost use Rattle.ft_tree_leaves.specs.declared.text.TextContent.{TextContent};
 
 use crate::strings::SharedString;
+use crate::telling::LOCAL;
 use ft_attrib::Attribution;
 use ft_base::{List, OutOfMemory, Steps, Text};
 use ft_interval::Collections;
 use ft_msg::View;
-use ft_sumdoc::IntervalRec;
+use ft_sumdoc::{IntervalRec, IntervalRecs};
 use ft_text::lengths::made_in;
 use ft_text::moved::assign;
 use ft_text::shown::{origins_of, show_elements};
@@ -62,6 +65,29 @@ impl SharedString {
         let _first = self.intervals.first_stage();
         show_elements(&self.tree, out)?;
         show_intervals(&self.intervals, &self.tree, out)
+    }
+
+    /// How many elements the client sees.
+    pub fn shown_count(&self) -> u64
+        requires usable { IsTrue self.now.usable }
+        ensures { (last : ℕ) → (doc : Document) → (stages : List Stage) → IsTextSound last doc stages → HoldsText self.now doc stages
+            → result ≡ len (seen last) doc.text.items }
+    {
+        self.tree.length(LOCAL)
+    }
+
+    /// The intervals that the client sees, by rising label and id.
+    pub fn shown_intervals(&self) -> Result<IntervalRecs, OutOfMemory>
+        requires usable { IsTrue self.now.usable }
+        requires none_given { self.now.given ≡ 0 }
+        ensures { (last : ℕ) → (doc : Document) → (stages : List Stage) → IsTextSound last doc stages → HoldsText self.now doc stages
+            → IfOk result (λ intervals. intervals ≡ map (interval_record last doc.text.items) (shown_intervals doc.text.items doc.intervals stages)) }
+    {
+        // That ends are numbers, and that names rise, is read off these contracts.
+        let _made = made_in(&self.tree);
+        let _first = self.intervals.first_stage();
+        let all = self.intervals.all(&self.tree)?;
+        Ok(List::of(all))
     }
 
     /// The shown intervals of the label that meet the places from `a` to `b`, by rising id: those that aren't detached, start at

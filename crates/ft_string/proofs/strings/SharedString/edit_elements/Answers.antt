@@ -1,4 +1,5 @@
 use Rattle.std.proofs.Common.{◌-◌, ap, ◌∙◌, subst, sym, IsTrue, ◌++◌, append_assoc, is_ok, rules}
+use Rattle.ft_changes.specs.Listeners.{heard}
 use Rattle.ft_text.specs.Lengths.{count_after_all}
 use Rattle.ft_string.specs.Edits.{seen_count}
 use Rattle.ft_string.specs.Holds.{HoldsSome, HoldsText}
@@ -6,6 +7,7 @@ use Rattle.ft_string.specs.Parts.{noted}
 use Rattle.ft_string.specs.State.{TextState}
 use Rattle.ft_string.proofs.Edited.{edit-above, edit-refused, edit-whole, refused-leaves, took-ahead, took-floor, took-sound}
 use Rattle.ft_string.proofs.StandingIndexes.{took-stands}
+use Rattle.ft_string.proofs.ToldTexts.{told-own-whole}
 use Rattle.ft_string.proofs.strings.SharedString.edit_elements.Goals as goal
 
 pub returns-in-Err-clause-answers : goal.returns-in-Err-clause-answers
@@ -54,3 +56,15 @@ returns-in-Ok-take_all-clause-rest g c = record {
   given = ap (λ (s : TextState). s.given) c.self.view_is;
   usable = sym c.requires.usable;
 }
+
+pub returns-in-Ok-take_all-clause-told : goal.returns-in-Ok-take_all-clause-told
+returns-in-Ok-take_all-clause-told g c doc stages sound holds =
+    let usable : IsTrue c.self.inside.usable = subst (λ b. IsTrue b) (sym (ap (λ (s : TextState). s.usable) c.self.view_is)) c.requires.usable in
+    let before = c.self.invariant usable in
+    c.in-Ok-take_all.ensures.told
+    ∙ ap (heard c.args.listener.now)
+    (told-own-whole c.args.first c.requires.some c.args.ops.now c.requires.formed c.in-Ok.ensures.stages c.self.inside.tree c.take_all.new.tree
+    c.self.inside.intervals.state (c.self.inside.again.items ++ c.self.inside.ops.items) c.self.inside.given c.self.inside.usable before.parts
+    (ap (λ (s : TextState). is_ok (count_after_all (seen_count s) c.args.ops.now)) c.self.view_is ∙ c.in-Ok.ensures.fits)
+    c.in-Ok-take_all.ensures.taken doc stages sound
+    (subst (λ s. HoldsText s doc stages) (sym c.self.view_is) holds))
