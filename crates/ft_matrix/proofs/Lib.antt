@@ -31,6 +31,7 @@ mod Reconnected
 mod SeenHandles
 mod CellPlaces
 mod ShownGrids
+mod ToldUnits
 mod SavedRuns
 mod SavedGrids
 mod LoadedUnits

@@ -240,13 +240,26 @@ module _ (last : ℕ) (g : Grid) (given : ℕ) (usable : Bool) (doc : Document) 
       let e : last + 1 ≡ suc last = omega arith in
       subst (λ k. AreBelow k (units_of v)) e (below-of (last + 1) (units_of v) (recursion_from_All (λ x. is_unit_below (last + 1) x ≡ true) (map shown_unit (units_of v)) a))
 
+  rows-last : last < 2 ^ 64 → IsAboveAll (last + 1) (grid_state g given usable) → BesideUnits
+      (λ x e. seen last x ≡ seen_in last_stage e) doc.rows.items (units_of g.rows)
+  rows-last fits above = sees-last fits doc.rows.items g.rows (beside-more (λ x e q. q.0) units.rows) (below-suc g.rows above.rows)
+
+  cols-last : last < 2 ^ 64 → IsAboveAll (last + 1) (grid_state g given usable) → BesideUnits
+      (λ x e. seen last x ≡ seen_in last_stage e) doc.cols.items (units_of g.cols)
+  cols-last fits above = sees-last fits doc.cols.items g.cols units.cols (below-suc g.cols above.cols)
+
+  pub cells-shown : last < 2 ^ 64 → IsAboveAll (last + 1) (grid_state g given usable)
+      → shown_cells g ≡ all_cells doc.cells stages (stage_view last doc.cols.items) 0 (stage_view last doc.rows.items)
+  cells-shown fits above = sym (shown-meets (seen last) (rows-last fits above) (cols-last fits above))
+
   pub view-shown : last < 2 ^ 64 → IsAboveAll (last + 1) (grid_state g given usable) → (view : View) (r c : ℕ) (cells : List CellRec)
       → r ≡ len (seen_in last_stage) (units_of g.rows)
       → c ≡ len (seen_in last_stage) (units_of g.cols) → cells ≡ shown_cells g
       → record view { rows = r; cols = c; cells = cells } ≡ with_grid last doc stages view
   view-shown fits above view r c cells p q o =
-      let rs = sees-last fits doc.rows.items g.rows (beside-more (λ x e q. q.0) units.rows) (below-suc g.rows above.rows) in
-      let cs = sees-last fits doc.cols.items g.cols units.cols (below-suc g.cols above.cols) in
+      let rs = rows-last fits above in
+      let cs = cols-last fits above in
       ap (λ n. record view { rows = n; cols = c; cells = cells }) (p ∙ rows-length (seen last) rs cs)
       ∙ ap (λ n. record view { rows = length (stage_view last doc.rows.items); cols = n; cells = cells }) (q ∙ cols-length (seen last) rs cs)
-      ∙ ap (λ es. record view { rows = length (stage_view last doc.rows.items); cols = length (stage_view last doc.cols.items); cells = es }) (o ∙ sym (shown-meets (seen last) rs cs))
+      ∙ ap (λ es. record view { rows = length (stage_view last doc.rows.items); cols = length (stage_view last doc.cols.items); cells = es })
+      (o ∙ cells-shown fits above)

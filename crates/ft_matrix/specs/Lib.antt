@@ -12,6 +12,7 @@ pub mod Compacted
 pub mod Rebuilt
 pub mod Resubmitted
 pub mod OwnEdits
+pub mod Told
 pub mod Shown
 pub mod Seen
 pub mod SavedUnits

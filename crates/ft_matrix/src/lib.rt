@@ -18,6 +18,7 @@ pub mod soundness;
 mod splices;
 mod stages;
 mod summaries;
+mod telling;
 mod views;
 
 pub use matrix::SharedMatrix;

@@ -2,6 +2,8 @@
 
 ghost use Rattle.std.specs.Prelude.{◌≡◌, ◌+◌, ◌-◌, ◌*◌, ◌<◌, ◌≤◌, ◌^◌, ◌++◌, [], ℕ, All, List, IfOk, IsTrue, OnErr, OnOk, false, true, flat_map, length, map, option_map};
 ghost use Rattle.std.specs.List.{list_all};
+ghost use Rattle.ft_changes.specs.Listeners.{heard};
+ghost use Rattle.ft_changes.specs.Told.{told_locals, told_sub_operations};
 ghost use Rattle.ft_laws_agreement.specs.Sequencing.{is_grid_stage};
 ghost use Rattle.ft_laws_names.specs.GridFacts.{AreCounted};
 ghost use Rattle.ft_laws_names.specs.WellNamed.{AreWellNamed};
@@ -11,6 +13,7 @@ ghost use Rattle.ft_matrix.specs.HoldsGrid.{HoldsGrid};
 ghost use Rattle.ft_matrix.specs.Shown.{HasNoUnits, with_grid, with_units};
 ghost use Rattle.ft_msg.specs.Acknowledgement.{ack_stages, renamed_stage};
 ghost use Rattle.ft_msg.specs.Client.{local_sub_operations};
+ghost use Rattle.ft_msg.specs.Content.{all_cells, stage_view};
 ghost use Rattle.ft_msg.specs.Reconnection.{carried_stage, rebuilt_document};
 ghost use Rattle.ft_msg.specs.Summary.{doc_of};
 ghost use Rattle.ft_op.specs.Document.{Document, effects, empty};
@@ -34,9 +37,10 @@ use crate::splices::seen_count;
 use ft_arena::NodeId;
 use ft_base::moved::{after, fill};
 use ft_base::{OutOfMemory, Perspective, Steps};
+use ft_changes::Listener;
 use ft_msg::{EditFault, View};
 use ft_op::GridOp;
-use ft_sumdoc::SumDoc;
+use ft_sumdoc::{CellRecs, SumDoc};
 use std::alloc::Global;
 use std::marker::Model;
 use std::sync::ledger::Ledger;
@@ -113,7 +117,32 @@ impl SharedMatrix {
         ensures rest { OnOk result (KeepsRest self.old self.new) }
         ensures err { OnErr result (self.new.usable ≡ false) }
     {
-        match self.grid.apply_op(op, seq, at, steps) {
+        let mut nobody = Listener::nobody(self.alloc);
+        self.apply_telling(op, seq, at, &mut nobody, steps)
+    }
+
+    /// As `apply`; the listener hears how the shown rows and columns change with each sub-operation.
+    pub fn apply_telling<G: Ledger>(
+        &mut self,
+        op: &GridOp,
+        seq: u64,
+        at: Perspective,
+        listener: &mut Listener,
+        steps: &mut Steps<G>,
+    ) -> Result<u64, OutOfMemory>
+        requires usable { IsTrue self.old.usable }
+        requires settled { self.old.given ≡ 0 }
+        requires formed { IsWellFormedGrid op.now }
+        requires floor { self.old.floor ≤ at.r }
+        ensures applied { (last : ℕ) (doc : Document) (stages : List Stage) → AreWellNamed last doc stages → HoldsGrid self.old doc stages
+            → IfOk result (λ count. TakesOp last self.new (effects doc seq at.c at.r (sub_operations (ChannelOp.Grid op.now))) doc stages count) }
+        ensures rest { OnOk result (KeepsRest self.old self.new) }
+        ensures err { OnErr result (self.new.usable ≡ false) }
+        ensures told { (last : ℕ) (doc : Document) (stages : List Stage) → last < 2 ^ 64 → AreWellNamed last doc stages → HoldsGrid self.old doc stages
+            → IsAboveAll (last + 1) self.old
+            → OnOk result (listener.new ≡ heard listener.old (told_sub_operations last doc seq at.c at.r (sub_operations (ChannelOp.Grid op.now)))) }
+    {
+        match self.grid.apply_op(op, seq, at, listener, steps) {
             Ok(skipped) => Ok(skipped),
             Err(e) => {
                 self.usable = false;
@@ -147,9 +176,37 @@ impl SharedMatrix {
         ensures rows_depth { 4 ^ self.old.rows_depth ≤ length self.old.rows + 1 }
         ensures cols_depth { 4 ^ self.old.cols_depth ≤ length self.old.cols + 1 }
     {
+        let mut nobody = Listener::nobody(self.alloc);
+        self.edit_telling(op, first, &mut nobody, steps)
+    }
+
+    /// As `edit`; the listener hears how the shown rows and columns change with each stage. After a refusal nothing is said of what
+    /// it heard.
+    pub fn edit_telling<G: Ledger>(
+        &mut self,
+        op: &GridOp,
+        first: u64,
+        listener: &mut Listener,
+        steps: &mut Steps<G>,
+    ) -> Result<u64, EditFault>
+        requires usable { IsTrue self.old.usable }
+        requires settled { self.old.given ≡ 0 }
+        requires formed { IsWellFormedGrid op.now }
+        requires some { 1 ≤ first }
+        requires above { IsAboveAll first self.old }
+        ensures answers { (last : ℕ) (doc : Document) (stages : List Stage) → first ≡ last + 1 → AreWellNamed last doc stages → HoldsGrid self.old doc stages
+            → AnswersEdit stages (local_sub_operations doc stages first (sub_operations (ChannelOp.Grid op.now))) self.old self.new result }
+        ensures reads { (target : Target) (p count : ℕ) → op.now ≡ GridOp.One (CellOp.SpliceIn target p count)
+            → steps.new ≤ steps.old + 9 * (depth_of target self.old + 1) }
+        ensures rest { OnOk result (KeepsRest self.old self.new) }
+        ensures rows_depth { 4 ^ self.old.rows_depth ≤ length self.old.rows + 1 }
+        ensures cols_depth { 4 ^ self.old.cols_depth ≤ length self.old.cols + 1 }
+        ensures told { (last : ℕ) (doc : Document) (stages : List Stage) → first ≡ last + 1 → AreWellNamed last doc stages → HoldsGrid self.old doc stages
+            → OnOk result (listener.new ≡ heard listener.old (told_locals doc stages first (sub_operations (ChannelOp.Grid op.now)))) }
+    {
         // How deep a search goes is read off its contract.
         let _leaves = self.first_leaves();
-        match self.grid.edit_op(op, first, steps) {
+        match self.grid.edit_op(op, first, listener, steps) {
             Ok(None) => Ok(sub_operation_count(op)),
             Ok(Some(length)) => Err(EditFault::OutOfRange { length }),
             Err(_) => {
@@ -354,6 +411,17 @@ impl SharedMatrix {
         fill(&mut doc.rows, saved_units(&self.grid.rows, doc.min))?;
         fill(&mut doc.cols, saved_units(&self.grid.cols, doc.min))?;
         fill(&mut doc.cells, self.grid.shown_cells(self.alloc))
+    }
+
+    /// The cells that the client sees and that have a value, by rising row and column. It goes to the seen leaves and to the
+    /// cells.
+    pub fn shown_cells(&self) -> Result<CellRecs, OutOfMemory>
+        requires usable { IsTrue self.now.usable }
+        ensures { (last : ℕ) (doc : Document) (stages : List Stage) → last < 2 ^ 64 → AreWellNamed last doc stages → HoldsGrid self.now doc stages
+            → IsAboveAll (last + 1) self.now
+            → IfOk result (λ cells. cells ≡ all_cells doc.cells stages (stage_view last doc.cols.items) 0 (stage_view last doc.rows.items)) }
+    {
+        self.grid.shown_cells(self.alloc)
     }
 
     /// Fills what a view shows of the table: how many rows and columns are seen, and their cells that have a value. It goes to

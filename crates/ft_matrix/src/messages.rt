@@ -1,7 +1,9 @@
 //! What operations of messages make of a grid.
 
-ghost use Rattle.std.specs.Prelude.{◌≡◌, ℕ, ◌+◌, ◌≤◌, List, IfOk, OnOk, false, map};
+ghost use Rattle.std.specs.Prelude.{◌≡◌, ℕ, ◌+◌, ◌<◌, ◌≤◌, ◌^◌, List, IfOk, OnOk, false, map};
 ghost use Rattle.std.specs.List.{AllByRecursion};
+ghost use Rattle.ft_changes.specs.Listeners.{heard};
+ghost use Rattle.ft_changes.specs.Told.{told_sub_operations};
 ghost use Rattle.ft_op.specs.Document.{Document, effects, grid_effect};
 ghost use Rattle.ft_op.specs.Operation.{OnGrid, sub_operations};
 ghost use Rattle.ft_op.specs.Stages.{Stage};
@@ -9,17 +11,20 @@ ghost use Rattle.ft_op.specs.WellFormed.{IsWellFormedCell, IsWellFormedGrid};
 ghost use Rattle.ft_op.specs.declared.operations.ChannelOp.{ChannelOp};
 ghost use Rattle.ft_matrix.specs.Sound.{IsSound};
 ghost use Rattle.ft_matrix.specs.Applied.{Holds, Passes, skips};
+ghost use Rattle.ft_matrix.specs.Told.{HasStagesTo};
 
 use crate::grid::Grid;
 use crate::splices::{insert_units, remove_units};
 use ft_base::{Datum, OutOfMemory, Perspective, Steps};
 use ft_block::LenView;
+use ft_changes::Listener;
 use ft_json::ValText;
 use ft_op::{CellOp, GridOp};
 use std::sync::ledger::Ledger;
 
 impl Grid {
     /// Applies an operation under number `seq`, and returns how many of its sub-operations were out of range, which changed nothing.
+    /// The listener hears how the shown rows and columns change.
     ///
     /// Returns `OutOfMemory` where there is no room for it, and then the grid may be used no more.
     pub fn apply_op<G: Ledger>(
@@ -27,6 +32,7 @@ impl Grid {
         op: &GridOp,
         seq: u64,
         at: Perspective,
+        listener: &mut Listener,
         steps: &mut Steps<G>,
     ) -> Result<u64, OutOfMemory>
         requires sound { IsSound self.old }
@@ -36,14 +42,20 @@ impl Grid {
         ensures floor { OnOk result (self.new.rows.tree.floor ≡ self.old.rows.tree.floor) }
         ensures applied { (last : ℕ) (doc : Document) (stages : List Stage) → Holds last self.old doc stages
             → IfOk result (λ skipped. Passes last self.new doc (effects doc seq at.c at.r (sub_operations (ChannelOp.Grid op.now))) stages skipped) }
+        ensures told { (last : ℕ) (doc : Document) (stages : List Stage) → last < 2 ^ 64 → Holds last self.old doc stages → HasStagesTo last doc
+            → OnOk result (listener.new ≡ heard listener.old (told_sub_operations last doc seq at.c at.r (sub_operations (ChannelOp.Grid op.now)))) }
     {
         match op {
-            GridOp::One(op) => Ok(skips(self.apply(op, seq, at, steps)?)),
-            GridOp::Group(ops) => self.apply_all(ops.as_slice(), seq, at, steps),
+            GridOp::One(op) => {
+                self.tell_op(op, at, listener)?;
+                Ok(skips(self.apply(op, seq, at, steps)?))
+            }
+            GridOp::Group(ops) => self.apply_all(ops.as_slice(), seq, at, listener, steps),
         }
     }
 
-    /// Applies operations in order under number `seq`, and returns how many were out of range, which changed nothing.
+    /// Applies operations in order under number `seq`, and returns how many were out of range, which changed nothing. The listener
+    /// hears of each before the next.
     ///
     /// Returns `OutOfMemory` where there is no room for them, and then the grid may be used no more.
     pub fn apply_all<G: Ledger>(
@@ -51,6 +63,7 @@ impl Grid {
         ops: &[CellOp],
         seq: u64,
         at: Perspective,
+        listener: &mut Listener,
         steps: &mut Steps<G>,
     ) -> Result<u64, OutOfMemory>
         requires sound { IsSound self.old }
@@ -60,9 +73,12 @@ impl Grid {
         ensures floor { OnOk result (self.new.rows.tree.floor ≡ self.old.rows.tree.floor) }
         ensures applied { (last : ℕ) (doc : Document) (stages : List Stage) → Holds last self.old doc stages
             → IfOk result (λ skipped. Passes last self.new doc (effects doc seq at.c at.r (map (λ op. OnGrid op) ops.now)) stages skipped) }
+        ensures told { (last : ℕ) (doc : Document) (stages : List Stage) → last < 2 ^ 64 → Holds last self.old doc stages → HasStagesTo last doc
+            → OnOk result (listener.new ≡ heard listener.old (told_sub_operations last doc seq at.c at.r (map (λ op. OnGrid op) ops.now))) }
     {
         let mut skipped: u64 = 0;
         for op in ops {
+            self.tell_op(op, at, listener)?;
             if !self.apply(op, seq, at, steps)? {
                 skipped = more(skipped, 1)?;
             }

@@ -2,6 +2,8 @@
 
 ghost use Rattle.std.specs.Prelude.{◌≡◌, ℕ, ◌+◌, ◌*◌, ◌<◌, ◌≤◌, ◌^◌, ◌++◌, [], ◌∷◌, All, List, None, IfOk, IsTrue, OnOk, length, map, true};
 ghost use Rattle.std.specs.List.{AllByRecursion};
+ghost use Rattle.ft_changes.specs.Listeners.{heard};
+ghost use Rattle.ft_changes.specs.Told.{told_locals};
 ghost use Rattle.ft_cells.specs.CellTables.{cell_at, changed_cell, with_write};
 ghost use Rattle.ft_op.specs.declared.operations.ChannelOp.{ChannelOp};
 ghost use Rattle.ft_op.specs.declared.operations.GridOp.{GridOp};
@@ -26,6 +28,7 @@ use ft_arena::NodeId;
 use ft_base::moved::push_behind;
 use ft_base::{Datum, OutOfMemory, Steps};
 use ft_cells::Cells;
+use ft_changes::Listener;
 use ft_json::ValText;
 use ft_op::{CellOp, GridOp, Target};
 use ft_perm::Vector;
@@ -52,13 +55,15 @@ pub fn sub_operation_count(op: &GridOp) -> u64
 
 impl Grid {
     /// Takes an operation as pending stages from `first` on. Returns the length of the list concerned where a sub-operation is
-    /// out of range, and then nothing changed.
+    /// out of range, and then nothing changed. The listener hears how the shown rows and columns change; after a refusal nothing
+    /// is said of what it heard.
     ///
     /// Returns `OutOfMemory` where there is no room for it, and then the grid may be used no more.
     pub fn edit_op<G: Ledger>(
         &mut self,
         op: &GridOp,
         first: u64,
+        listener: &mut Listener,
         steps: &mut Steps<G>,
     ) -> Result<Option<u64>, OutOfMemory>
         requires sound { IsSound self.old }
@@ -71,14 +76,19 @@ impl Grid {
             → IfOk result (λ refused. EditsAll last first doc stages (sub_operations (ChannelOp.Grid op.now)) self.old self.new refused) }
         ensures reads { (target : Target) (p count : ℕ) → op.now ≡ GridOp.One (CellOp.SpliceIn target p count)
             → steps.new ≤ steps.old + 9 * (depth_of target (grid_state self.old 0 true) + 1) }
+        ensures told { (last : ℕ) (doc : Document) (stages : List Stage) → first ≡ last + 1 → Holds last self.old doc stages
+            → IfOk result (λ refused. refused ≡ None → listener.new ≡ heard listener.old (told_locals doc stages first (sub_operations (ChannelOp.Grid op.now)))) }
     {
         match op {
-            GridOp::One(op) => self.edit_one(op, first, steps),
+            GridOp::One(op) => {
+                self.tell_own(op, listener)?;
+                self.edit_one(op, first, steps)
+            }
             GridOp::Group(ops) => {
                 if let Some(length) = self.refusal(ops.as_slice())? {
                     return Ok(Some(length));
                 }
-                self.edit_all(ops.as_slice(), first, steps)?;
+                self.edit_all(ops.as_slice(), first, listener, steps)?;
                 Ok(None)
             }
         }
@@ -106,13 +116,14 @@ impl Grid {
         Ok(None)
     }
 
-    // Takes operations that are within range as pending stages from `first` on.
+    // Takes operations that are within range as pending stages from `first` on. The listener hears of each before the next.
     //
     // Returns `OutOfMemory` where there is no room for them, and then the grid may be used no more.
     fn edit_all<G: Ledger>(
         &mut self,
         ops: &[CellOp],
         first: u64,
+        listener: &mut Listener,
         steps: &mut Steps<G>,
     ) -> Result<(), OutOfMemory>
         requires sound { IsSound self.old }
@@ -124,9 +135,12 @@ impl Grid {
         ensures floor { OnOk result (self.new.rows.tree.floor ≡ self.old.rows.tree.floor) }
         ensures edited { (last : ℕ) (doc : Document) (stages : List Stage) → first ≡ last + 1 → Holds last self.old doc stages
             → OnOk result (TakesStages last first self.new doc stages (map (λ op. OnGrid op) ops.now)) }
+        ensures told { (last : ℕ) (doc : Document) (stages : List Stage) → first ≡ last + 1 → Holds last self.old doc stages
+            → OnOk result (listener.new ≡ heard listener.old (told_locals doc stages first (map (λ op. OnGrid op) ops.now))) }
     {
         let mut stage = first;
         for op in ops {
+            self.tell_own(op, listener)?;
             match self.edit_one(op, stage, steps)? {
                 None => stage = more(stage, 1)?,
                 Some(_) => unreachable!(),

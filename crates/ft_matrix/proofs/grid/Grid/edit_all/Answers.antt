@@ -1,4 +1,4 @@
-use Rattle.std.proofs.Common.{◌≡◌, ℕ, ◌+◌, ◌<◌, ◌∙◌, List, ◌∷◌, None, ap, arith, drop, get_or, length, subst, sym, true}
+use Rattle.std.proofs.Common.{rules, ◌≡◌, ℕ, ◌+◌, ◌<◌, ◌∙◌, List, ◌∷◌, None, ap, arith, drop, get_or, length, subst, sym, true}
 use Rattle.ft_op.specs.declared.operations.CellOp.{CellOp}
 use Rattle.ft_op.specs.WellFormed.{IsWellFormedCell}
 use Rattle.ft_matrix.specs.Conditions.{IsAboveAll}
@@ -8,6 +8,7 @@ use Rattle.ft_matrix.specs.declared.grid.Grid.{Grid}
 use Rattle.ft_matrix.proofs.AppliedSteps.{all-rest, drop-item}
 use Rattle.ft_matrix.proofs.OwnCounts.{first-within, rest-within}
 use Rattle.ft_matrix.proofs.OwnGroups.{all-taken, one-taken}
+use Rattle.ft_matrix.proofs.ToldUnits.{own-all, own-next}
 use Rattle.ft_matrix.proofs.grid.Grid.edit_all.Goals as goal
 
 -- the operations that are left, with the one that is taken now
@@ -27,6 +28,7 @@ pub loop-op-preserved : goal.loop-op-preserved
 loop-op-preserved g c =
     let i = c.loop-op.invariant in
     let next : c.in_ok-stage-in-None.stage ≡ c.loop-op.stage + 1 = c.in_ok-stage-in-None.ensures in
+    let fits : c.loop-op.stage < 18446744073709551616 = search rules in
     record {
       sound = c.in_ok-edit_one.ensures.sound;
       floor = c.in_ok-edit_one.ensures.floor ∙ i.floor;
@@ -43,7 +45,20 @@ loop-op-preserved g c =
           c.op-item.result i.stage c.loop-op-test.true c.op-item.is
           (λ d ts k. subst (λ o. EditsOne (last + c.loop-op.op-index) c.loop-op.stage d ts c.op-item.result c.loop-op.self c.edit_one.new.self o) c.in-None.is
           (c.in_ok-edit_one.ensures.edited (last + c.loop-op.op-index) d ts (omega (arith, i.stage, e)) k)) (i.edited last doc stages e h);
+      told = λ last doc stages e h.
+          own-next last c.args.first c.loop-op.op-index c.loop-op.stage c.loop-op.self c.edit_one.new.self c.args.listener.now c.loop-op.listener
+          c.tell_own.new.listener c.args.ops.now c.op-item.result doc stages i.stage e
+          (omega (arith, i.stage, e, fits)) c.loop-op-test.true c.op-item.is
+          i.above c.in_ok-tell_own.ensures
+          (λ d ts k. subst (λ o. EditsOne (last + c.loop-op.op-index) c.loop-op.stage d ts c.op-item.result c.loop-op.self c.edit_one.new.self o)
+          c.in-None.is
+          (c.in_ok-edit_one.ensures.edited (last + c.loop-op.op-index) d ts (omega (arith, i.stage, e)) k)) (i.told last doc stages e h);
     }
+
+pub returns-clause-told : goal.returns-clause-told
+returns-clause-told g c = λ last doc stages e h.
+    own-all last c.args.first c.loop-op.op-index c.loop-op.self c.args.listener.now c.loop-op.listener c.args.ops.now doc stages c.loop-op-test.false
+    (c.loop-op.invariant.told last doc stages e h)
 
 pub returns-clause-edited : goal.returns-clause-edited
 returns-clause-edited g c = λ last doc stages e h.
