@@ -45,13 +45,9 @@ pub struct Collections {
 }
 
 impl Model for Collections {
-    ghost use Rattle.std.specs.Coded.{codes};
-    ghost use Rattle.std_collections.specs.Layout.BTreeMap.{btree_map_code};
     ghost use Rattle.ft_interval.specs.State.{IndexedState};
 
     ghost Value = { IndexedState };
-
-    ghost coded = { Prim.hlevel (codes, btree_map_code) };
 
     ghost view = { λ a. record { state = a.store; indexes = a.indexes.items } };
 }

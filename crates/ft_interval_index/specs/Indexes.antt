@@ -3,12 +3,11 @@
 -- lost their elements since.
 use Rattle.std.specs.Prelude.{◌≡◌, ℕ, ℤ, pos, negsuc, int_le, ◌<ℤ◌, ◌<◌, ◌≤◌, min, Bool, true, false, ◌&&◌, cond, nat_eq, List, [], ◌∷◌, Option, Some, None, find, is_some}
 use Rattle.std.specs.List.{list_any}
-use Rattle.std.specs.Ordering.{is_eq, nat_cmp}
-use Rattle.std.specs.BTreeMap as map
+use Rattle.std.specs.Ordering.{is_eq}
 use Rattle.ft_base.specs.Scan.{len}
 use Rattle.ft_props.specs.Keys.{Characters, text_cmp}
 use Rattle.ft_overlap.specs.declared.items.Item.{Item}
-use Rattle.ft_overlap.specs.Items.{IsInOrder, ItemList, KeepsOrder, item_at, key_if, no_items, put_item, without_key}
+use Rattle.ft_overlap.specs.Items.{IsInOrder, ItemList, KeepsOrder, id_at, item_at, key_if, no_items, put_item, without_key}
 use Rattle.ft_tree_leaves.specs.References.{reference_place}
 use Rattle.ft_interval_index.specs.declared.indexes.LabelIndex.{LabelIndex}
 use Rattle.ft_interval_store.specs.declared.intervals.EndPair.{EndPair}
@@ -31,7 +30,7 @@ list_in (Some x) = x.index
 -- the id of the interval that starts at this reference
 abbrev pub id_in : Option LabelIndex → ℕ → Option Characters
 id_in None k = None
-id_in (Some x) k = map.get nat_cmp x.ids k
+id_in (Some x) k = id_at k x.index.ids
 
 -- the item of an interval with these references at its ends
 abbrev pub item_for : ℕ → ℕ → Item

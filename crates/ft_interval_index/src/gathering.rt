@@ -39,7 +39,7 @@ fn add_found_one(
     ensures { let from = map (settled_interval (text_elements tree.now) 0) (placed_intervals tree.now.refs store.now.acked) in
         OnOk result (Gathers tree.now from (λ n. is_eq (text_cmp n.0 index.now.label) && is_id n.1 (id_in (Some index.now) key.now)) all.old all.new) }
 {
-    match index.ids.get(key) {
+    match index.index.id_of(*key) {
         Some(id) => store.add_named(tree, &index.label, id, all),
         None => Ok(()),
     }

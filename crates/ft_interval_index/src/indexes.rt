@@ -1,8 +1,7 @@
 //! Indexes of the acknowledged intervals, one for each label.
 
 ghost use Rattle.std.specs.Prelude.{◌≡◌, ◌+◌, ◌*◌, ◌^◌, ◌≤◌, ℕ, ◌∷◌, Some, None, IsTrue, IfOk, OnOk, false, length, option_copied, position};
-ghost use Rattle.std.specs.Ordering.{is_eq, nat_cmp};
-ghost use Rattle.std.specs.BTreeMap as map;
+ghost use Rattle.std.specs.Ordering.{is_eq};
 ghost use Rattle.ft_props.specs.Keys.{text_cmp};
 ghost use Rattle.ft_overlap.specs.Items.{AreKnown, IsInOrder, has_key, no_items};
 ghost use Rattle.ft_interval_store.specs.Ends.{AreLiveEnds};
@@ -19,17 +18,14 @@ use ft_props::keys::compare;
 use ft_refs::RefId;
 use ft_tree::{TextContent, Tree};
 use std::alloc::Global;
-use std::collections::BTreeMap;
 use std::sync::ledger::Ledger;
 
 /// The index of a label: an item for each acknowledged interval with both ends on elements, whose key is the reference at its
-/// start.
+/// start, with the interval's id.
 #[derive(Drop)]
 pub struct LabelIndex {
     pub label: Text,
     pub index: Index,
-    /// The id of each interval, by its key.
-    pub ids: BTreeMap<u64, Text>,
 }
 
 // Whether the index is that of the label.
@@ -64,12 +60,11 @@ fn label_place(indexes: &[LabelIndex], label: &Text) -> Option<usize>
 
 // An empty index of the label.
 fn empty_index(label: &Text, alloc: Global) -> Result<LabelIndex, OutOfMemory>
-    ensures { IfOk result (λ x. (x.label ≡ label.now) × (x.index ≡ no_items) × ((k : ℕ) → map.get nat_cmp x.ids k ≡ None)) }
+    ensures { IfOk result (λ x. (x.label ≡ label.now) × (x.index ≡ no_items)) }
 {
     Ok(LabelIndex {
         label: label.copy()?,
         index: Index::new(alloc),
-        ids: BTreeMap::new(alloc),
     })
 }
 
@@ -87,13 +82,12 @@ fn add_item(
     ensures label { x.new.label ≡ x.old.label }
     ensures puts { OnOk result (PutsItem tree.now.refs id.now start end (Some x.old) (Some x.new)) }
 {
-    let _ = x.ids.insert(start, id.copy()?)?;
     let item = Item {
         key: start,
         start,
         end,
     };
-    x.index.insert(item, &ListPlaces { tree })?;
+    x.index.insert(item, id.copy()?, &ListPlaces { tree })?;
     x.index.order_is_kept();
     Ok(())
 }
@@ -106,7 +100,6 @@ fn take_item(x: &mut LabelIndex, tree: &Tree<TextContent>, start: u64)
     ensures takes { TakesItem tree.now.refs start (Some x.old) (Some x.new) }
 {
     let _ = x.index.remove(start, &ListPlaces { tree });
-    let _ = x.ids.remove(&start);
     x.index.order_is_kept();
 }
 

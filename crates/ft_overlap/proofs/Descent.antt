@@ -22,7 +22,7 @@ use Rattle.ft_overlap.specs.Search.{IsFirstBelow, StartsBelow, IsStartedBy, IsCh
 use Rattle.ft_overlap.proofs.Keys.{all_rest}
 use Rattle.ft_overlap.proofs.Last.{first_told}
 use Rattle.ft_overlap.proofs.Under.{items-append, under_kids, first_kid}
-use Rattle.ft_overlap.proofs.WalkedItems.{last-push}
+use Rattle.ft_overlap.proofs.Leaves.{last-push}
 use Rattle.ft_overlap.proofs.Inserted.{tree_filled}
 
 -- a leaf is the first item below it

@@ -4,49 +4,32 @@ use Rattle.std.proofs.lemmas.Int.{ints}
 use Rattle.std.proofs.lemmas.Bool.{cases_eq, cond-true, cond-false, eq-eqb, ne_eqb}
 use Rattle.std.proofs.lemmas.List.Elements.{All-nil, All-cons, All-head, All-tail, All-weaker}
 use Rattle.ft_overlap.specs.declared.items.Item.{Item}
-use Rattle.ft_overlap.specs.Items.{starts_by, IsRising, item_at, without_key, put_item}
+use Rattle.ft_overlap.specs.Items.{starts_by, IsRising, has_key, item_at, without_key, put_item}
 use Rattle.ft_overlap.specs.Inside.{IsBehind}
 use Rattle.ft_overlap.proofs.Keys.{lt_true, lt_false}
 
 module _ (key : ℕ) where
-  -- the item has another key
-  abbrev pub HasNot : Item → Type 0
-  HasNot x = x.key ≢ key
-
-  at_here : (x : Item) (xs : List Item) → x.key ≡ key → item_at key (x ∷ xs) ≡ Some x
+  pub at_here : (x : Item) (xs : List Item) → x.key ≡ key → item_at key (x ∷ xs) ≡ Some x
   at_here x xs e = cond-true (eqb x.key key) (Some x) (item_at key xs) (eq-eqb x.key key e)
 
-  at_later : (x : Item) (xs : List Item) → x.key ≢ key → item_at key (x ∷ xs) ≡ item_at key xs
+  pub at_later : (x : Item) (xs : List Item) → x.key ≢ key → item_at key (x ∷ xs) ≡ item_at key xs
   at_later x xs d = cond-false (eqb x.key key) (Some x) (item_at key xs) (ne_eqb x.key key d)
 
-  out_here : (x : Item) (xs : List Item) → x.key ≡ key → without_key key (x ∷ xs) ≡ xs
+  pub out_here : (x : Item) (xs : List Item) → x.key ≡ key → without_key key (x ∷ xs) ≡ xs
   out_here x xs e = cond-true (eqb x.key key) xs (x ∷ without_key key xs) (eq-eqb x.key key e)
 
-  out_later : (x : Item) (xs : List Item) → x.key ≢ key → without_key key (x ∷ xs) ≡ x ∷ without_key key xs
+  pub out_later : (x : Item) (xs : List Item) → x.key ≢ key → without_key key (x ∷ xs) ≡ x ∷ without_key key xs
   out_later x xs d = cond-false (eqb x.key key) xs (x ∷ without_key key xs) (ne_eqb x.key key d)
 
-  -- items of other keys are passed by
-  at_past : (xs ys : List Item) → All HasNot xs → item_at key (xs ++ ys) ≡ item_at key ys
-  at_past [] ys h = refl
-  at_past (x ∷ xs) ys h = at_later x (xs ++ ys) (All-head HasNot x xs h) ∙ at_past xs ys (All-tail HasNot x xs h)
+  -- where no item has it, none is found
+  pub none_at : (xs : List Item) → has_key key xs ≡ false → item_at key xs ≡ None
+  none_at [] h = refl
+  none_at (x ∷ xs) h = elim (cases_eq x.key key) [
+    | inl e ↦ absurd (let n : true ≡ false = sym (cond-true (eqb x.key key) true (has_key key xs) (eq-eqb x.key key e)) ∙ h in cc n)
+    | inr d ↦ at_later x xs d ∙ none_at xs (sym (cond-false (eqb x.key key) true (has_key key xs) (ne_eqb x.key key d)) ∙ h)
+  ]
 
-  out_past : (xs ys : List Item) → All HasNot xs → without_key key (xs ++ ys) ≡ xs ++ without_key key ys
-  out_past [] ys h = refl
-  out_past (x ∷ xs) ys h =
-      out_later x (xs ++ ys) (All-head HasNot x xs h) ∙ ap (λ (zs : List Item). x ∷ zs) (out_past xs ys (All-tail HasNot x xs h))
-
-  -- the first item of the key
-  pub at_cut : (xs ys : List Item) (x : Item) → All HasNot xs → x.key ≡ key → item_at key (xs ++ x ∷ ys) ≡ Some x
-  at_cut xs ys x h e = at_past xs (x ∷ ys) h ∙ at_here x ys e
-
-  pub out_cut : (xs ys : List Item) (x : Item) → All HasNot xs → x.key ≡ key → without_key key (xs ++ x ∷ ys) ≡ xs ++ ys
-  out_cut xs ys x h e = out_past xs (x ∷ ys) h ∙ ap (λ (zs : List Item). xs ++ zs) (out_here x ys e)
-
-  -- where none has it, it isn't there
-  pub at_none : (xs ys : List Item) → All HasNot xs → ys ≡ [] → item_at key (xs ++ ys) ≡ None
-  at_none xs ys h e = at_past xs ys h ∙ ap (item_at key) e
-
-  -- and then nothing is taken out
+  -- where none is found, nothing is taken out
   pub out_none : (xs : List Item) → item_at key xs ≡ None → without_key key xs ≡ xs
   out_none [] h = refl
   out_none (x ∷ xs) h = elim (cases_eq x.key key) [

@@ -6,12 +6,11 @@ use Rattle.ft_arena.specs.Ids.{times, insert_after, without}
 use Rattle.ft_arena.specs.Forest.{IsForest, leaf_value, count_some}
 use Rattle.ft_arena.proofs.IdLemmas.{same_refl, same_other, times-append, times-without_same, insert_after_none}
 use Rattle.ft_arena.proofs.ArenaLemmas.{count_some_le}
-use Rattle.ft_arena.proofs.RingLemmas.{insert_after_later, without_here, without_later}
+use Rattle.ft_arena.proofs.RingLemmas.{insert_after_later}
 use Rattle.ft_shape.specs.Steps.{InsertsLeaf, TakesLeaf}
 use Rattle.ft_shape.proofs.EditLemmas.{insert_after_head}
 use Rattle.ft_shape.proofs.FitLemmas.{leaves_live}
 use Rattle.ft_shape.proofs.InsertLemmas.{room_leaves, room_values}
-use Rattle.ft_shape.proofs.WithoutLemmas.{without_apart}
 use Rattle.ft_overlap.specs.declared.items.Item.{Item}
 use Rattle.ft_overlap.specs.Items.{put_item, without_key}
 use Rattle.ft_overlap.specs.Inside.{Nodes, item_of, items_of, last_of, IsPlaceFor, IsFirstWith}
@@ -40,6 +39,11 @@ pub last_in : (xs : List ℕ) (at : ℕ) → Some at ≡ last_of xs → 1 ≤ ti
 last_in [] at e = cc e
 last_in (x ∷ []) at e = let q : at ≡ x = cc e in omega (arith, ap (λ z. times (z ∷ []) at) (sym q), same_refl at)
 last_in (x ∷ (y ∷ ys)) at e = omega (arith, last_in (y ∷ ys) at e)
+
+pub last-push : (xs : List ℕ) (id : ℕ) → last_of (xs ++ id ∷ []) ≡ Some id
+last-push [] id = refl
+last-push (x ∷ []) id = refl
+last-push (x ∷ (y ∷ ys)) id = last-push (y ∷ ys) id
 
 -- behind the last of the front part is between the parts
 after_last : (xs ys : List ℕ) (at id : ℕ) → Some at ≡ last_of xs → times (xs ++ ys) at ≤ 1 → insert_after (xs ++ ys) at id ≡ xs ++ id ∷ ys
@@ -99,13 +103,6 @@ taken_items key s s' id value f r =
     ap (items_of s') r.leaves
     ∙ items_same s s' (without s.leaves id) (λ x m. r.others x (λ e. omega (arith, m, ap (times (without s.leaves id)) e, times-without_same s.leaves id)))
     ∙ f.rest
-
--- a number that stands once between two parts leaves them
-pub without_cut : (xs ys : List ℕ) (id : ℕ) → times xs id ≡ 0 → times ys id ≡ 0 → without (xs ++ id ∷ ys) id ≡ xs ++ ys
-without_cut [] ys id h n = without_here ys id ∙ without_apart ys id n
-without_cut (x ∷ xs) ys id h n =
-    let d : x ≢ id = (λ e. omega (arith, h, ap (λ z. times (z ∷ xs) id) e, same_refl id)) in
-    without_later x (xs ++ id ∷ ys) id d ∙ ap (λ (zs : List ℕ). x ∷ zs) (without_cut xs ys id (omega (arith, h)) n)
 
 -- room that was made for nodes leaves the items
 pub room_items : (s0 s1 : Nodes) → s1 ≡ record s0 { spare = s1.spare } → items_of s1 s1.leaves ≡ items_of s0 s0.leaves

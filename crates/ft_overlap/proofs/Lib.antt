@@ -14,9 +14,9 @@ pub mod Halved
 pub mod Rooted
 pub mod Inserted
 pub mod Only
-pub mod WalkedItems
 pub mod Taken
 pub mod ItemLists
 pub mod Leaves
+pub mod KeyedLeaves
 pub mod Whole
 pub mod Descent

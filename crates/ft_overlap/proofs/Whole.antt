@@ -1,25 +1,31 @@
 -- What an index in order says of its nodes, and the other way round.
-use Rattle.std.proofs.Common.{◌≡◌, ℕ, zero, suc, ℤ, List, [], ◌∷◌, ◌++◌, Option, Some, None, All, Contains, refl, sym, ap, subst, ◌∙◌, arith}
+use Rattle.std.proofs.Common.{◌≡◌, ℕ, zero, suc, ℤ, ◌≤◌, List, [], ◌∷◌, ◌++◌, length, map, Option, Some, None, option_map, All, Contains, refl, sym, ap, subst, ◌∙◌, arith}
 use Rattle.std.proofs.lemmas.List.Elements.{All-nil, All-cons, All-append, All-contains}
 use Rattle.std.specs.List.{flat_map}
+use Rattle.std.specs.BTreeMap.{BTreeMap, is_at}
+use Rattle.std.specs.Map.{lookup}
+use Rattle.std.specs.Ordering.{nat_cmp}
 use Rattle.ft_arena.specs.Forest.{IsForest, kids_of, block_value, leaf_value, block_of_entry, count_some}
 use Rattle.ft_arena.proofs.IdLemmas.{same_refl}
 use Rattle.ft_shape.specs.declared.headed.Headed.{Headed}
 use Rattle.ft_shape.specs.Tree.{IsTree, IsBare, below, height_of}
 use Rattle.ft_shape.specs.Told.{sum_of, KeepsBut}
-use Rattle.ft_shape.proofs.Levels.{AllHigh, kids_high, root_high}
-use Rattle.ft_shape.proofs.InsertLemmas.{room_tree}
+use Rattle.ft_shape.proofs.FitLemmas.{leaves_live}
+use Rattle.ft_shape.proofs.Levels.{AllHigh, kids_high, root_high, some_leaf}
+use Rattle.ft_shape.proofs.InsertLemmas.{room_tree, room_values}
 use Rattle.ft_shape.proofs.ToldLemmas.{bare_keeps, room_keeps}
 use Rattle.ft_overlap.specs.declared.items.Item.{Item}
 use Rattle.ft_overlap.specs.declared.items.Span.{Span}
 use Rattle.ft_overlap.specs.declared.index.Index.TheInside.{Inside}
-use Rattle.ft_overlap.specs.Items.{Below, ItemList, IsInOrder, AreKnown, IsGreatest, NamesGreatest}
-use Rattle.ft_overlap.specs.Inside.{Nodes, IsSpan, item_of, items_of, depth_of, items_under, items_below, block_of, blocks_of, blocks_below, all_blocks, view_of, IsRooted, IsSound, either_named, span_last, AreGreatest, SpansLast, EndsKnown}
+use Rattle.ft_overlap.specs.declared.index.Keyed.{Keyed}
+use Rattle.ft_overlap.specs.Items.{Below, ItemList, no_items, IsInOrder, AreKnown, IsGreatest, NamesGreatest}
+use Rattle.ft_overlap.specs.Inside.{Nodes, IsSpan, item_of, items_of, depth_of, items_under, items_below, block_of, blocks_of, blocks_below, all_blocks, ids_of, leaf_in, view_of, IsRooted, IsSound, either_named, span_last, AreGreatest, SpansLast, EndsKnown}
 use Rattle.ft_overlap.proofs.Leaves.{items_in}
+use Rattle.ft_overlap.proofs.KeyedLeaves.{keyed_bare, keyed_same}
 use Rattle.ft_overlap.proofs.Law.{IsPart}
 use Rattle.ft_overlap.proofs.Parts.{in_parts}
 use Rattle.ft_overlap.proofs.Named.{names_last, are_greatest}
-use Rattle.ft_overlap.proofs.InsideLemmas.{in_tree, in_named, in_greatest, in_blocks, block_seen}
+use Rattle.ft_overlap.proofs.InsideLemmas.{in_tree, in_named, in_greatest, in_blocks, block_seen, length-items}
 
 module _ (place : ℕ → ℤ) (s : Nodes) (greatest : AreGreatest place s) where
   great_row : (h : ℕ) (xs : List ℕ) → AllHigh s h xs → All (NamesGreatest place) (blocks_of s h xs)
@@ -50,6 +56,22 @@ module _ (place : ℕ → ℤ) (a : Inside) (v : ItemList) (is : view_of a ≡ v
       of_root : (o : Option ℕ) → IsRooted a.arena o → IsForest a.arena
       of_root None t = t.forest
       of_root (Some root) t = t.shape.forest
+
+  -- without a root there is nothing at all
+  pub in_bare : a.root ≡ None → v ≡ no_items
+  in_bare e =
+      let bare : IsBare a.arena = subst (λ (o : Option ℕ). IsRooted a.arena o) e inv.rooted in
+      let made : List Item → Option ℕ → List (ℕ × List ℕ) → ItemList =
+      λ items root ids. record { items = items; depth = depth_of a.arena root; blocks = all_blocks a.arena root; ids = ids } in
+      sym is ∙ ap (λ xs. made xs a.root (ids_of a.by_key)) (ap (items_of a.arena) bare.leaves) ∙ ap (λ o. made [] o (ids_of a.by_key)) e
+      ∙ ap (λ es. made [] None (map (λ (x : ℕ × Keyed). (x.0, x.1.id)) es)) (keyed_bare a.arena a.by_key bare.nodes inv.keyed)
+
+  -- below a root is an item
+  pub in_some : (root : ℕ) → a.root ≡ Some root → 1 ≤ length v.items
+  in_some root e =
+      let tree = in_tree place a v is inv root e in
+      subst (λ (w : ItemList). 1 ≤ length w.items) is
+      (omega (arith, some_leaf a.arena root tree, length-items a.arena a.arena.leaves (leaves_live a.arena tree.shape.forest)))
 
   -- in an index in order no child ends behind what its block names
   pub in_last : IsInOrder place v → KeepsBut (SpansLast place) a.arena None
@@ -133,20 +155,29 @@ module _ (s : Nodes) (n : ℕ) where
       }
   rooted_spared (Some root) tree = room_tree s (record s { spare = n }) refl root tree
 
-module _ (a : Inside) (s : Nodes) (room : s ≡ record a.arena { spare = s.spare }) where
-  pub sound_room : IsSound a → IsSound record { arena = s; root = a.root; alloc = a.alloc }
+-- the same with other nodes
+abbrev pub with_nodes : Inside → Nodes → Inside
+with_nodes a s = record { arena = s; root = a.root; by_key = a.by_key; alloc = a.alloc }
+
+module _ (a : Inside) (s : Nodes) (room : s ≡ record a.arena { spare = s.spare }) (m : BTreeMap ℕ Keyed) (same : m.entries ≡ a.by_key.entries) where
+  pub sound_room : IsSound a → IsSound record { arena = s; root = a.root; by_key = m; alloc = a.alloc }
   sound_room h =
       record {
         rooted = subst (λ (z : Nodes). IsRooted z a.root) (sym room) (rooted_spared a.arena s.spare a.root h.rooted);
         names = room_keeps IsSpan a.arena s room h.names;
+        keyed = keyed_same a.arena (leaf_in a.by_key) h.keyed s (leaf_in m) (room_values a.arena s room)
+            (λ j. ap (λ es. option_map (λ (v : Keyed). v.leaf) (lookup (is_at (nat_cmp j)) es)) same);
       }
 
-  pub view_room : view_of record { arena = s; root = a.root; alloc = a.alloc } ≡ view_of a
+  pub view_room : view_of record { arena = s; root = a.root; by_key = m; alloc = a.alloc } ≡ view_of a
   view_room =
-      let shown : Nodes → ItemList = λ z. record { items = items_of z z.leaves; depth = depth_of z a.root; blocks = all_blocks z a.root } in
-      let made : List Item → ℕ → List Below → ItemList = λ items depth blocks. record { items = items; depth = depth; blocks = blocks } in
+      let shown : Nodes → List (ℕ × List ℕ) → ItemList =
+      λ z ids. record { items = items_of z z.leaves; depth = depth_of z a.root; blocks = all_blocks z a.root; ids = ids } in
+      let ids : List (ℕ × List ℕ) = ids_of a.by_key in
+      let made : List Item → ℕ → List Below → ItemList = λ items depth blocks. record { items = items; depth = depth; blocks = blocks; ids = ids } in
       let z : Nodes = record a.arena { spare = s.spare } in
-      ap shown room
+      ap (shown s) (ap (map (λ (e : ℕ × Keyed). (e.0, e.1.id))) same)
+      ∙ ap (λ x. shown x ids) room
       ∙ ap (λ items. made items (depth_of z a.root) (all_blocks z a.root)) (items_spared a.arena s.spare a.arena.leaves)
       ∙ ap (λ depth. made (items_of a.arena a.arena.leaves) depth (all_blocks z a.root)) (depth_spared a.arena s.spare a.root)
       ∙ ap (made (items_of a.arena a.arena.leaves) (depth_of a.arena a.root)) (all_spared a.arena s.spare a.root)

@@ -1,6 +1,9 @@
 -- How an `Index` keeps its items. No public clause cites this module.
-use Rattle.std.specs.Prelude.{◌≡◌, ◌⊎◌, ℕ, ℤ, zero, suc, ◌-◌, ◌<◌, ◌≤◌, ◌≤ℤ◌, ◌<ℤ◌, List, [], ◌∷◌, ◌++◌, length, map, insert, Option, Some, None, All, Contains}
+use Rattle.std.specs.Prelude.{◌≡◌, ◌≢◌, ◌⊎◌, ℕ, ℤ, zero, suc, ◌+◌, ◌-◌, ◌<◌, ◌≤◌, ◌≤ℤ◌, ◌<ℤ◌, List, [], ◌∷◌, ◌++◌, length, map, insert, Option, Some, None, option_map, cond, All, Contains}
 use Rattle.std.specs.List.{flat_map}
+use Rattle.std.specs.BTreeMap as tree_map
+use Rattle.std.specs.BTreeMap.{BTreeMap}
+use Rattle.std.specs.Ordering.{is_eq, nat_cmp}
 use Rattle.ft_arena.specs.Forest.{Forest, leaf_value, block_value, kids_of, parent_of}
 use Rattle.ft_arena.specs.Ids.{times, without}
 use Rattle.ft_shape.specs.declared.headed.Headed.{Headed}
@@ -9,6 +12,7 @@ use Rattle.ft_shape.specs.Told.{sum_of, told, KeepsBut}
 use Rattle.ft_overlap.specs.declared.items.Item.{Item}
 use Rattle.ft_overlap.specs.declared.items.Span.{Span}
 use Rattle.ft_overlap.specs.declared.index.Index.TheInside.{Inside}
+use Rattle.ft_overlap.specs.declared.index.Keyed.{Keyed}
 use Rattle.ft_overlap.specs.Items.{Below, ItemList, IsGreatest, item_at, without_key}
 
 abbrev pub Nodes : Type 0
@@ -53,13 +57,36 @@ abbrev pub all_blocks : Nodes → Option ℕ → List Below
 all_blocks s None = []
 all_blocks s (Some root) = blocks_below s (height_of s root) (root ∷ [])
 
+-- the id of each item by its key
+abbrev pub ids_of : BTreeMap ℕ Keyed → List (ℕ × List ℕ)
+ids_of by_key = map (λ (e : ℕ × Keyed). (e.0, e.1.id)) by_key.entries
+
+-- at each number the second look-up has what the first one has, but this at the key
+abbrev pub HasAt : {V : Type 0} → ℕ → Option V → (ℕ → Option V) → (ℕ → Option V) → Type 0
+HasAt key w m m' = (j : ℕ) → m' j ≡ cond (is_eq (nat_cmp key j)) w (m j)
+
+-- the leaf of the item with this key
+abbrev pub leaf_in : BTreeMap ℕ Keyed → ℕ → Option ℕ
+leaf_in by_key key = option_map (λ (v : Keyed). v.leaf) (tree_map.get nat_cmp by_key key)
+
 abbrev pub view_of : Inside → ItemList
-view_of a = record { items = items_of a.arena a.arena.leaves; depth = depth_of a.arena a.root; blocks = all_blocks a.arena a.root }
+view_of a =
+    record {
+      items = items_of a.arena a.arena.leaves;
+      depth = depth_of a.arena a.root;
+      blocks = all_blocks a.arena a.root;
+      ids = ids_of a.by_key;
+    }
 
 -- a tree with this root, or nothing where there is no root
 abbrev pub IsRooted : Nodes → Option ℕ → Type 0
 IsRooted s None = IsBare s
 IsRooted s (Some root) = IsTree s root
+
+-- how many nodes one item more may take
+abbrev pub room_for : Nodes → Option ℕ → ℕ
+room_for s None = 2
+room_for s (Some root) = height_of s root + 2
 
 abbrev pub either_named : Option Item → Option Item → Option Item
 either_named (Some x) o = Some x
@@ -150,9 +177,15 @@ AreNamed s = (b : ℕ) (v : Headed Span) → block_value s b ≡ Some v → Cont
 abbrev pub AreGreatest : (ℕ → ℤ) → Nodes → Type 0
 AreGreatest place s = (b : ℕ) (v : Headed Span) → block_value s b ≡ Some v → IsGreatest place v.sum.last (items_below s b)
 
+-- the leaf of each item is the one at its key, and there are no others
+pub record IsKeyed (s : Nodes) (leaf_at : ℕ → Option ℕ) : Type 0 where
+  pub there : (id : ℕ) (x : Item) → leaf_value s id ≡ Some x → leaf_at x.key ≡ Some id
+  pub only : (key id : ℕ) → leaf_at key ≡ Some id → (x : Item) × (leaf_value s id ≡ Some x) × (x.key ≡ key)
+
 pub record IsSound (a : Inside) : Type 0 where
   pub rooted : IsRooted a.arena a.root
   pub names : KeepsBut IsSpan a.arena None
+  pub keyed : IsKeyed a.arena (leaf_in a.by_key)
 
 -- the last number
 abbrev pub last_of : List ℕ → Option ℕ
@@ -174,6 +207,12 @@ pub record IsPlaceFor (place : ℕ → ℤ) (b : ℤ) (s : Nodes) (at : Option �
   pub last : at ≡ last_of left
   pub before : All (λ x. place x.start ≤ℤ b) (items_of s left)
   pub behind : IsBehind place b (items_of s right)
+
+-- a new leaf with this item; each other one keeps its own
+pub record AddsLeaf (old new : Nodes) (id : ℕ) (item : Item) : Type 0 where
+  pub fresh : leaf_value old id ≡ None
+  pub value : leaf_value new id ≡ Some item
+  pub others : (x : ℕ) → x ≢ id → leaf_value new x ≡ leaf_value old x
 
 -- the leaf's item is the first with this key
 pub record IsFirstWith (key : ℕ) (s : Nodes) (id : ℕ) : Type 0 where

@@ -1,5 +1,8 @@
--- What a contract sees of an `Index`: the items in order, and the blocks, each with the item that it names.
+-- What a contract sees of an `Index`: the items in order, the blocks, each with the item that it names, and the ids by keys.
 use Rattle.std.specs.Prelude.{◌≡◌, ◌⊎◌, ℕ, ℤ, int_lt, ◌≤ℤ◌, Bool, true, false, not, ◌&&◌, ◌==◌, if◌then◌else◌, List, [], ◌∷◌, Option, Some, None, All, Contains}
+use Rattle.std.specs.BTreeMap.{is_at}
+use Rattle.std.specs.Map.{lookup}
+use Rattle.std.specs.Ordering.{nat_cmp}
 use Rattle.ft_overlap.specs.declared.items.Item.{Item}
 
 -- a block: the item that it names, and the items below it from first to last
@@ -7,15 +10,21 @@ pub record Below : Type 0 where
   pub named : Item
   pub items : List Item
 
--- the items from first to last, how many blocks stand below the root on the way to an item, and all blocks
+-- the items from first to last, how many blocks stand below the root on the way to an item, all blocks, and the id of each item
+-- by its key
 pub record ItemList : Type 0 where
   pub items : List Item
   pub depth : ℕ
   pub blocks : List Below
+  pub ids : List (ℕ × List ℕ)
 
 -- no items
 abbrev pub no_items : ItemList
-no_items = record { items = []; depth = 0; blocks = [] }
+no_items = record { items = []; depth = 0; blocks = []; ids = [] }
+
+-- the id at this key
+abbrev pub id_at : ℕ → List (ℕ × List ℕ) → Option (List ℕ)
+id_at key ids = lookup (is_at (nat_cmp key)) ids
 
 -- the place of its start is at most b
 abbrev pub starts_by : (ℕ → ℤ) → ℤ → Item → Bool

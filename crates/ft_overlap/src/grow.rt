@@ -16,6 +16,13 @@ use ft_base::Steps;
 use ft_shape::{Headed, child_place, count_of, height_at, move_half, put_in_half};
 use std::sync::ledger::Ledger;
 
+// What an insertion leaves: the root, and the leaf of the new item.
+#[derive(Clone, Copy)]
+pub(crate) struct Inserted {
+    pub(crate) root: NodeId,
+    pub(crate) leaf: NodeId,
+}
+
 // Splits a full block, and puts a node at this place among its children. Tells the new block.
 fn split_put<P: Places, G: Ledger>(
     arena: &mut Arena<Item, Headed<Span>>,
@@ -176,7 +183,7 @@ fn put_leaf<P: Places, G: Ledger>(
     top
 }
 
-// Puts a new item directly after another. Tells the root.
+// Puts a new item directly after another.
 pub(crate) fn insert_at<P: Places, G: Ledger>(
     arena: &mut Arena<Item, Headed<Span>>,
     root: NodeId,
@@ -184,7 +191,7 @@ pub(crate) fn insert_at<P: Places, G: Ledger>(
     item: Item,
     places: &P,
     steps: &mut Steps<G>,
-) -> NodeId
+) -> Inserted
     requires tree { IsTree arena.old root }
     requires spare { height_of arena.old root + 2 ≤ arena.old.spare }
     requires at { IsSome (leaf_value arena.old at) }
@@ -192,10 +199,10 @@ pub(crate) fn insert_at<P: Places, G: Ledger>(
     requires last { KeepsBut (SpansLast (P.end_place places.now)) arena.old None }
     requires item { P.Knows places.now item.end }
     requires known { EndsKnown (P.Knows places.now) arena.old }
-    ensures tree { IsTree arena.new result }
+    ensures tree { IsTree arena.new result.root }
     ensures one { KeepsBut IsSpan arena.new None }
     ensures last { KeepsBut (SpansLast (P.end_place places.now)) arena.new None }
-    ensures inserts { (id : ℕ) × InsertsLeaf arena.old arena.new id item (λ xs. insert_after xs at id) }
+    ensures inserts { InsertsLeaf arena.old arena.new result.leaf item (λ xs. insert_after xs at result.leaf) }
 {
     // There are fewer items than numbers of nodes, so the tree is far lower than that.
     let _first = arena.first();
@@ -204,27 +211,30 @@ pub(crate) fn insert_at<P: Places, G: Ledger>(
         unreachable!();
     };
     let (place, _) = child_place(arena, block, at, steps);
-    put_leaf(arena, root, block, place + 1, id, item, places, steps)
+    Inserted {
+        root: put_leaf(arena, root, block, place + 1, id, item, places, steps),
+        leaf: id,
+    }
 }
 
-// Puts a new item before all others. Tells the root.
+// Puts a new item before all others.
 pub(crate) fn insert_front<P: Places, G: Ledger>(
     arena: &mut Arena<Item, Headed<Span>>,
     root: NodeId,
     item: Item,
     places: &P,
     steps: &mut Steps<G>,
-) -> NodeId
+) -> Inserted
     requires tree { IsTree arena.old root }
     requires spare { height_of arena.old root + 2 ≤ arena.old.spare }
     requires one { KeepsBut IsSpan arena.old None }
     requires last { KeepsBut (SpansLast (P.end_place places.now)) arena.old None }
     requires item { P.Knows places.now item.end }
     requires known { EndsKnown (P.Knows places.now) arena.old }
-    ensures tree { IsTree arena.new result }
+    ensures tree { IsTree arena.new result.root }
     ensures one { KeepsBut IsSpan arena.new None }
     ensures last { KeepsBut (SpansLast (P.end_place places.now)) arena.new None }
-    ensures inserts { (id : ℕ) × InsertsLeaf arena.old arena.new id item (λ xs. id ∷ xs) }
+    ensures inserts { InsertsLeaf arena.old arena.new result.leaf item (λ xs. result.leaf ∷ xs) }
 {
     let Some(first) = arena.first() else {
         unreachable!();
@@ -234,17 +244,20 @@ pub(crate) fn insert_front<P: Places, G: Ledger>(
         unreachable!();
     };
     let (place, _) = child_place(arena, block, first, steps);
-    put_leaf(arena, root, block, place, id, item, places, steps)
+    Inserted {
+        root: put_leaf(arena, root, block, place, id, item, places, steps),
+        leaf: id,
+    }
 }
 
-// Puts the first item of all, under a new root. Tells the root.
-pub(crate) fn insert_first(arena: &mut Arena<Item, Headed<Span>>, item: Item) -> NodeId
+// Puts the first item of all, under a new root.
+pub(crate) fn insert_first(arena: &mut Arena<Item, Headed<Span>>, item: Item) -> Inserted
     requires bare { IsBare arena.old }
     requires spare { 2 ≤ arena.old.spare }
-    ensures tree { IsTree arena.new result }
+    ensures tree { IsTree arena.new result.root }
     ensures one { KeepsBut IsSpan arena.new None }
     ensures last { (place : ℕ → ℤ) → KeepsBut (SpansLast place) arena.new None }
-    ensures inserts { (id : ℕ) × InsertsLeaf arena.old arena.new id item (λ xs. id ∷ xs) }
+    ensures inserts { InsertsLeaf arena.old arena.new result.leaf item (λ xs. result.leaf ∷ xs) }
 {
     let id = arena.link_after(None, item);
     let top = arena.add_block(Headed {
@@ -255,5 +268,8 @@ pub(crate) fn insert_first(arena: &mut Arena<Item, Headed<Span>>, item: Item) ->
         },
     });
     arena.put_child(top, 0, id);
-    top
+    Inserted {
+        root: top,
+        leaf: id,
+    }
 }

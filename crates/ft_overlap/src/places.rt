@@ -1,11 +1,11 @@
-//! Where an item stands in the list: the place for a new one, and the one with a key.
+//! Where a new item stands in the list.
 
-ghost use Rattle.std.specs.Prelude.{◌≡◌, ℕ, Some, None, IsSome, MatchOption};
-ghost use Rattle.ft_arena.specs.Forest.{IsForest, entry, leaf_value, block_value, kids_of};
+ghost use Rattle.std.specs.Prelude.{◌≡◌, ℕ, Some, None, IsSome};
+ghost use Rattle.ft_arena.specs.Forest.{entry, leaf_value, block_value, kids_of};
 ghost use Rattle.ft_shape.specs.Tree.{IsTree};
 ghost use Rattle.ft_shape.specs.Told.{KeepsBut};
-ghost use Rattle.ft_overlap.specs.Items.{item_at, IsRising};
-ghost use Rattle.ft_overlap.specs.Inside.{IsPlaceFor, IsFirstWith, IsSpan, items_of};
+ghost use Rattle.ft_overlap.specs.Items.{IsRising};
+ghost use Rattle.ft_overlap.specs.Inside.{IsPlaceFor, IsSpan, items_of};
 ghost use Rattle.ft_overlap.specs.Search.{StartsBelow, IsStartedBy, IsChildBy};
 
 use crate::items::{Item, Places, Span};
@@ -14,17 +14,6 @@ use ft_arena::{Arena, Kids, Node, NodeId};
 use ft_base::Steps;
 use ft_shape::Headed;
 use std::sync::ledger::Ledger;
-
-// The item of a leaf.
-fn item_of<G: Ledger>(arena: &Arena<Item, Headed<Span>>, id: NodeId, steps: &mut Steps<G>) -> Item
-    requires { IsSome (leaf_value arena.now id) }
-    ensures { leaf_value arena.now id ≡ Some result }
-{
-    match arena.read(id, steps) {
-        Node::Leaf { value } => *value,
-        Node::Block { .. } => unreachable!(),
-    }
-}
 
 // The number of the end at which the first item below a node starts.
 fn start_below<G: Ledger>(
@@ -104,24 +93,4 @@ pub(crate) fn place_for<P: Places, G: Ledger>(
         node = child_by(arena, root, node, kids, item.start, at, steps);
     }
     Some(node)
-}
-
-// The first leaf whose item has this key, if there is one.
-pub(crate) fn with_key<G: Ledger>(
-    arena: &Arena<Item, Headed<Span>>,
-    key: u64,
-    steps: &mut Steps<G>,
-) -> Option<NodeId>
-    requires { IsForest arena.now }
-    ensures { MatchOption result (item_at key (items_of arena.now arena.now.leaves) ≡ None) (λ id. IsFirstWith key arena.now id) }
-{
-    let mut next = arena.first();
-    while let Some(id) = next {
-        let item = item_of(arena, id, steps);
-        if item.key == key {
-            return Some(id);
-        }
-        next = arena.next(id);
-    }
-    None
 }

@@ -15,7 +15,7 @@ returns-in-Some c =
     let x = c.args.index.now in
     let from = map (settled_interval (text_elements tree) 0) (placed_intervals tree.refs c.args.store.now.acked) in
     let id = c.in-Some.id.now in
-    let there : id_in (Some x) c.args.key.now ≡ Some id = sym c.get.ensures.value ∙ ap option_copied c.in-Some.is in
+    let there : id_in (Some x) c.args.key.now ≡ Some id = sym c.id_of.ensures ∙ ap option_copied c.in-Some.is in
     on_ok_weaker c.add_named.result (λ g. gathers-less tree from (λ n. is_eq (name_cmp n (x.label, id))) (λ n. is_eq (text_cmp n.0 x.label) && is_id n.1 (id_in (Some x) c.args.key.now)) c.args.all.now c.add_named.new.all
     (λ n e. name-parts n x.label id ∙ ap (λ o. is_eq (text_cmp n.0 x.label) && is_id n.1 o) (sym there) ∙ e) g) c.add_named.ensures
 
@@ -24,5 +24,5 @@ returns-in-None c =
     let tree = c.args.tree.now in
     let x = c.args.index.now in
     let from = map (settled_interval (text_elements tree) 0) (placed_intervals tree.refs c.args.store.now.acked) in
-    let gone : id_in (Some x) c.args.key.now ≡ None = sym c.get.ensures.value ∙ ap option_copied c.in-None.is in
+    let gone : id_in (Some x) c.args.key.now ≡ None = sym c.id_of.ensures ∙ ap option_copied c.in-None.is in
     gathers-none tree from (λ n. is_eq (text_cmp n.0 x.label) && is_id n.1 (id_in (Some x) c.args.key.now)) c.args.all.now (λ n. no-id n x (id_in (Some x) c.args.key.now) gone)

@@ -1,6 +1,7 @@
 use Rattle.std.proofs.Common.{◌≡◌, ℕ, Bool, length, arith, Some, None, List, sym, ◌∙◌, ap, subst}
 use Rattle.std.specs.Prelude.{position}
 use Rattle.std.specs.Ordering.{is_eq}
+use Rattle.ft_overlap.specs.Items.{ItemList, id_at}
 use Rattle.ft_props.specs.Keys.{text_cmp}
 use Rattle.ft_interval_index.specs.declared.indexes.LabelIndex.{LabelIndex}
 use Rattle.ft_interval_index.specs.Indexes.{KeepsOtherLabels, id_in, index_of, list_in}
@@ -23,7 +24,7 @@ returns-clause-same c =
     let old = label-none c.args.label.now c.args.indexes.now.items none in
     record {
       list = ap list_in new ∙ c.in_ok-empty.ensures.1 ∙ sym (ap list_in old);
-      ids = λ k. ap (λ x. id_in x k) new ∙ c.in_ok-empty.ensures.2 k ∙ sym (ap (λ x. id_in x k) old);
+      ids = λ k. ap (λ x. id_in x k) new ∙ ap (λ (w : ItemList). id_at k w.ids) c.in_ok-empty.ensures.1 ∙ sym (ap (λ x. id_in x k) old);
     }
 
 pub returns-clause-others : goal.returns-clause-others

@@ -69,10 +69,9 @@ put_leaf-requires-clause-tall g c =
     omega (arith, h, height_fits c.args.arena.now c.args.root c.requires.tree c.first-first.ensures.few)
 
 pub returns-clause-inserts : goal.returns-clause-inserts
-returns-clause-inserts g c = (
-  c.link_after-id.result,
-  leaf_inserts c.args.arena.now c.link_after-id.new.self c.args.root c.args.at c.link_after-id.result 1 (λ xs. insert_after xs c.args.at c.link_after-id.result)
-      (after_is_edit c.args.at c.link_after-id.result)
-      c.args.item c.requires.tree c.requires.at c.link_after-id.ensures.fresh c.link_after-id.ensures.changes c.link_after-id.ensures.leaves c.link_after-id.ensures.sound
-      c.put_leaf.new.arena c.put_leaf.ensures.leaves c.put_leaf.ensures.leaf_values,
-)
+returns-clause-inserts g c =
+    leaf_inserts c.args.arena.now c.link_after-id.new.self c.args.root c.args.at c.link_after-id.result 1 (λ xs. insert_after xs c.args.at
+    c.link_after-id.result)
+    (after_is_edit c.args.at c.link_after-id.result)
+    c.args.item c.requires.tree c.requires.at c.link_after-id.ensures.fresh c.link_after-id.ensures.changes c.link_after-id.ensures.leaves c.link_after-id.ensures.sound
+    c.put_leaf.new.arena c.put_leaf.ensures.leaves c.put_leaf.ensures.leaf_values

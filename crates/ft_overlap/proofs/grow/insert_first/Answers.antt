@@ -9,7 +9,10 @@ pub returns-clause-tree : goal.returns-clause-tree
 returns-clause-tree c = only_tree c.args.arena.now c.link_after-id.new.self c.add_block-top.new.self c.put_child.new.self c.put_child.new.self c.link_after-id.result c.add_block-top.result c.args.item _ refl c.requires.bare.nodes c.requires.bare.leaves c.link_after-id.ensures.leaves c.link_after-id.ensures.changes c.add_block-top.ensures.leaves c.add_block-top.ensures.fresh c.add_block-top.ensures.changes c.put_child.ensures.leaves c.put_child.ensures.puts (SameShape-refl c.put_child.new.self c.put_child.ensures.sound)
 
 pub returns-clause-inserts : goal.returns-clause-inserts
-returns-clause-inserts c = (c.link_after-id.result, only_inserts c.args.arena.now c.link_after-id.new.self c.add_block-top.new.self c.put_child.new.self c.put_child.new.self c.link_after-id.result c.add_block-top.result c.args.item _ refl c.requires.bare.nodes c.requires.bare.leaves c.link_after-id.ensures.leaves c.link_after-id.ensures.changes c.add_block-top.ensures.leaves c.add_block-top.ensures.fresh c.add_block-top.ensures.changes c.put_child.ensures.leaves c.put_child.ensures.puts (SameShape-refl c.put_child.new.self c.put_child.ensures.sound))
+returns-clause-inserts c = only_inserts c.args.arena.now c.link_after-id.new.self c.add_block-top.new.self c.put_child.new.self c.put_child.new.self
+    c.link_after-id.result c.add_block-top.result c.args.item _ refl c.requires.bare.nodes c.requires.bare.leaves c.link_after-id.ensures.leaves
+    c.link_after-id.ensures.changes c.add_block-top.ensures.leaves c.add_block-top.ensures.fresh c.add_block-top.ensures.changes
+    c.put_child.ensures.leaves c.put_child.ensures.puts (SameShape-refl c.put_child.new.self c.put_child.ensures.sound)
 
 pub returns-clause-one : goal.returns-clause-one
 returns-clause-one c = first_one c.put_child.new.self c.link_after-id.result c.add_block-top.result c.args.item _ refl (only_inserts c.args.arena.now c.link_after-id.new.self c.add_block-top.new.self c.put_child.new.self c.put_child.new.self c.link_after-id.result c.add_block-top.result c.args.item _ refl c.requires.bare.nodes c.requires.bare.leaves c.link_after-id.ensures.leaves c.link_after-id.ensures.changes c.add_block-top.ensures.leaves c.add_block-top.ensures.fresh c.add_block-top.ensures.changes c.put_child.ensures.leaves c.put_child.ensures.puts (SameShape-refl c.put_child.new.self c.put_child.ensures.sound)).value (o_kids_top c.args.arena.now c.link_after-id.new.self c.add_block-top.new.self c.put_child.new.self c.put_child.new.self c.link_after-id.result c.add_block-top.result c.args.item _ refl c.requires.bare.nodes c.requires.bare.leaves c.link_after-id.ensures.leaves c.link_after-id.ensures.changes c.add_block-top.ensures.leaves c.add_block-top.ensures.fresh c.add_block-top.ensures.changes c.put_child.ensures.leaves c.put_child.ensures.puts (SameShape-refl c.put_child.new.self c.put_child.ensures.sound)) (c.put_child.ensures.puts.block_values c.add_block-top.result ∙ ap block_of_entry c.add_block-top.ensures.changes.changed) (o_block c.args.arena.now c.link_after-id.new.self c.add_block-top.new.self c.put_child.new.self c.put_child.new.self c.link_after-id.result c.add_block-top.result c.args.item _ refl c.requires.bare.nodes c.requires.bare.leaves c.link_after-id.ensures.leaves c.link_after-id.ensures.changes c.add_block-top.ensures.leaves c.add_block-top.ensures.fresh c.add_block-top.ensures.changes c.put_child.ensures.leaves c.put_child.ensures.puts (SameShape-refl c.put_child.new.self c.put_child.ensures.sound))

@@ -129,4 +129,4 @@ returns-clause-inserts g c =
     (before_is_edit c.in-Some.first c.link_after-id.result) c.args.item c.requires.tree live c.link_after-id.ensures.fresh c.link_after-id.ensures.changes l
     c.link_after-id.ensures.sound
     c.put_leaf.new.arena c.put_leaf.ensures.leaves c.put_leaf.ensures.leaf_values in
-    (c.link_after-id.result, record { leaves = i.leaves ∙ sym front.0; fresh = i.fresh; value = i.value; others = i.others })
+    record { leaves = i.leaves ∙ sym front.0; fresh = i.fresh; value = i.value; others = i.others }

@@ -1,7 +1,4 @@
 use Rattle.ft_overlap.proofs.index.Index.remove.Given as goal
 
-abbrev pub ghosts-find_key : goal.ghosts-find_key
-ghosts-find_key g a = record { name = a.blank.name; parts = a.blank.parts }
-
 abbrev pub ghosts-take_in : goal.ghosts-take_in
 ghosts-take_in g a = record { name = a.blank.name; parts = a.blank.parts }
