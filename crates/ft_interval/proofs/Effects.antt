@@ -11,8 +11,7 @@ use Rattle.ft_interval_store.specs.declared.pending.Operation.{Operation}
 use Rattle.ft_interval_store.specs.Ends.{References, map_ends, places_of_ends, slid_end}
 use Rattle.ft_interval_store.specs.Intervals.{NamesRise, after_operation}
 use Rattle.ft_interval_store.specs.State.{AreOwnEnds, CollectionsState, IsAfter, IsAfterFirst, IsFirst, IsLive, KeepsReferences, ends_of_name, first_operation, placed, placed_intervals, text_elements, with_effect, with_first_acked}
-use Rattle.ft_interval_index.specs.declared.indexes.LabelIndex.{LabelIndex}
-use Rattle.ft_interval_index.specs.Indexes.{AreEndsWithin, AreListed, ends_but}
+use Rattle.ft_interval_index.specs.Indexes.{LabelIndex, AreEndsWithin, AreListed, ends_but}
 use Rattle.ft_interval_index.proofs.Listed.{some-is}
 use Rattle.ft_interval.proofs.ListedEffects.{ends-listed, ends-within, listed-after}
 

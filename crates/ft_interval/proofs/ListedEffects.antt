@@ -5,11 +5,10 @@ use Rattle.ft_op.specs.declared.operations.TextOp.{TextOp}
 use Rattle.ft_op.specs.declared.operations.TextOp.TheVariants.{One, Group, IntervalAdd, IntervalChange, IntervalDelete}
 use Rattle.ft_tree_leaves.specs.Elements.{TreeElement, is_unremoved}
 use Rattle.ft_tree_leaves.specs.References.{reference_place}
-use Rattle.ft_interval_index.specs.declared.indexes.LabelIndex.{LabelIndex}
 use Rattle.ft_interval_store.specs.declared.intervals.EndPair.{EndPair}
 use Rattle.ft_interval_store.specs.declared.intervals.Interval.{Interval}
 use Rattle.ft_interval_store.specs.Ends.{References, map_ends, no_ends, place_of_end, places_of_ends, slid_end}
-use Rattle.ft_interval_index.specs.Indexes.{AreEndsWithin, AreListed, ends_but, index_of, item_for}
+use Rattle.ft_interval_index.specs.Indexes.{LabelIndex, AreEndsWithin, AreListed, ends_but, index_of, item_for}
 use Rattle.ft_interval_store.specs.State.{IsAfter, ends_of_name, placed_intervals, with_mapped_ends}
 use Rattle.ft_interval_store.specs.Intervals.{Name, NamesRise, after_operation, after_own, interval_of, is_on, one_after}
 use Rattle.ft_interval_index.specs.Order.{IsWithin}

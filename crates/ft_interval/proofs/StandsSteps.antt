@@ -7,14 +7,13 @@ use Rattle.ft_props.specs.Keys.{Characters}
 use Rattle.ft_tree_leaves.specs.declared.text.TextContent.{TextContent}
 use Rattle.ft_tree_leaves.specs.References.{reference_place}
 use Rattle.ft_tree.specs.State.{TreeState}
-use Rattle.ft_interval_index.specs.declared.indexes.LabelIndex.{LabelIndex}
 use Rattle.ft_interval_store.specs.declared.intervals.EndPair.{EndPair}
 use Rattle.ft_interval_store.specs.declared.intervals.Interval.{Interval}
 use Rattle.ft_interval_store.specs.Ends.{References, no_ends, place_of_end, places_of_ends}
 use Rattle.ft_interval_store.specs.Intervals.{Name, interval_of}
 use Rattle.ft_interval_store.specs.State.{CollectionsState, IsLive, ends_of_name, placed_intervals, text_elements, with_mapped_ends}
 use Rattle.ft_interval_store.proofs.OneInterval.{interval_of-map}
-use Rattle.ft_interval_index.specs.Indexes.{AreListed, IsListed, attached_ends, index_of}
+use Rattle.ft_interval_index.specs.Indexes.{LabelIndex, AreListed, IsListed, attached_ends, index_of}
 use Rattle.ft_interval.specs.State.{IndexedState, StandsOn}
 use Rattle.ft_interval_index.specs.Order.{list_place}
 use Rattle.ft_interval_index.proofs.Listed.{moved-listed, some-is}

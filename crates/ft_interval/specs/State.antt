@@ -3,8 +3,7 @@ use Rattle.std.specs.Prelude.{List, length}
 use Rattle.ft_tree_leaves.specs.declared.text.TextContent.{TextContent}
 use Rattle.ft_tree.specs.State.{TreeState}
 use Rattle.ft_interval_store.specs.State.{CollectionsState, IsLive, ends_of_name, text_elements}
-use Rattle.ft_interval_index.specs.declared.indexes.LabelIndex.{LabelIndex}
-use Rattle.ft_interval_index.specs.Indexes.{AreListed}
+use Rattle.ft_interval_index.specs.Indexes.{LabelIndex, AreListed}
 
 -- intervals and pending operations, and the indexes
 pub record IndexedState : Type 0 where

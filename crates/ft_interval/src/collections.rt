@@ -19,7 +19,7 @@ ghost use Rattle.ft_interval_store.specs.State.{IsAboveAll, IsFirst, IsInOrder, 
 
 use ft_base::{OutOfMemory, Perspective, Steps, Text};
 use ft_interval_index::gathering::overlapping;
-use ft_interval_index::indexes::LabelIndex;
+use ft_interval_index::indexes::Indexes;
 use ft_interval_index::listing::{enlist_changed, unlist_changed};
 use ft_interval_store::{IntervalFault, Store};
 use ft_op::{Ends, TextOp};
@@ -41,7 +41,7 @@ use std::sync::ledger::Ledger;
 #[derive(Drop)]
 pub struct Collections {
     store: Store,
-    indexes: Vec<LabelIndex>,
+    indexes: Indexes,
 }
 
 impl Model for Collections {
@@ -49,7 +49,7 @@ impl Model for Collections {
 
     ghost Value = { IndexedState };
 
-    ghost view = { λ a. record { state = a.store; indexes = a.indexes.items } };
+    ghost view = { λ a. record { state = a.store; indexes = a.indexes } };
 }
 
 impl Collections {
@@ -60,7 +60,7 @@ impl Collections {
     {
         Collections {
             store: Store::new(alloc),
-            indexes: Vec::new(alloc),
+            indexes: Indexes::new(alloc),
         }
     }
 

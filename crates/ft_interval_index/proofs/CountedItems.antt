@@ -14,13 +14,12 @@ use Rattle.ft_props.specs.Keys.{Characters, text_cmp}
 use Rattle.ft_sumdoc.specs.Meeting.{meets}
 use Rattle.ft_tree_leaves.specs.Elements.{TreeElement}
 use Rattle.ft_tree_leaves.specs.References.{reference_place}
-use Rattle.ft_interval_index.specs.declared.indexes.LabelIndex.{LabelIndex}
 use Rattle.ft_interval_store.specs.declared.intervals.EndPair.{EndPair}
 use Rattle.ft_interval_store.specs.declared.intervals.Interval.{Interval}
 use Rattle.ft_interval_store.specs.declared.pending.Operation.{Operation}
 use Rattle.ft_interval_store.specs.Ends.{References, place_of_end, places_of_ends}
 use Rattle.ft_interval_store.specs.Gathered.{is_on_any}
-use Rattle.ft_interval_index.specs.Indexes.{IsItemOf, IsListed, id_in, keys_meeting, list_in, meets_range}
+use Rattle.ft_interval_index.specs.Indexes.{LabelIndex, IsItemOf, IsListed, id_in, keys_meeting, list_in, meets_range}
 use Rattle.ft_interval_store.specs.Intervals.{Name, NamesRise, interval_of, name_of}
 use Rattle.ft_interval_store.specs.Shown.{shown_end, shown_place, carried_interval, last, number_at, settled_interval, shown_from, shown_one_from, shown_record}
 use Rattle.ft_interval_store.specs.State.{StagesRise, ends_of_name, placed_intervals, with_mapped_ends}

@@ -19,8 +19,7 @@ use Rattle.ft_interval_store.specs.Intervals.{Name, is_on, name_cmp}
 use Rattle.ft_interval_store.specs.Shown.{last}
 use Rattle.ft_interval_store.specs.State.{placed_operations, with_mapped_names}
 use Rattle.ft_interval_store.proofs.Gathered.{any-append, part-less}
-use Rattle.ft_interval_index.specs.declared.indexes.LabelIndex.{LabelIndex}
-use Rattle.ft_interval_index.specs.Indexes.{id_in, is_found, is_id}
+use Rattle.ft_interval_index.specs.Indexes.{LabelIndex, id_in, is_found, is_id}
 
 or-more : (a b c : Bool) → (b ≡ true → c ≡ true) → a || b ≡ true → a || c ≡ true
 or-more true b c h e = refl

@@ -1,123 +1,124 @@
--- Lists of indexes, one for each label, where one is written or added.
-use Rattle.std.proofs.Common.{◌≡◌, ℕ, ◌+◌, ◌<◌, ◌≤◌, Bool, true, false, cond, nat_lt, List, [], ◌∷◌, ◌++◌, length, set, get_or, slice_get, find, Option, Some, None, refl, sym, ◌∙◌, ap, arith}
-use Rattle.std.specs.Prelude.{IfSome, position}
-use Rattle.std.specs.List.{position_or_len}
-use Rattle.std.specs.Option.{option_or}
-use Rattle.std.specs.Ordering.{is_eq}
-use Rattle.std.proofs.lemmas.Bool.{cond-true}
-use Rattle.std.proofs.lemmas.Bool.Decides.{nat_tests}
-use Rattle.std.proofs.lemmas.List.{length-append}
-use Rattle.std.proofs.lemmas.List.Folds.{find-append, find-set, find_at, find_past}
-use Rattle.std.proofs.lemmas.Option.{slice_get-get_or, slice_get_past}
+-- The indexes of labels, where they stand in a map by the texts of the labels.
+use Rattle.std.proofs.Common.{◌≡◌, ◌≤◌, ℕ, ℤ, Bool, true, false, cond, List, [], ◌∷◌, length, Option, Some, None, refl, sym, ◌∙◌, ap, subst, arith, chars}
+use Rattle.std.specs.Prelude.{IfSome, String, string_bytes}
+use Rattle.std.specs.declared.alloc.Global.{Global}
+use Rattle.std.specs.declared.cmp.Ordering.{Ordering}
+use Rattle.std.specs.declared.cmp.Ordering.TheVariants.{Less, Equal, Greater}
+use Rattle.std.specs.BTreeMap.{insert_entry, is_at}
+use Rattle.std.specs.Map.{lookup, remove_entry, set_value}
+use Rattle.std.specs.Ordering.{is_eq, match_ordering, nat_cmp}
+use Rattle.std.specs.Cmp.Lexicographic.{slice_cmp}
+use Rattle.std.specs.Str.{IsUtf8}
+use Rattle.std.proofs.lemmas.Str.{IsUtf8-string_bytes}
+use Rattle.ft_overlap.specs.declared.items.Item.{Item}
+use Rattle.ft_overlap.specs.Items.{ItemList, no_items, put_item, starts_by}
 use Rattle.ft_props.specs.Keys.{Characters, text_cmp}
-use Rattle.ft_interval_index.specs.declared.indexes.LabelIndex.{LabelIndex}
-use Rattle.ft_interval_index.specs.Indexes.{KeepsOtherLabels, index_of}
-use Rattle.ft_interval_index.proofs.FoundItems.{text-is, text-self}
+use Rattle.ft_props.proofs.Utf8Order.{utf8-cmp}
+use Rattle.ft_interval_index.specs.Indexes.{HasItems, IsSameIndex, KeepsOtherLabels, LabelIndex, PutsItem, id_in, index_of, item_for, labelled, labelled_if, list_in}
+use Rattle.ft_interval_index.specs.Order.{list_place}
+use Rattle.ft_interval_store.specs.Ends.{References}
+use Rattle.ft_interval_index.specs.ByLabel.{labelled_by}
+use Rattle.ft_interval_index.proofs.FoundItems.{text-is}
 
-passes : {X : Type 0} (p : X → Bool) (xs : List X) (y : X) → find p xs ≡ Some y → p y ≡ true
-passes p [] y h = (let never : None ≡ Some y = h in absurd (cc))
-passes p (x ∷ xs) y h = step (p x) refl h (passes p xs y)
+-- what a text says
+abbrev pub label_of : String Global → Characters
+label_of k = chars (string_bytes k)
+
+-- the test is whether a text is that of the label
+abbrev pub Finds : Characters → (String Global → Bool) → Type 0
+Finds label test = (k : String Global) → test k ≡ is_eq (text_cmp label (label_of k))
+
+-- a query by the label's bytes
+pub finds-text : (label : Characters) (bytes : List ℕ) → IsUtf8 bytes → chars bytes ≡ label
+    → Finds label (is_at (λ (k : String Global). slice_cmp nat_cmp bytes (string_bytes k)))
+finds-text label bytes u is k =
+    ap is_eq (utf8-cmp bytes (string_bytes k) u (IsUtf8-string_bytes k) ∙ ap (λ l. text_cmp l (label_of k)) is)
+
+abbrev pub Entries : Type 0
+Entries = List (String Global × ItemList)
+
+module _ (label : Characters) (test : String Global → Bool) (finds : Finds label test) where
+  pub found-index : (es : Entries) → labelled_if label (lookup test es) ≡ index_of label (labelled_by es)
+  found-index [] = refl
+  found-index (e ∷ es) = step (test e.0) (sym (finds e.0)) (found-index es)
+    where
+      step : (b : Bool) → is_eq (text_cmp label (label_of e.0)) ≡ b → labelled_if label (lookup test es) ≡ index_of label (labelled_by es)
+          → labelled_if label (cond b (Some e.1) (lookup test es))
+          ≡ cond (is_eq (text_cmp label (label_of e.0))) (Some (labelled (label_of e.0) e.1)) (index_of label (labelled_by es))
+      step true t h = ap (λ l. Some (labelled l e.1)) (text-is label (label_of e.0) t)
+          ∙ sym (ap (λ b. cond b (Some (labelled (label_of e.0) e.1)) (index_of label (labelled_by es))) t)
+      step false t h = h ∙ sym (ap (λ b. cond b (Some (labelled (label_of e.0) e.1)) (index_of label (labelled_by es))) t)
+
+  pub found-some : (es : Entries) (x : ItemList) → lookup test es ≡ Some x → index_of label (labelled_by es) ≡ Some (labelled label x)
+  found-some es x e = sym (found-index es) ∙ ap (labelled_if label) e
+
+  pub found-none : (es : Entries) → lookup test es ≡ None → index_of label (labelled_by es) ≡ None
+  found-none es e = sym (found-index es) ∙ ap (labelled_if label) e
+
+  -- an index of the label isn't that of another one
+  passed : (l : Characters) → is_eq (text_cmp l label) ≡ false → (k : String Global) → test k ≡ true → is_eq (text_cmp l (label_of k)) ≡ false
+  passed l d k t = ap (λ c. is_eq (text_cmp l c)) (sym (text-is label (label_of k) (sym (finds k) ∙ t))) ∙ d
+
+  pub others-set : (w : ItemList) (es : Entries) → KeepsOtherLabels label (labelled_by es) (labelled_by (set_value test es w))
+  others-set w [] = λ l d. refl
+  others-set w (e ∷ es) = λ l d. step l d (test e.0) refl (others-set w es l d)
+    where
+      step : (l : Characters) → is_eq (text_cmp l label) ≡ false → (b : Bool) → test e.0 ≡ b
+          → index_of l (labelled_by (set_value test es w)) ≡ index_of l (labelled_by es)
+          → index_of l (labelled_by (cond b ((e.0, w) ∷ es) (e ∷ set_value test es w))) ≡ index_of l (labelled_by (e ∷ es))
+      step l d true t h =
+          ap (λ b. cond b (Some (labelled (label_of e.0) w)) (index_of l (labelled_by es))) (passed l d e.0 t)
+          ∙ sym (ap (λ b. cond b (Some (labelled (label_of e.0) e.1)) (index_of l (labelled_by es))) (passed l d e.0 t))
+      step l d false t h = ap (λ o. cond (is_eq (text_cmp l (label_of e.0))) (Some (labelled (label_of e.0) e.1)) o) h
+
+  pub others-removed : (es : Entries) → KeepsOtherLabels label (labelled_by es) (labelled_by (remove_entry test es))
+  others-removed [] = λ l d. refl
+  others-removed (e ∷ es) = λ l d. step l d (test e.0) refl (others-removed es l d)
+    where
+      step : (l : Characters) → is_eq (text_cmp l label) ≡ false → (b : Bool) → test e.0 ≡ b
+          → index_of l (labelled_by (remove_entry test es)) ≡ index_of l (labelled_by es)
+          → index_of l (labelled_by (cond b es (e ∷ remove_entry test es))) ≡ index_of l (labelled_by (e ∷ es))
+      step l d true t h = sym (ap (λ b. cond b (Some (labelled (label_of e.0) e.1)) (index_of l (labelled_by es))) (passed l d e.0 t))
+      step l d false t h = ap (λ o. cond (is_eq (text_cmp l (label_of e.0))) (Some (labelled (label_of e.0) e.1)) o) h
+
+pub others-inserted : (label : Characters) (compare : String Global → String Global → Ordering) (k : String Global) → label_of k ≡ label
+    → Finds label (is_at (compare k)) → (w : ItemList) (es : Entries)
+    → KeepsOtherLabels label (labelled_by es) (labelled_by (insert_entry compare es k w))
+others-inserted label compare k is finds w [] = λ l d. ap (λ b. cond b (Some (labelled (label_of k) w)) None) (ap (λ c. is_eq (text_cmp l c)) is ∙ d)
+others-inserted label compare k is finds w (e ∷ es) = λ l d. step l d (compare k e.0) refl (others-inserted label compare k is finds w es l d)
   where
-    step : (b : Bool) → p x ≡ b → cond b (Some x) (find p xs) ≡ Some y → (find p xs ≡ Some y → p y ≡ true) → p y ≡ true
-    step true e g rest = (let same : x ≡ y = (cc) in ap p (sym same) ∙ e)
-    step false e g rest = rest g
+    step : (l : Characters) → is_eq (text_cmp l label) ≡ false → (o : Ordering) → compare k e.0 ≡ o
+        → index_of l (labelled_by (insert_entry compare es k w)) ≡ index_of l (labelled_by es)
+        → index_of l (labelled_by (match_ordering o ((k, w) ∷ e ∷ es) ((e.0, w) ∷ es) (e ∷ insert_entry compare es k w))) ≡ index_of l (labelled_by
+        (e ∷ es))
+    step l d Less t h =
+        ap (λ b. cond b (Some (labelled (label_of k) w)) (index_of l (labelled_by (e ∷ es)))) (ap (λ c. is_eq (text_cmp l c)) is ∙ d)
+    step l d Equal t h =
+        let p = passed label (is_at (compare k)) finds l d e.0 (ap is_eq t) in
+        ap (λ b. cond b (Some (labelled (label_of e.0) w)) (index_of l (labelled_by es))) p
+        ∙ sym (ap (λ b. cond b (Some (labelled (label_of e.0) e.1)) (index_of l (labelled_by es))) p)
+    step l d Greater t h = ap (λ o. cond (is_eq (text_cmp l (label_of e.0))) (Some (labelled (label_of e.0) e.1)) o) h
 
--- a place that is the first to pass
-record IsFirstPlace {X : Type 0} (p : X → Bool) (xs : List X) (i : ℕ) : Type 0 where
-  first : i ≡ position_or_len p xs
-  within : i < length xs
+-- where the index of a label is gone, and had nothing
+pub nothing-gone : (label : Characters) (old new : Option LabelIndex) → old ≡ Some (labelled label no_items) → new ≡ None → IsSameIndex old new
+nothing-gone label old new was gone = record {
+  list = ap list_in gone ∙ sym (ap list_in was);
+  ids = λ k. ap (λ x. id_in x k) gone ∙ sym (ap (λ x. id_in x k) was);
+}
 
-first-place : {X : Type 0} (p : X → Bool) (xs : List X) (i : ℕ) → position p xs ≡ Some i → IsFirstPlace p xs i
-first-place p xs i h = step (nat_lt (position_or_len p xs) (length xs)) refl h
+-- an index that an item was put into has items
+pub items-put : (refs : References) (id : Characters) (s e : ℕ) (old new : Option LabelIndex) → PutsItem refs id s e old new → HasItems new
+items-put refs id s e old None p = tt
+items-put refs id s e old (Some x) p =
+    subst (λ (xs : List Item). 1 ≤ length xs) (sym p.items) (some-put (list_place refs) (item_for s e) (list_in old).items)
   where
-    step : (b : Bool) → nat_lt (position_or_len p xs) (length xs) ≡ b → cond b (Some (position_or_len p xs)) None ≡ Some i → IsFirstPlace p xs i
-    step true e g =
-        let same : position_or_len p xs ≡ i = (cc) in
-        let l : position_or_len p xs < length xs = grind (arith, nat_tests) in
-        record { first = sym same; within = omega (arith, same, l) }
-    step false e g = (let never : None ≡ Some i = g in absurd (cc))
-
-no-place : {X : Type 0} (p : X → Bool) (xs : List X) → position p xs ≡ None → find p xs ≡ None
-no-place p xs h = step (nat_lt (position_or_len p xs) (length xs)) refl h
-  where
-    step : (b : Bool) → nat_lt (position_or_len p xs) (length xs) ≡ b → cond b (Some (position_or_len p xs)) None ≡ None → find p xs ≡ None
-    step true e g = (let never : Some (position_or_len p xs) ≡ None = g in absurd (cc))
-    step false e g = (let l : length xs ≤ position_or_len p xs = grind (arith, nat_tests) in find_at p xs ∙ slice_get_past xs (position_or_len p xs) l)
-
-first-past : {X : Type 0} (p : X → Bool) (xs : List X) (v : X) → find p xs ≡ None → p v ≡ true → position_or_len p (xs ++ v ∷ []) ≡ length xs
-first-past p [] v h t = grind (arith, t)
-first-past p (x ∷ xs) v h t = step (p x) refl h (λ g. first-past p xs v g t)
-  where
-    step : (b : Bool) → p x ≡ b → cond b (Some x) (find p xs) ≡ None → (find p xs ≡ None → position_or_len p (xs ++ v ∷ []) ≡ length xs)
-        → position_or_len p (x ∷ (xs ++ v ∷ [])) ≡ length (x ∷ xs)
-    step true e g rest = (let never : Some x ≡ None = g in absurd (cc))
-    step false e g rest = (let more = rest g in grind (arith, e, more))
-
-past-place : {X : Type 0} (p : X → Bool) (xs : List X) (v : X) → find p xs ≡ None → p v ≡ true → position p (xs ++ v ∷ []) ≡ Some (length xs)
-past-place p xs v h t =
-    let at = first-past p xs v h t in
-    let whole : length (xs ++ v ∷ []) ≡ length xs + 1 = length-append xs (v ∷ []) in
-    ap (λ n. cond (nat_lt n (length (xs ++ v ∷ []))) (Some n) None) at
-    ∙ cond-true (nat_lt (length xs) (length (xs ++ v ∷ []))) (Some (length xs)) None (grind (arith, nat_tests, whole))
-
-module _ (label : Characters) (xs : List LabelIndex) where
-  abbrev is_of : LabelIndex → Bool
-  is_of x = is_eq (text_cmp label x.label)
-
-  abbrev is_of_other : Characters → LabelIndex → Bool
-  is_of_other l x = is_eq (text_cmp l x.label)
-
-  -- ---- one is written
-
-  module _ (i : ℕ) (at : position is_of xs ≡ Some i) (d : LabelIndex) where
-    place : IsFirstPlace is_of xs i
-    place = first-place is_of xs i at
-
-    pub label-within : i < length xs
-    label-within = place.within
-
-    pub label-found : index_of label xs ≡ Some (get_or xs i d)
-    label-found = find_at is_of xs ∙ ap (slice_get xs) (sym place.first) ∙ slice_get-get_or xs i d place.within
-
-    label-is : label ≡ (get_or xs i d).label
-    label-is = text-is label (get_or xs i d).label (passes is_of xs (get_or xs i d) label-found)
-
-    module _ (v : LabelIndex) (same : v.label ≡ (get_or xs i d).label) where
-      pub label-written : index_of label (set xs i v) ≡ Some v
-      label-written = find-set is_of xs i v place.first place.within (ap (λ c. is_eq (text_cmp label c)) same ∙ passes is_of xs (get_or xs i d) label-found)
-
-      pub others-written : KeepsOtherLabels label xs (set xs i v)
-      others-written = λ l h.
-          (let old : is_of_other l (get_or xs i d) ≡ false = ap (λ c. is_eq (text_cmp l c)) (sym label-is) ∙ h in
-          find_past (is_of_other l) xs i v d old (ap (λ c. is_eq (text_cmp l c)) same ∙ old))
-
-  -- ---- one is added
-
-  pub label-none : position is_of xs ≡ None → index_of label xs ≡ None
-  label-none none = no-place is_of xs none
-
-  module _ (none : position is_of xs ≡ None) (v : LabelIndex) (same : v.label ≡ label) where
-    own : is_of v ≡ true
-    own = ap (λ c. is_eq (text_cmp label c)) same ∙ text-self label
-
-    pub label-added : index_of label (xs ++ v ∷ []) ≡ Some v
-    label-added =
-        find-append is_of xs (v ∷ []) ∙ ap (λ o. option_or o (find is_of (v ∷ []))) (label-none none) ∙ ap (λ b. cond b (Some v) None) own
-
-    pub place-added : position is_of (xs ++ v ∷ []) ≡ Some (length xs)
-    place-added = past-place is_of xs v (label-none none) own
-
-    pub others-added : KeepsOtherLabels label xs (xs ++ v ∷ [])
-    others-added = λ l h.
-        find-append (is_of_other l) xs (v ∷ [])
-        ∙ ap (λ b. option_or (find (is_of_other l) xs) (cond b (Some v) None)) (ap (λ c. is_eq (text_cmp l c)) same ∙ h) ∙ or-none (find (is_of_other l) xs)
+    some-put : (place : ℕ → ℤ) (new : Item) (xs : List Item) → 1 ≤ length (put_item place new xs)
+    some-put place new [] = omega arith
+    some-put place new (y ∷ ys) = by (starts_by place (place new.start) y)
       where
-        or-none : (o : Option LabelIndex) → option_or o None ≡ o
-        or-none None = refl
-        or-none (Some x) = refl
-
-pub others-then : (label : Characters) (xs ys zs : List LabelIndex) → KeepsOtherLabels label xs ys → KeepsOtherLabels label ys zs → KeepsOtherLabels label xs zs
-others-then label xs ys zs h k = λ l e. k l e ∙ h l e
+        by : (b : Bool) → 1 ≤ length (cond b (y ∷ put_item place new ys) (new ∷ y ∷ ys))
+        by true = omega arith
+        by false = omega arith
 
 -- the index of a label is of that label
 pub found-own : (label : Characters) (xs : List LabelIndex) → IfSome (index_of label xs) (λ (x : LabelIndex). is_eq (text_cmp label x.label) ≡ true)

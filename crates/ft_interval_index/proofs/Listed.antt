@@ -9,10 +9,9 @@ use Rattle.ft_overlap.specs.Items.{AreKnown, IsEndIn, KeepsOrder, has_key, item_
 use Rattle.ft_tree_leaves.specs.declared.text.TextContent.{TextContent}
 use Rattle.ft_tree_leaves.specs.References.{IsReferenceIn, reference_place}
 use Rattle.ft_tree.specs.State.{TreeState}
-use Rattle.ft_interval_index.specs.declared.indexes.LabelIndex.{LabelIndex}
 use Rattle.ft_interval_store.specs.declared.intervals.EndPair.{EndPair}
 use Rattle.ft_interval_store.specs.Ends.{AreLiveEnds, References, no_ends}
-use Rattle.ft_interval_index.specs.Indexes.{AreAttached, IsItemOf, IsListed, PutsItem, TakesItem, attached_both, attached_ends, attached_start, id_in, item_for, list_in}
+use Rattle.ft_interval_index.specs.Indexes.{LabelIndex, AreAttached, IsItemOf, IsListed, PutsItem, TakesItem, attached_both, attached_ends, attached_start, id_in, item_for, list_in}
 use Rattle.ft_interval_index.specs.Order.{IsAtMost, IsLiveIn, IsPlaced, IsWithin, KeepsEndOrder, list_place}
 use Rattle.ft_interval_index.proofs.ItemLookups.{all-found, at-none, has-none, out-at, out-times, own, put-at, put-times, times}
 use Rattle.ft_interval_index.proofs.PlaceOrder.{most-number, number-most, within-more}

@@ -2,18 +2,18 @@
 use Rattle.std.proofs.Common.{◌≡◌, ℕ, ℤ, ◌≤◌, nat_eq, IsTrue, Bool, true, false, cond, List, ◌∷◌, Option, Some, None, refl, sym, ◌∙◌, ap, subst}
 use Rattle.std.specs.Ordering.{is_eq}
 use Rattle.std.proofs.lemmas.List.Elements.{All-cons}
+use Rattle.ft_base.specs.Scan.{len}
 use Rattle.ft_props.specs.Keys.{Characters, text_cmp}
 use Rattle.std.proofs.lemmas.List.Elements.{All-nil}
-use Rattle.ft_overlap.specs.Items.{AreKnown, IsInOrder as IsIndexInOrder, ItemList, NamesGreatest, has_key, no_items, put_item}
+use Rattle.ft_overlap.specs.Items.{AreKnown, IsInOrder as IsIndexInOrder, ItemList, NamesGreatest, has_key, item_at, no_items, put_item}
 use Rattle.ft_overlap.specs.declared.items.Item.{Item}
 use Rattle.ft_tree_leaves.specs.declared.text.TextContent.{TextContent}
 use Rattle.ft_tree_leaves.specs.References.{IsReferenceIn, reference_place}
 use Rattle.ft_tree.specs.State.{TreeState}
-use Rattle.ft_interval_index.specs.declared.indexes.LabelIndex.{LabelIndex}
 use Rattle.ft_interval_store.specs.declared.intervals.EndPair.{EndPair}
 use Rattle.ft_interval_store.specs.declared.intervals.Interval.{Interval}
 use Rattle.ft_interval_store.specs.Ends.{AreLiveEnds, IsLiveEnd, References, no_ends}
-use Rattle.ft_interval_index.specs.Indexes.{IsSameIndex, AreAttached, AreListed, AreNamedEndsWithin, Enlists, IsListed, KeepsOtherLabels, PutsItem, TakesItem, Unlists, attached_ends, ends_without, id_in, index_of, item_for, list_in}
+use Rattle.ft_interval_index.specs.Indexes.{LabelIndex, IsSameIndex, AreAttached, AreListed, AreNamedEndsWithin, Enlists, IsListed, KeepsOtherLabels, PutsItem, StaysInOrder, TakesItem, Unlists, attached_ends, ends_without, id_in, index_of, item_for, list_in}
 use Rattle.ft_interval_store.specs.State.{CollectionsState, IsInOrder, IsLive, ends_of_name}
 use Rattle.ft_interval_store.specs.Intervals.{Name, interval_of, name_cmp}
 use Rattle.ft_interval_index.specs.Order.{IsPlaced, IsWithin, list_place}
@@ -27,6 +27,22 @@ use Rattle.ft_interval_index.proofs.StartsOnce.{starts-once}
 
 true-false : {b : Bool} → b ≡ true → b ≡ false → ⊥
 true-false p q = (let n : true ≡ false = sym p ∙ q in cc n)
+
+-- an index with the same items and ids is that of the same intervals
+same-listed : (n : ℕ) (refs : References) (ends : Characters → EndPair ℕ) (x y : Option LabelIndex) → IsSameIndex x y → IsListed n refs ends x
+    → IsListed n refs ends y
+same-listed n refs ends x y same l =
+    let at : (k : ℕ) (z : Item) → item_at k (list_in y).items ≡ Some z → item_at k (list_in x).items ≡ Some z =
+    λ k z e. sym (ap (λ (w : ItemList). item_at k w.items) same.list) ∙ e in
+    record {
+      listed = λ id s e h. (ap (λ (w : ItemList). item_at s w.items) same.list ∙ (l.listed id s e h).0, same.ids s ∙ (l.listed id s e h).1);
+      only = λ k z e. (let o = l.only k z (at k z e) in record { id = o.id; id_is = same.ids k ∙ o.id_is; item = o.item; ends = o.ends });
+      once = λ k. subst (λ (w : ItemList). len (λ (z : Item). nat_eq z.key k) w.items ≤ 1) (sym same.list) (l.once k);
+      order = subst (IsIndexInOrder (list_place refs)) (sym same.list) l.order;
+      law = subst StaysInOrder (sym same.list) l.law;
+      within = λ k z e. l.within k z (at k z e);
+      together = λ k z e. l.together k z (at k z e);
+    }
 
 -- a test that fails where it leads nowhere
 not-so : (b : Bool) → (b ≡ true → ⊥) → b ≡ false
@@ -98,9 +114,12 @@ module _ (label id : Characters) (is : List (Interval ℕ)) where
     in-here h u w = by (attached_ends refs (all (label, id))) refl u
       where
         by : (o : Option (ℕ × ℕ)) → attached_ends refs (all (label, id)) ≡ o
-            → elim o as (λ _. Type 0) [ None ↦ index_of label new ≡ index_of label old | Some p ↦ PutsItem refs id p.0 p.1 (index_of label old) (index_of label new) ]
+            → elim o as (λ _. Type 0) [
+              | None ↦ IsSameIndex (index_of label old) (index_of label new)
+              | Some p ↦ PutsItem refs id p.0 p.1 (index_of label old) (index_of label new)
+            ]
             → IsListed n refs (λ j. all (label, j)) (index_of label new)
-        by None e t = subst (λ x. IsListed n refs (λ j. all (label, j)) x) (sym t)
+        by None e t = same-listed n refs (λ j. all (label, j)) (index_of label old) (index_of label new) t
             (unattached-listed n refs id is_it (λ j. but (label, j)) (λ j. all (label, j)) differ-in (index_of label old) (h label) (once label) gone e)
         by (Some p) e t =
             let a = from-attached refs (all (label, id)) p.0 p.1 e in
@@ -134,30 +153,28 @@ nothing : (b : Bool) → id_in none-index 0 ≡ cond b None (id_in none-index 0)
 nothing true = refl
 nothing false = refl
 
-none-in-order : (place : ℕ → ℤ) → IsIndexInOrder place no_items
+pub none-in-order : (place : ℕ → ℤ) → IsIndexInOrder place no_items
 none-in-order place = record { rising = tt; greatest = All-nil (NamesGreatest place) }
 
 -- where the label has no index there is nothing to take out
-pub none-unlists : (refs : References) (ends : EndPair ℕ) (x : Option LabelIndex) → x ≡ None → Unlists refs ends x x
-none-unlists refs ends x none = subst (λ y. Unlists refs ends y y) (sym none) (by ends.start)
-  where
-    by : (o : Option ℕ) → elim o as (λ _. Type 0) [ None ↦ none-index ≡ none-index | Some s ↦ TakesItem refs s none-index none-index ]
-    by None = refl
-    by (Some s) = record { items = refl; order = none-in-order (list_place refs); law = λ p q k o. none-in-order q; ids = λ k. nothing (nat_eq s k) }
+pub none-taken : (refs : References) (s : ℕ) (x : Option LabelIndex) → x ≡ None → TakesItem refs s x x
+none-taken refs s x none = subst (λ y. TakesItem refs s y y) (sym none)
+    record { items = refl; order = none-in-order (list_place refs); law = λ p q k o. none-in-order q; ids = λ k. nothing (nat_eq s k) }
 
 pub unlists-by : (refs : References) (ends : EndPair ℕ) (s : ℕ) (x y : Option LabelIndex) → ends.start ≡ Some s → TakesItem refs s x y → Unlists refs ends x y
 unlists-by refs ends s x y start t =
     subst (λ (o : Option ℕ). elim o as (λ _. Type 0) [ None ↦ y ≡ x | Some s ↦ TakesItem refs s x y ]) (sym start) t
 
-pub enlists-none : (refs : References) (id : Characters) (ends : EndPair ℕ) (x : Option LabelIndex) → attached_ends refs ends ≡ None → Enlists refs id ends x x
-enlists-none refs id ends x none =
-    subst (λ (o : Option (ℕ × ℕ)). elim o as (λ _. Type 0) [ None ↦ x ≡ x | Some p ↦ PutsItem refs id p.0 p.1 x x ]) (sym none) refl
+pub enlists-none : (refs : References) (id : Characters) (ends : EndPair ℕ) (x y : Option LabelIndex) → attached_ends refs ends ≡ None
+    → IsSameIndex x y → Enlists refs id ends x y
+enlists-none refs id ends x y none same =
+    subst (λ (o : Option (ℕ × ℕ)). elim o as (λ _. Type 0) [ None ↦ IsSameIndex x y | Some p ↦ PutsItem refs id p.0 p.1 x y ]) (sym none) same
 
 pub enlists-by : (refs : References) (id : Characters) (ends : EndPair ℕ) (p : ℕ × ℕ) (x y : Option LabelIndex)
     → attached_ends refs ends ≡ Some p → PutsItem refs id p.0 p.1 x y
     → Enlists refs id ends x y
 enlists-by refs id ends p x y at t =
-    subst (λ (o : Option (ℕ × ℕ)). elim o as (λ _. Type 0) [ None ↦ y ≡ x | Some p ↦ PutsItem refs id p.0 p.1 x y ]) (sym at) t
+    subst (λ (o : Option (ℕ × ℕ)). elim o as (λ _. Type 0) [ None ↦ IsSameIndex x y | Some p ↦ PutsItem refs id p.0 p.1 x y ]) (sym at) t
 
 pub puts-from : (refs : References) (id : Characters) (s e : ℕ) (old mid new : Option LabelIndex) → IsSameIndex old mid
     → PutsItem refs id s e mid new → PutsItem refs id s e old new

@@ -22,8 +22,7 @@ use Rattle.ft_interval_store.proofs.Gathered.{gathered-shown}
 use Rattle.ft_interval_store.proofs.OneInterval.{NamesRise-map}
 use Rattle.ft_interval_store.proofs.RisingLists.{found-name, interval_of-filter, kept, rise-filter}
 use Rattle.ft_interval_store.proofs.SettledOperation.{placed-rise}
-use Rattle.ft_interval_index.specs.declared.indexes.LabelIndex.{LabelIndex}
-use Rattle.ft_interval_index.specs.Indexes.{IsItemOf, IsListed, is_met, keys_meeting, list_in}
+use Rattle.ft_interval_index.specs.Indexes.{LabelIndex, IsItemOf, IsListed, is_met, keys_meeting, list_in}
 use Rattle.ft_interval_index.proofs.CountedItems.{few-counted, few-keys}
 use Rattle.ft_interval_index.proofs.FoundItems.{text-self, unwanted}
 use Rattle.ft_interval_index.proofs.StartsOnce.{HasStart, has-start}

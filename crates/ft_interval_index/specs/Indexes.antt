@@ -1,7 +1,7 @@
 -- The indexes of the acknowledged intervals, one for each label. Each interval with both ends on elements has an item there: its
 -- key, and the number of its start, is the reference at its start, and the number of its end the one at its end. Both may have
 -- lost their elements since.
-use Rattle.std.specs.Prelude.{◌≡◌, ℕ, ℤ, pos, negsuc, int_le, ◌<ℤ◌, ◌<◌, ◌≤◌, min, Bool, true, false, ◌&&◌, cond, nat_eq, List, [], ◌∷◌, Option, Some, None, find, is_some}
+use Rattle.std.specs.Prelude.{◌≡◌, ℕ, ℤ, pos, negsuc, int_le, ◌<ℤ◌, ◌<◌, ◌≤◌, min, Bool, true, false, ◌&&◌, cond, nat_eq, List, [], ◌∷◌, Option, Some, None, find, is_some, option_map, IfSome, length}
 use Rattle.std.specs.List.{list_any}
 use Rattle.std.specs.Ordering.{is_eq}
 use Rattle.ft_base.specs.Scan.{len}
@@ -9,7 +9,6 @@ use Rattle.ft_props.specs.Keys.{Characters, text_cmp}
 use Rattle.ft_overlap.specs.declared.items.Item.{Item}
 use Rattle.ft_overlap.specs.Items.{IsInOrder, ItemList, KeepsOrder, id_at, item_at, key_if, no_items, put_item, without_key}
 use Rattle.ft_tree_leaves.specs.References.{reference_place}
-use Rattle.ft_interval_index.specs.declared.indexes.LabelIndex.{LabelIndex}
 use Rattle.ft_interval_store.specs.declared.intervals.EndPair.{EndPair}
 use Rattle.ft_interval_store.specs.declared.intervals.Interval.{Interval}
 use Rattle.ft_op.specs.declared.operations.TextOp.{TextOp}
@@ -17,6 +16,19 @@ use Rattle.ft_interval_store.specs.Ends.{References, no_ends}
 use Rattle.ft_interval_store.specs.Intervals.{Name, is_on, name_cmp}
 use Rattle.ft_interval_index.specs.Order.{IsWithin, list_place}
 use Rattle.ft_interval_store.specs.State.{ends_of_name}
+
+-- the index of a label
+pub record LabelIndex : Type 0 where
+  pub label : Characters
+  pub index : ItemList
+
+-- the index of this label with these items
+abbrev pub labelled : Characters → ItemList → LabelIndex
+labelled label index = record { label = label; index = index }
+
+-- the same where there is one
+abbrev pub labelled_if : Characters → Option ItemList → Option LabelIndex
+labelled_if label index = option_map (labelled label) index
 
 -- the index of the label, if it has one
 abbrev pub index_of : Characters → List LabelIndex → Option LabelIndex
@@ -113,13 +125,20 @@ pub record TakesItem (refs : References) (s : ℕ) (old new : Option LabelIndex)
   pub law : StaysInOrder (list_in new)
   pub ids : (k : ℕ) → id_in new k ≡ cond (nat_eq s k) None (id_in old k)
 
--- what an interval with these ends makes of the index of its label
+-- what an interval with these ends makes of the index of its label; where that has no items it may go
 abbrev pub Enlists : References → Characters → EndPair ℕ → Option LabelIndex → Option LabelIndex → Type 0
-Enlists refs id ends old new = elim (attached_ends refs ends) as (λ _. Type 0) [ None ↦ new ≡ old | Some p ↦ PutsItem refs id p.0 p.1 old new ]
+Enlists refs id ends old new = elim (attached_ends refs ends) as (λ _. Type 0) [
+  | None ↦ IsSameIndex old new
+  | Some p ↦ PutsItem refs id p.0 p.1 old new
+]
 
 -- and what it makes of it where it goes
 abbrev pub Unlists : References → EndPair ℕ → Option LabelIndex → Option LabelIndex → Type 0
 Unlists refs ends old new = elim ends.start as (λ _. Type 0) [ None ↦ new ≡ old | Some s ↦ TakesItem refs s old new ]
+
+-- an index, where there is one, has items
+abbrev pub HasItems : Option LabelIndex → Type 0
+HasItems x = IfSome x (λ y. 1 ≤ length y.index.items)
 
 -- the indexes of all other labels stay
 abbrev pub KeepsOtherLabels : Characters → List LabelIndex → List LabelIndex → Type 0

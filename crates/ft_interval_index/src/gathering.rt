@@ -2,7 +2,7 @@
 
 ghost use Rattle.std.specs.Prelude.{◌≡◌, ◌⊎◌, ◌≤◌, ◌+◌, ◌*◌, ◌^◌, ◌&&◌, ◌||◌, ℕ, List, All, Some, IsTrue, IfOk, OnOk, filter, length, map, option_copied};
 ghost use Rattle.std.specs.Ordering.{is_eq};
-ghost use Rattle.ft_overlap.specs.Items.{AreKnown, IsInOrder};
+ghost use Rattle.ft_overlap.specs.Items.{AreKnown, IsInOrder, id_at};
 ghost use Rattle.ft_props.specs.Keys.{text_cmp};
 ghost use Rattle.ft_sumdoc.specs.Meeting.{meets};
 ghost use Rattle.ft_tree.specs.State.{TreeState};
@@ -13,13 +13,14 @@ ghost use Rattle.ft_interval_store.specs.Intervals.{has_label};
 ghost use Rattle.ft_interval_store.specs.Shown.{last, settled_interval, shown_intervals, shown_place, shown_record};
 ghost use Rattle.ft_interval_store.specs.Standing.{ShowsAll};
 ghost use Rattle.ft_interval_store.specs.State.{IsLive, ends_of_name, placed, placed_intervals, text_elements};
-ghost use Rattle.ft_interval_index.specs.Indexes.{AreListed, id_in, index_of, is_found, is_id, is_met, keys_meeting, list_in};
+ghost use Rattle.ft_interval_index.specs.Indexes.{AreListed, index_of, is_found, is_id, is_met, keys_meeting, labelled, labelled_if, list_in};
 ghost use Rattle.ft_interval_index.specs.Order.{IsLiveIn};
 
-use crate::indexes::{LabelIndex, found_keys, index_of, order_is_kept};
+use crate::indexes::{Indexes, found_keys, order_is_kept};
 use ft_base::{OutOfMemory, Steps, Text};
 use ft_interval_store::Store;
 use ft_interval_store::intervals::Intervals;
+use ft_overlap::Index;
 use ft_refs::Place;
 use ft_sumdoc::IntervalRec;
 use ft_sumdoc::meeting::meets;
@@ -30,17 +31,18 @@ use std::sync::ledger::Ledger;
 fn add_found_one(
     store: &Store,
     tree: &Tree<TextContent>,
-    index: &LabelIndex,
+    label: &Text,
+    index: &Index,
     key: &u64,
     all: &mut Intervals<Place>,
 ) -> Result<(), OutOfMemory>
     requires usable { IsTrue tree.now.usable }
     requires live { IsLive tree.now.refs store.now }
     ensures { let from = map (settled_interval (text_elements tree.now) 0) (placed_intervals tree.now.refs store.now.acked) in
-        OnOk result (Gathers tree.now from (λ n. is_eq (text_cmp n.0 index.now.label) && is_id n.1 (id_in (Some index.now) key.now)) all.old all.new) }
+        OnOk result (Gathers tree.now from (λ n. is_eq (text_cmp n.0 label.now) && is_id n.1 (id_at key.now index.now.ids)) all.old all.new) }
 {
-    match index.index.id_of(*key) {
-        Some(id) => store.add_named(tree, &index.label, id, all),
+    match index.id_of(*key) {
+        Some(id) => store.add_named(tree, label, id, all),
         None => Ok(()),
     }
 }
@@ -49,17 +51,18 @@ fn add_found_one(
 fn add_found(
     store: &Store,
     tree: &Tree<TextContent>,
-    index: &LabelIndex,
+    label: &Text,
+    index: &Index,
     keys: &[u64],
     all: &mut Intervals<Place>,
 ) -> Result<(), OutOfMemory>
     requires usable { IsTrue tree.now.usable }
     requires live { IsLive tree.now.refs store.now }
     ensures { let from = map (settled_interval (text_elements tree.now) 0) (placed_intervals tree.now.refs store.now.acked) in
-        OnOk result (Gathers tree.now from (λ n. is_found n index.now keys.now) all.old all.new) }
+        OnOk result (Gathers tree.now from (λ n. is_found n (labelled label.now index.now) keys.now) all.old all.new) }
 {
     for key in keys {
-        add_found_one(store, tree, index, key, all)?;
+        add_found_one(store, tree, label, index, key, all)?;
     }
     Ok(())
 }
@@ -68,7 +71,8 @@ fn add_found(
 fn add_met<G: Ledger>(
     store: &Store,
     tree: &Tree<TextContent>,
-    index: &LabelIndex,
+    label: &Text,
+    index: &Index,
     a: u64,
     b: u64,
     steps: &mut Steps<G>,
@@ -76,16 +80,16 @@ fn add_met<G: Ledger>(
 ) -> Result<Intervals<Place>, OutOfMemory>
     requires usable { IsTrue tree.now.usable }
     requires live { IsLive tree.now.refs store.now }
-    requires known { AreKnown (IsLiveIn tree.now) index.now.index.items }
-    requires order { IsInOrder (shown_place (text_elements tree.now) tree.now.refs) index.now.index }
+    requires known { AreKnown (IsLiveIn tree.now) index.now.items }
+    requires order { IsInOrder (shown_place (text_elements tree.now) tree.now.refs) index.now }
     ensures part { let from = map (settled_interval (text_elements tree.now) 0) (placed_intervals tree.now.refs store.now.acked) in
-        IfOk result (Gathers tree.now from (λ n. is_met (shown_place (text_elements tree.now) tree.now.refs) a b n (Some index.now)) all) }
-    ensures cost { let k = length (keys_meeting (shown_place (text_elements tree.now) tree.now.refs) a b index.now.index.items) in
-        steps.new ≤ steps.old + 9 * (index.now.index.depth + 1) * (k + 1) }
+        IfOk result (Gathers tree.now from (λ n. is_met (shown_place (text_elements tree.now) tree.now.refs) a b n (Some (labelled label.now index.now))) all) }
+    ensures cost { let k = length (keys_meeting (shown_place (text_elements tree.now) tree.now.refs) a b index.now.items) in
+        steps.new ≤ steps.old + 9 * (index.now.depth + 1) * (k + 1) }
 {
     let keys = found_keys(index, tree, a, b, steps)?;
     let mut all = all;
-    add_found(store, tree, index, keys.as_slice(), &mut all)?;
+    add_found(store, tree, label, index, keys.as_slice(), &mut all)?;
     Ok(all)
 }
 
@@ -94,45 +98,42 @@ fn add_met<G: Ledger>(
 fn gathered<G: Ledger>(
     store: &Store,
     tree: &Tree<TextContent>,
-    index: Option<&LabelIndex>,
+    label: &Text,
+    index: Option<&Index>,
     a: u64,
     b: u64,
     steps: &mut Steps<G>,
 ) -> Result<Intervals<Place>, OutOfMemory>
     requires usable { IsTrue tree.now.usable }
     requires live { IsLive tree.now.refs store.now }
-    requires known { AreKnown (IsLiveIn tree.now) (list_in (option_copied index)).items }
-    requires order { IsInOrder (shown_place (text_elements tree.now) tree.now.refs) (list_in (option_copied index)) }
+    requires known { AreKnown (IsLiveIn tree.now) (list_in (labelled_if label.now (option_copied index))).items }
+    requires order { IsInOrder (shown_place (text_elements tree.now) tree.now.refs) (list_in (labelled_if label.now (option_copied index))) }
     ensures part { let from = map (settled_interval (text_elements tree.now) 0) (placed_intervals tree.now.refs store.now.acked) in
         IfOk result (λ all. (is : List (Interval ℕ)) × ShowsAll tree.now 0 is all
-        × IsPartOf from is (λ n. is_on_any n store.now.pending || is_met (shown_place (text_elements tree.now) tree.now.refs) a b n (option_copied index.entry))) }
+        × IsPartOf from is (λ n. is_on_any n store.now.pending || is_met (shown_place (text_elements tree.now) tree.now.refs) a b n (labelled_if label.now (option_copied index.entry)))) }
     ensures fits { OnOk result (All (λ t. t.stage ≤ last) store.now.pending) }
-    ensures cost { let list = list_in (option_copied index.entry) in
+    ensures cost { let list = list_in (labelled_if label.now (option_copied index.entry)) in
         let k = length (keys_meeting (shown_place (text_elements tree.now) tree.now.refs) a b list.items) in
         (steps.new ≡ steps.old) ⊎ (All (λ t. t.stage ≤ last) store.now.pending × (steps.new ≤ steps.old + 9 * (list.depth + 1) * (k + 1))) }
 {
     let all = store.places_of_pending(tree)?;
     match index {
-        Some(index) => add_met(store, tree, index, a, b, steps, all),
+        Some(index) => add_met(store, tree, label, index, a, b, steps, all),
         None => Ok(all),
     }
 }
 
 // The index of the label, if it has one. It is no deeper than so many intervals of the label make it.
-fn index_of_label<'a>(
-    store: &Store,
-    indexes: &'a [LabelIndex],
-    label: &Text,
-) -> Option<&'a LabelIndex>
+fn index_of_label<'a>(store: &Store, indexes: &'a Indexes, label: &Text) -> Option<&'a Index>
     requires { (tree : TreeState TextContent) × AreListed (length (text_elements tree)) tree.refs (λ n. ends_of_name n store.now.acked) indexes.now }
-    ensures index { option_copied result ≡ index_of label.now indexes.now }
+    ensures index { labelled_if label.now (option_copied result) ≡ index_of label.now indexes.now }
     ensures depth { let list = list_in (index_of label.now indexes.now) in 4 ^ list.depth ≤ length list.items + 1 }
     ensures few { length (list_in (index_of label.now indexes.now)).items ≤ length store.now.acked }
     ensures labelled { length (list_in (index_of label.now indexes.now)).items ≤ length (filter (has_label label.now) store.now.acked) }
 {
     // That names rise is read off its contract.
     let _first = store.first_stage();
-    let index = index_of(indexes, label);
+    let index = indexes.of_label(label);
     // How deep the index is is read off its contract.
     order_is_kept(index);
     index
@@ -142,7 +143,7 @@ fn index_of_label<'a>(
 /// detached, start at or before `b` and end at or after `a`. A read of a node of an index is one step.
 pub fn overlapping<G: Ledger>(
     store: &Store,
-    indexes: &[LabelIndex],
+    indexes: &Indexes,
     tree: &Tree<TextContent>,
     label: &Text,
     a: u64,
@@ -170,7 +171,7 @@ pub fn overlapping<G: Ledger>(
     // That names and stages rise is read off its contract.
     let _first = store.first_stage();
     let index = index_of_label(store, indexes, label);
-    let first = gathered(store, tree, index, a, b, steps)?;
+    let first = gathered(store, tree, label, index, a, b, steps)?;
     let mut found = store.shown_behind(tree, first)?;
     found.retain(|i| meets(i, label, a, b));
     Ok(found)

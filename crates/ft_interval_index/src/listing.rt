@@ -5,7 +5,7 @@ ghost use Rattle.ft_props.specs.Keys.{Characters};
 ghost use Rattle.ft_interval_index.specs.Indexes.{AreEndsWithin, AreListed, AreNamedEndsWithin, ends_but, ends_without};
 ghost use Rattle.ft_interval_store.specs.State.{AreOwnEnds, IsLive, ends_of_name, text_elements};
 
-use crate::indexes::{LabelIndex, enlist, unlist};
+use crate::indexes::{Indexes, enlist, unlist};
 use ft_base::{OutOfMemory, Text};
 use ft_interval_store::Store;
 use ft_interval_store::intervals::EndPair;
@@ -15,7 +15,7 @@ use ft_tree::{TextContent, Tree};
 
 // Takes the interval of that label which has these ends out of the index of the label.
 fn unlist_named(
-    indexes: &mut Vec<LabelIndex>,
+    indexes: &mut Indexes,
     store: &Store,
     tree: &Tree<TextContent>,
     label: &Text,
@@ -23,9 +23,9 @@ fn unlist_named(
 )
     requires usable { IsTrue tree.now.usable }
     requires live { IsLive tree.now.refs store.now }
-    requires listed { AreListed (length (text_elements tree.now)) tree.now.refs (λ n. ends_of_name n store.now.acked) indexes.old.items }
+    requires listed { AreListed (length (text_elements tree.now)) tree.now.refs (λ n. ends_of_name n store.now.acked) indexes.old }
     ensures { (id : Characters) → ends ≡ ends_of_name (label.now, id) store.now.acked
-        → AreListed (length (text_elements tree.now)) tree.now.refs (ends_without (label.now, id) store.now.acked) indexes.new.items }
+        → AreListed (length (text_elements tree.now)) tree.now.refs (ends_without (label.now, id) store.now.acked) indexes.new }
 {
     // That no end is kept twice, and that there are few elements, is read off their contracts.
     let _first = store.first_stage();
@@ -35,7 +35,7 @@ fn unlist_named(
 
 // Puts the interval of that label and id, which has these ends, into the index of its label, if both are attached.
 fn enlist_named(
-    indexes: &mut Vec<LabelIndex>,
+    indexes: &mut Indexes,
     store: &Store,
     tree: &Tree<TextContent>,
     label: &Text,
@@ -44,10 +44,10 @@ fn enlist_named(
 ) -> Result<(), OutOfMemory>
     requires usable { IsTrue tree.now.usable }
     requires live { IsLive tree.now.refs store.now }
-    requires listed { AreListed (length (text_elements tree.now)) tree.now.refs (ends_without (label.now, id.now) store.now.acked) indexes.old.items }
+    requires listed { AreListed (length (text_elements tree.now)) tree.now.refs (ends_without (label.now, id.now) store.now.acked) indexes.old }
     requires within { AreNamedEndsWithin (length (text_elements tree.now)) tree.now.refs (label.now, id.now) store.now.acked }
     requires ends { ends ≡ ends_of_name (label.now, id.now) store.now.acked }
-    ensures { OnOk result (AreListed (length (text_elements tree.now)) tree.now.refs (λ n. ends_of_name n store.now.acked) indexes.new.items) }
+    ensures { OnOk result (AreListed (length (text_elements tree.now)) tree.now.refs (λ n. ends_of_name n store.now.acked) indexes.new) }
 {
     let _first = store.first_stage();
     let _made = tree.made();
@@ -56,7 +56,7 @@ fn enlist_named(
 
 /// Takes the interval that the operation is on, which has these ends, out of the index of its label.
 pub fn unlist_changed(
-    indexes: &mut Vec<LabelIndex>,
+    indexes: &mut Indexes,
     store: &Store,
     tree: &Tree<TextContent>,
     op: &TextOp,
@@ -64,9 +64,9 @@ pub fn unlist_changed(
 )
     requires usable { IsTrue tree.now.usable }
     requires live { IsLive tree.now.refs store.now }
-    requires listed { AreListed (length (text_elements tree.now)) tree.now.refs (λ n. ends_of_name n store.now.acked) indexes.old.items }
+    requires listed { AreListed (length (text_elements tree.now)) tree.now.refs (λ n. ends_of_name n store.now.acked) indexes.old }
     requires ends { AreOwnEnds op.now store.now.acked ends }
-    ensures { AreListed (length (text_elements tree.now)) tree.now.refs (ends_but op.now store.now.acked) indexes.new.items }
+    ensures { AreListed (length (text_elements tree.now)) tree.now.refs (ends_but op.now store.now.acked) indexes.new }
 {
     match op {
         TextOp::IntervalAdd { label, .. } => unlist_named(indexes, store, tree, label, ends),
@@ -79,7 +79,7 @@ pub fn unlist_changed(
 
 /// Puts the interval that the operation is on, which has these ends, into the index of its label, if both are attached.
 pub fn enlist_changed(
-    indexes: &mut Vec<LabelIndex>,
+    indexes: &mut Indexes,
     store: &Store,
     tree: &Tree<TextContent>,
     op: &TextOp,
@@ -87,10 +87,10 @@ pub fn enlist_changed(
 ) -> Result<(), OutOfMemory>
     requires usable { IsTrue tree.now.usable }
     requires live { IsLive tree.now.refs store.now }
-    requires listed { AreListed (length (text_elements tree.now)) tree.now.refs (ends_but op.now store.now.acked) indexes.old.items }
+    requires listed { AreListed (length (text_elements tree.now)) tree.now.refs (ends_but op.now store.now.acked) indexes.old }
     requires within { AreEndsWithin (length (text_elements tree.now)) tree.now.refs op.now store.now.acked }
     requires ends { AreOwnEnds op.now store.now.acked ends }
-    ensures { OnOk result (AreListed (length (text_elements tree.now)) tree.now.refs (λ n. ends_of_name n store.now.acked) indexes.new.items) }
+    ensures { OnOk result (AreListed (length (text_elements tree.now)) tree.now.refs (λ n. ends_of_name n store.now.acked) indexes.new) }
 {
     match op {
         TextOp::IntervalAdd { label, id, .. } => enlist_named(

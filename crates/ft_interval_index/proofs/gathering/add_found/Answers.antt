@@ -5,7 +5,7 @@ use Rattle.ft_props.specs.Keys.{text_cmp}
 use Rattle.ft_interval_store.specs.Gathered.{Gathers}
 use Rattle.ft_interval_store.specs.Shown.{settled_interval}
 use Rattle.ft_interval_store.specs.State.{placed_intervals, text_elements}
-use Rattle.ft_interval_index.specs.Indexes.{id_in, is_found, is_id}
+use Rattle.ft_interval_index.specs.Indexes.{id_in, is_found, is_id, labelled}
 use Rattle.ft_interval_index.proofs.GatheringSteps.{found-more, gathers-less, gathers-none, gathers-then, none-found}
 use Rattle.ft_interval_index.proofs.gathering.add_found.Goals as goal
 
@@ -13,12 +13,13 @@ pub loop-key-init : goal.loop-key-init
 loop-key-init c =
     let tree = c.args.tree.now in
     let from = map (settled_interval (text_elements tree) 0) (placed_intervals tree.refs c.args.store.now.acked) in
-    gathers-none tree from (λ n. is_found n c.args.index.now []) c.args.all.now (λ n. none-found n c.args.index.now)
+    gathers-none tree from (λ n. is_found n (labelled c.args.label.now c.args.index.now) []) c.args.all.now (λ n. none-found n (labelled
+    c.args.label.now c.args.index.now))
 
 pub loop-key-preserved : goal.loop-key-preserved
 loop-key-preserved c =
     let tree = c.args.tree.now in
-    let x = c.args.index.now in
+    let x = labelled c.args.label.now c.args.index.now in
     let from = map (settled_interval (text_elements tree) 0) (placed_intervals tree.refs c.args.store.now.acked) in
     let i = c.loop-key.key-index in
     let keys = c.args.keys.now in
@@ -32,5 +33,5 @@ pub returns : goal.returns
 returns c =
     let tree = c.args.tree.now in
     let from = map (settled_interval (text_elements tree) 0) (placed_intervals tree.refs c.args.store.now.acked) in
-    subst (λ (keys : List ℕ). Gathers tree from (λ n. is_found n c.args.index.now keys) c.args.all.now c.loop-key.all)
+    subst (λ (keys : List ℕ). Gathers tree from (λ n. is_found n (labelled c.args.label.now c.args.index.now) keys) c.args.all.now c.loop-key.all)
     (take_all c.loop-key.key-index c.args.keys.now c.loop-key-test.false) c.loop-key.invariant

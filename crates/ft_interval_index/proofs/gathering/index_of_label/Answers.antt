@@ -1,13 +1,13 @@
 use Rattle.std.proofs.Common.{◌+◌, ◌^◌, ◌≤◌, Option, length, subst}
 use Rattle.ft_interval_store.specs.State.{text_elements}
-use Rattle.ft_interval_index.specs.declared.indexes.LabelIndex.{LabelIndex}
-use Rattle.ft_interval_index.specs.Indexes.{index_of, list_in}
+use Rattle.ft_interval_index.specs.Indexes.{LabelIndex, index_of, list_in}
 use Rattle.ft_interval_index.proofs.Overlapping.{few-items, few-labelled}
 use Rattle.ft_interval_index.proofs.gathering.index_of_label.Goals as goal
 
 pub returns-clause-depth : goal.returns-clause-depth
 returns-clause-depth c =
-    subst (λ (o : Option LabelIndex). 4 ^ (list_in o).depth ≤ length (list_in o).items + 1) c.index_of-index.ensures c.order_is_kept.ensures
+    subst (λ (o : Option LabelIndex). 4 ^ (list_in o).depth ≤ length (list_in o).items + 1) c.of_label-index.ensures (c.order_is_kept.ensures
+    c.args.label.now)
 
 pub returns-clause-few : goal.returns-clause-few
 returns-clause-few c =

@@ -4,8 +4,7 @@ use Rattle.ft_overlap.specs.Items.{AreKnown, IsInOrder}
 use Rattle.ft_sumdoc.specs.Meeting.{meets}
 use Rattle.ft_interval_store.specs.Shown.{shown_place}
 use Rattle.ft_interval_store.specs.State.{ends_of_name, text_elements}
-use Rattle.ft_interval_index.specs.declared.indexes.LabelIndex.{LabelIndex}
-use Rattle.ft_interval_index.specs.Indexes.{index_of, list_in}
+use Rattle.ft_interval_index.specs.Indexes.{LabelIndex, index_of, labelled_if, list_in}
 use Rattle.ft_interval_index.specs.Order.{IsLiveIn, list_place}
 use Rattle.ft_interval_index.proofs.LabelLists.{found-own}
 use Rattle.ft_interval_index.proofs.Listed.{ends-inside, items-live}
@@ -52,7 +51,8 @@ returns-in_err-first-clause-cost g c =
     let label = c.args.label.now in
     let xs = c.args.indexes.now in
     few-steps c.args.tree.now c.args.store.now label c.args.a c.args.b (index_of label xs) c.first_stage-first.ensures.names
-    c.first_stage-first.ensures.order (found-own label xs) (c.requires.listed label) (option_copied c.index_of_label-index.result)
+    c.first_stage-first.ensures.order (found-own label xs) (c.requires.listed label) (labelled_if label (option_copied
+    c.index_of_label-index.result))
     c.index_of_label-index.ensures.index c.gathered.new.steps c.args.steps.now c.in_err-first.ensures.cost
 
 pub returns-in_err-found-clause-cost : goal.returns-in_err-found-clause-cost
@@ -60,7 +60,8 @@ returns-in_err-found-clause-cost g c =
     let label = c.args.label.now in
     let xs = c.args.indexes.now in
     few-steps c.args.tree.now c.args.store.now label c.args.a c.args.b (index_of label xs) c.first_stage-first.ensures.names
-    c.first_stage-first.ensures.order (found-own label xs) (c.requires.listed label) (option_copied c.index_of_label-index.result)
+    c.first_stage-first.ensures.order (found-own label xs) (c.requires.listed label) (labelled_if label (option_copied
+    c.index_of_label-index.result))
     c.index_of_label-index.ensures.index c.gathered.new.steps c.args.steps.now c.in_ok-first.ensures.cost
 
 pub returns-clause-cost : goal.returns-clause-cost
@@ -68,7 +69,8 @@ returns-clause-cost g c =
     let label = c.args.label.now in
     let xs = c.args.indexes.now in
     few-steps c.args.tree.now c.args.store.now label c.args.a c.args.b (index_of label xs) c.first_stage-first.ensures.names
-    c.first_stage-first.ensures.order (found-own label xs) (c.requires.listed label) (option_copied c.index_of_label-index.result)
+    c.first_stage-first.ensures.order (found-own label xs) (c.requires.listed label) (labelled_if label (option_copied
+    c.index_of_label-index.result))
     c.index_of_label-index.ensures.index c.gathered.new.steps c.args.steps.now c.in_ok-first.ensures.cost
 
 pub returns-clause-found : goal.returns-clause-found
@@ -80,5 +82,6 @@ returns-clause-found g c =
     filter_same _ test _ (λ x b f' k. search rules) c.in_ok-found.found.items _ c.retain.ensures.filtered
     ∙ ap (filter test) (c.in_ok-found.ensures w.0 w.1)
     ∙ found-all c.args.tree.now c.args.store.now label c.args.a c.args.b (index_of label xs) c.first_stage-first.ensures.names
-    c.first_stage-first.ensures.order (found-own label xs) (c.requires.listed label) (option_copied c.index_of_label-index.result)
+    c.first_stage-first.ensures.order (found-own label xs) (c.requires.listed label) (labelled_if label (option_copied
+    c.index_of_label-index.result))
     c.index_of_label-index.ensures.index c.in_ok-first.ensures.fits w.0 w.2

@@ -18,7 +18,8 @@ returns-clause-keys g c =
     subst (λ (z : ℤ). IsRange c.args.a c.args.b z (to_z w64 (of_z w64 high))) (sym (to_z-of_z w64 low (search rules)))
     (subst (λ (z : ℤ). IsRange c.args.a c.args.b low z) (sym (to_z-of_z w64 high (search rules))) c.range_of-range.ensures) in
     let same = keys-same (shown_place xs refs) c.args.a c.args.b (to_z w64 (of_z w64 low)) (to_z w64 (of_z w64 high)) range
-    (λ k. number-least xs last (shown_end xs (reference_place refs k))) (λ k. number-greatest xs last (shown_end xs (reference_place refs k))) c.args.index.now.index.items in
+    (λ k. number-least xs last (shown_end xs (reference_place refs k))) (λ k. number-greatest xs last (shown_end xs (reference_place refs k)))
+    c.args.index.now.items in
     IfOk-weaker c.query.result _ _ (λ keys h. h ∙ same) c.query.ensures.keys
 
 pub returns-clause-cost : goal.returns-clause-cost
@@ -31,5 +32,6 @@ returns-clause-cost g c =
     subst (λ (z : ℤ). IsRange c.args.a c.args.b z (to_z w64 (of_z w64 high))) (sym (to_z-of_z w64 low (search rules)))
     (subst (λ (z : ℤ). IsRange c.args.a c.args.b low z) (sym (to_z-of_z w64 high (search rules))) c.range_of-range.ensures) in
     let same = keys-same (shown_place xs refs) c.args.a c.args.b (to_z w64 (of_z w64 low)) (to_z w64 (of_z w64 high)) range
-    (λ k. number-least xs last (shown_end xs (reference_place refs k))) (λ k. number-greatest xs last (shown_end xs (reference_place refs k))) c.args.index.now.index.items in
-    subst (λ (ks : List ℕ). c.query.new.steps ≤ c.args.steps.now + 9 * (c.args.index.now.index.depth + 1) * (length ks + 1)) same c.query.ensures.cost
+    (λ k. number-least xs last (shown_end xs (reference_place refs k))) (λ k. number-greatest xs last (shown_end xs (reference_place refs k)))
+    c.args.index.now.items in
+    subst (λ (ks : List ℕ). c.query.new.steps ≤ c.args.steps.now + 9 * (c.args.index.now.depth + 1) * (length ks + 1)) same c.query.ensures.cost

@@ -10,7 +10,8 @@ use Rattle.ft_interval_index.proofs.listing.enlist_changed.Goals as goal
 pub enlist_named-requires-clause-listed : goal.enlist_named-requires-clause-listed
 enlist_named-requires-clause-listed c =
     let tree = c.args.tree.now in
-    subst (λ (o : TextOp). AreListed (length (text_elements tree)) tree.refs (ends_but o c.args.store.now.acked) c.args.indexes.now.items) c.in-IntervalAdd.is c.requires.listed
+    subst (λ (o : TextOp). AreListed (length (text_elements tree)) tree.refs (ends_but o c.args.store.now.acked) c.args.indexes.now)
+    c.in-IntervalAdd.is c.requires.listed
 
 pub enlist_named-requires-clause-within : goal.enlist_named-requires-clause-within
 enlist_named-requires-clause-within c =
@@ -25,7 +26,8 @@ enlist_named-requires-clause-ends c =
 pub enlist_named-requires-in-IntervalChange-clause-listed : goal.enlist_named-requires-in-IntervalChange-clause-listed
 enlist_named-requires-in-IntervalChange-clause-listed c =
     let tree = c.args.tree.now in
-    subst (λ (o : TextOp). AreListed (length (text_elements tree)) tree.refs (ends_but o c.args.store.now.acked) c.args.indexes.now.items) c.in-IntervalChange.is c.requires.listed
+    subst (λ (o : TextOp). AreListed (length (text_elements tree)) tree.refs (ends_but o c.args.store.now.acked) c.args.indexes.now)
+    c.in-IntervalChange.is c.requires.listed
 
 pub enlist_named-requires-in-IntervalChange-clause-within : goal.enlist_named-requires-in-IntervalChange-clause-within
 enlist_named-requires-in-IntervalChange-clause-within c =
@@ -40,7 +42,8 @@ enlist_named-requires-in-IntervalChange-clause-ends c =
 pub enlist_named-requires-in-IntervalDelete-clause-listed : goal.enlist_named-requires-in-IntervalDelete-clause-listed
 enlist_named-requires-in-IntervalDelete-clause-listed c =
     let tree = c.args.tree.now in
-    subst (λ (o : TextOp). AreListed (length (text_elements tree)) tree.refs (ends_but o c.args.store.now.acked) c.args.indexes.now.items) c.in-IntervalDelete.is c.requires.listed
+    subst (λ (o : TextOp). AreListed (length (text_elements tree)) tree.refs (ends_but o c.args.store.now.acked) c.args.indexes.now)
+    c.in-IntervalDelete.is c.requires.listed
 
 pub enlist_named-requires-in-IntervalDelete-clause-within : goal.enlist_named-requires-in-IntervalDelete-clause-within
 enlist_named-requires-in-IntervalDelete-clause-within c =
@@ -55,9 +58,11 @@ enlist_named-requires-in-IntervalDelete-clause-ends c =
 pub returns-in-One : goal.returns-in-One
 returns-in-One c =
     let tree = c.args.tree.now in
-    subst (λ (o : TextOp). AreListed (length (text_elements tree)) tree.refs (ends_but o c.args.store.now.acked) c.args.indexes.now.items) c.in-One.is c.requires.listed
+    subst (λ (o : TextOp). AreListed (length (text_elements tree)) tree.refs (ends_but o c.args.store.now.acked) c.args.indexes.now) c.in-One.is
+    c.requires.listed
 
 pub returns-in-Group : goal.returns-in-Group
 returns-in-Group c =
     let tree = c.args.tree.now in
-    subst (λ (o : TextOp). AreListed (length (text_elements tree)) tree.refs (ends_but o c.args.store.now.acked) c.args.indexes.now.items) c.in-Group.is c.requires.listed
+    subst (λ (o : TextOp). AreListed (length (text_elements tree)) tree.refs (ends_but o c.args.store.now.acked) c.args.indexes.now) c.in-Group.is
+    c.requires.listed

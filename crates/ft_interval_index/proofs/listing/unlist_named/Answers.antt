@@ -12,7 +12,7 @@ unlist-requires-clause-known c =
     let label = c.args.label.now in
     let n = length (text_elements tree) in
     let few : n ≤ 9223372036854775808 = (let fits = c.made-made.ensures.fits c.requires.usable in let small = c.made-made.ensures.small c.requires.usable in omega (arith, fits, small)) in
-    items-placed tree n (λ id. ends_of_name (label, id) c.args.store.now.acked) (index_of label c.args.indexes.now.items) c.requires.usable
+    items-placed tree n (λ id. ends_of_name (label, id) c.args.store.now.acked) (index_of label c.args.indexes.now) c.requires.usable
     (λ id. live-ends-of tree.refs c.args.store.now c.requires.live (label, id)) (c.requires.listed label) few
 
 pub unlist-requires-clause-order : goal.unlist-requires-clause-order
@@ -23,6 +23,7 @@ returns c = λ id same.
     let tree = c.args.tree.now in
     let label = c.args.label.now in
     let is = c.args.store.now.acked in
-    unlisted label id is (length (text_elements tree)) tree.refs c.args.indexes.now.items c.unlist.new.indexes.items
+    unlisted label id is (length (text_elements tree)) tree.refs c.args.indexes.now c.unlist.new.indexes
     (starts-once-in c.args.store.now c.first_stage-first.ensures.order) c.unlist.ensures.others c.requires.listed
-    (subst (λ (e : EndPair ℕ). Unlists tree.refs e (index_of label c.args.indexes.now.items) (index_of label c.unlist.new.indexes.items)) same c.unlist.ensures.label)
+    (subst (λ (e : EndPair ℕ). Unlists tree.refs e (index_of label c.args.indexes.now) (index_of label c.unlist.new.indexes)) same
+    c.unlist.ensures.label)

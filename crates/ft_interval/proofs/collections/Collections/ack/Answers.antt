@@ -37,12 +37,13 @@ enlist_changed-requires-clause-listed c =
     let xs = text_elements c.args.tree.now in
     let o = c.in_ok-acked.acked.op in
     let same = same-first c.self.inside.store.pending c.in-Some.op.now o (sym c.first_operation.ensures ∙ ap option_copied c.in-Some.is) c.in_ok-acked.ensures.op in
-    let out = subst (λ (x : TextOp). AreListed (length xs) c.args.tree.now.refs (ends_but x c.self.inside.store.acked) c.unlist_changed.new.indexes.items) same
+    let out = subst (λ (x : TextOp). AreListed (length xs) c.args.tree.now.refs (ends_but x c.self.inside.store.acked) c.unlist_changed.new.indexes)
+    same
     c.unlist_changed.ensures in
     let first = takes-first o (map_ends (slid_end xs)) c.args.tree.now.refs c.ack.new.tree.refs c.self.inside.store c.ack.new.self
     c.in_ok-acked.ensures.op c.in_ok-acked.ensures.after
     c.in_ok-acked.ensures.effect in
-    out-after c.args.tree.now c.ack.new.tree c.self.inside.store c.ack.new.self o c.self.inside.indexes.items c.unlist_changed.new.indexes.items
+    out-after c.args.tree.now c.ack.new.tree c.self.inside.store c.ack.new.self o c.self.inside.indexes c.unlist_changed.new.indexes
     c.first_stage-first.ensures.names c.in_ok-acked.ensures.rest s.listed out first.places first.taken first.effect
 
 pub enlist_changed-requires-clause-within : goal.enlist_changed-requires-clause-within
@@ -51,12 +52,13 @@ enlist_changed-requires-clause-within c =
     let xs = text_elements c.args.tree.now in
     let o = c.in_ok-acked.acked.op in
     let same = same-first c.self.inside.store.pending c.in-Some.op.now o (sym c.first_operation.ensures ∙ ap option_copied c.in-Some.is) c.in_ok-acked.ensures.op in
-    let out = subst (λ (x : TextOp). AreListed (length xs) c.args.tree.now.refs (ends_but x c.self.inside.store.acked) c.unlist_changed.new.indexes.items) same
+    let out = subst (λ (x : TextOp). AreListed (length xs) c.args.tree.now.refs (ends_but x c.self.inside.store.acked) c.unlist_changed.new.indexes)
+    same
     c.unlist_changed.ensures in
     let first = takes-first o (map_ends (slid_end xs)) c.args.tree.now.refs c.ack.new.tree.refs c.self.inside.store c.ack.new.self
     c.in_ok-acked.ensures.op c.in_ok-acked.ensures.after
     c.in_ok-acked.ensures.effect in
-    within-after c.args.tree.now c.ack.new.tree c.self.inside.store c.ack.new.self o c.self.inside.indexes.items c.unlist_changed.new.indexes.items
+    within-after c.args.tree.now c.ack.new.tree c.self.inside.store c.ack.new.self o c.self.inside.indexes c.unlist_changed.new.indexes
     c.first_stage-first.ensures.names c.in_ok-acked.ensures.rest s.listed out first.places first.taken first.effect
 
 pub enlist_changed-requires-clause-ends : goal.enlist_changed-requires-clause-ends

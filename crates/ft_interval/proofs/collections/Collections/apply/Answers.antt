@@ -23,8 +23,8 @@ enlist_changed-requires-clause-live c =
     let s = subst (λ (x : IndexedState). StandsOn c.args.tree.now x) (sym c.self.view_is) c.requires.stands in
     let xs = text_elements c.args.tree.now in
     let places = places_of_given (seen_in (At c.args.at)) xs (ends_of c.args.op.now) in
-    live-applied c.args.tree.now c.apply.new.tree c.self.inside.store c.apply.new.self c.args.op.now c.self.inside.indexes.items
-    c.unlist_changed.new.indexes.items c.first_stage-first.ensures.names
+    live-applied c.args.tree.now c.apply.new.tree c.self.inside.store c.apply.new.self c.args.op.now c.self.inside.indexes
+    c.unlist_changed.new.indexes c.first_stage-first.ensures.names
     c.in_ok-now.ensures.rest s.listed c.unlist_changed.ensures (is_some c.in_ok-now.now) places c.in_ok-now.ensures.effect
     c.in_ok-now.ensures.after c.in_ok-now.ensures.misfit c.in_ok-now.ensures.refs s.live
 
@@ -33,8 +33,8 @@ enlist_changed-requires-clause-listed c =
     let s = subst (λ (x : IndexedState). StandsOn c.args.tree.now x) (sym c.self.view_is) c.requires.stands in
     let xs = text_elements c.args.tree.now in
     let places = places_of_given (seen_in (At c.args.at)) xs (ends_of c.args.op.now) in
-    out-applied c.args.tree.now c.apply.new.tree c.self.inside.store c.apply.new.self c.args.op.now c.self.inside.indexes.items
-    c.unlist_changed.new.indexes.items c.first_stage-first.ensures.names
+    out-applied c.args.tree.now c.apply.new.tree c.self.inside.store c.apply.new.self c.args.op.now c.self.inside.indexes
+    c.unlist_changed.new.indexes c.first_stage-first.ensures.names
     c.in_ok-now.ensures.rest s.listed c.unlist_changed.ensures (is_some c.in_ok-now.now) places c.in_ok-now.ensures.effect c.in_ok-now.ensures.after c.in_ok-now.ensures.misfit
 
 pub enlist_changed-requires-clause-within : goal.enlist_changed-requires-clause-within
@@ -42,8 +42,8 @@ enlist_changed-requires-clause-within c =
     let s = subst (λ (x : IndexedState). StandsOn c.args.tree.now x) (sym c.self.view_is) c.requires.stands in
     let xs = text_elements c.args.tree.now in
     let places = places_of_given (seen_in (At c.args.at)) xs (ends_of c.args.op.now) in
-    within-applied c.args.tree.now c.apply.new.tree c.self.inside.store c.apply.new.self c.args.op.now c.self.inside.indexes.items
-    c.unlist_changed.new.indexes.items c.first_stage-first.ensures.names
+    within-applied c.args.tree.now c.apply.new.tree c.self.inside.store c.apply.new.self c.args.op.now c.self.inside.indexes
+    c.unlist_changed.new.indexes c.first_stage-first.ensures.names
     c.in_ok-now.ensures.rest s.listed c.unlist_changed.ensures (is_some c.in_ok-now.now) places c.in_ok-now.ensures.effect c.in_ok-now.ensures.after c.in_ok-now.ensures.misfit
 
 pub enlist_changed-requires-clause-ends : goal.enlist_changed-requires-clause-ends
@@ -58,8 +58,8 @@ returns-clause-stands c =
     let xs = text_elements c.args.tree.now in
     let places = places_of_given (seen_in (At c.args.at)) xs (ends_of c.args.op.now) in
     record {
-      live = live-applied c.args.tree.now c.apply.new.tree c.self.inside.store c.apply.new.self c.args.op.now c.self.inside.indexes.items
-          c.unlist_changed.new.indexes.items c.first_stage-first.ensures.names
+      live = live-applied c.args.tree.now c.apply.new.tree c.self.inside.store c.apply.new.self c.args.op.now c.self.inside.indexes
+          c.unlist_changed.new.indexes c.first_stage-first.ensures.names
           c.in_ok-now.ensures.rest s.listed c.unlist_changed.ensures (is_some c.in_ok-now.now) places c.in_ok-now.ensures.effect
           c.in_ok-now.ensures.after c.in_ok-now.ensures.misfit c.in_ok-now.ensures.refs s.live;
       listed = c.in-Ok.ensures;

@@ -20,7 +20,8 @@ edit_local-requires-clause-kind c = delete-is-on-intervals c.args.op.now c.requi
 pub returns-clause-stands : goal.returns-clause-stands
 returns-clause-stands c =
     let s = subst (λ (x : IndexedState). StandsOn c.args.tree.now x) (sym c.self.view_is) c.requires.stands in
-    on_ok_weaker c.edit_local.result (λ p. stands-kept c.args.tree.now c.edit_local.new.tree c.self.inside.store c.edit_local.new.self c.self.inside.indexes.items
+    on_ok_weaker c.edit_local.result (λ p. stands-kept c.args.tree.now c.edit_local.new.tree c.self.inside.store c.edit_local.new.self
+    c.self.inside.indexes
     c.edit_local.ensures.acked (ap (λ (x : CollectionsState). x.acked) p.pending) p.rest p.refs.live s.listed) c.edit_local.ensures.taken
 
 pub returns-clause-refused : goal.returns-clause-refused

@@ -1,4 +1,4 @@
-use Rattle.std.proofs.Common.{◌≡◌, ◌+◌, ◌*◌, ◌^◌, ◌≤◌, ℕ, List, filter, length, map, sym, ◌∙◌, ap, subst}
+use Rattle.std.proofs.Common.{◌≡◌, ◌+◌, ◌*◌, ◌^◌, ◌≤◌, ℕ, List, filter, length, map, sym, subst}
 use Rattle.std.specs.Prelude.{IfOk}
 use Rattle.ft_props.specs.Keys.{Characters}
 use Rattle.ft_sumdoc.specs.declared.summary.IntervalRec.{IntervalRec}
@@ -7,14 +7,10 @@ use Rattle.ft_tree_leaves.specs.declared.text.TextContent.{TextContent}
 use Rattle.ft_tree.specs.State.{TreeState}
 use Rattle.ft_interval_store.specs.Intervals.{has_label}
 use Rattle.ft_interval_store.specs.Shown.{shown_intervals, shown_record}
-use Rattle.ft_interval_store.specs.State.{CollectionsState, ends_of_name, placed_intervals, placed_operations, text_elements}
-use Rattle.ft_interval_index.specs.declared.indexes.LabelIndex.{LabelIndex}
-use Rattle.ft_interval_index.specs.Indexes.{AreListed, index_of, list_in}
+use Rattle.ft_interval_store.specs.State.{CollectionsState, placed_intervals, placed_operations, text_elements}
+use Rattle.ft_interval_index.specs.Indexes.{index_of, list_in}
 use Rattle.ft_interval.specs.State.{IndexedState, StandsOn}
 use Rattle.ft_interval.proofs.collections.Collections.overlapping.Goals as goal
-
-abbrev held : CollectionsState → List LabelIndex → IndexedState
-held state indexes = record { state = state; indexes = indexes }
 
 -- those that are shown and meet the range
 abbrev answers : TreeState TextContent → Characters → ℕ → ℕ → CollectionsState → List IntervalRec
@@ -28,9 +24,7 @@ overlapping-requires-clause-live g c = (subst (λ (x : IndexedState). StandsOn c
 pub overlapping-requires-clause-listed : goal.overlapping-requires-clause-listed
 overlapping-requires-clause-listed g c =
     let tree = c.args.tree.now in
-    let s = subst (λ (x : IndexedState). StandsOn tree x) (sym c.self.view_is) c.requires.stands in
-    subst (λ (xs : List LabelIndex). AreListed (length (text_elements tree)) tree.refs (λ n. ends_of_name n c.self.inside.store.acked) xs)
-    (sym c.deref.ensures.value) s.listed
+    (subst (λ (x : IndexedState). StandsOn tree x) (sym c.self.view_is) c.requires.stands).listed
 
 pub returns-clause-found : goal.returns-clause-found
 returns-clause-found g c =
@@ -40,26 +34,22 @@ returns-clause-found g c =
 pub returns-clause-cost : goal.returns-clause-cost
 returns-clause-cost g c =
     let label = c.args.label.now in
-    let same = ap (held c.self.inside.store) c.deref.ensures.value ∙ c.self.view_is in
     subst (λ (x : IndexedState). c.overlapping.new.steps ≤ c.args.steps.now + 9 * ((list_in (index_of label x.indexes)).depth + 1)
-    * (length (answers c.args.tree.now label c.args.a c.args.b x.state) + length x.state.pending + 1)) same c.overlapping.ensures.cost
+    * (length (answers c.args.tree.now label c.args.a c.args.b x.state) + length x.state.pending + 1)) c.self.view_is c.overlapping.ensures.cost
 
 pub returns-clause-depth : goal.returns-clause-depth
 returns-clause-depth g c =
     let label = c.args.label.now in
-    let same = ap (held c.self.inside.store) c.deref.ensures.value ∙ c.self.view_is in
     subst (λ (x : IndexedState). 4 ^ (list_in (index_of label x.indexes)).depth ≤ length (list_in (index_of label x.indexes)).items + 1)
-    same c.overlapping.ensures.depth
+    c.self.view_is c.overlapping.ensures.depth
 
 pub returns-clause-few : goal.returns-clause-few
 returns-clause-few g c =
     let label = c.args.label.now in
-    let same = ap (held c.self.inside.store) c.deref.ensures.value ∙ c.self.view_is in
-    subst (λ (x : IndexedState). length (list_in (index_of label x.indexes)).items ≤ length x.state.acked) same c.overlapping.ensures.few
+    subst (λ (x : IndexedState). length (list_in (index_of label x.indexes)).items ≤ length x.state.acked) c.self.view_is c.overlapping.ensures.few
 
 pub returns-clause-labelled : goal.returns-clause-labelled
 returns-clause-labelled g c =
     let label = c.args.label.now in
-    let same = ap (held c.self.inside.store) c.deref.ensures.value ∙ c.self.view_is in
-    subst (λ (x : IndexedState). length (list_in (index_of label x.indexes)).items ≤ length (filter (has_label label) x.state.acked)) same
+    subst (λ (x : IndexedState). length (list_in (index_of label x.indexes)).items ≤ length (filter (has_label label) x.state.acked)) c.self.view_is
     c.overlapping.ensures.labelled

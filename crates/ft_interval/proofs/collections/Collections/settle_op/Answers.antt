@@ -11,5 +11,6 @@ settle_op-requires-clause-live c = (subst (λ (x : IndexedState). StandsOn c.arg
 pub returns-clause-stands : goal.returns-clause-stands
 returns-clause-stands c =
     let s = subst (λ (x : IndexedState). StandsOn c.args.tree.now x) (sym c.self.view_is) c.requires.stands in
-    three-ok c.settle_op.result (λ p k rest. stands-kept c.args.tree.now c.settle_op.new.tree c.self.inside.store c.settle_op.new.self c.self.inside.indexes.items
+    three-ok c.settle_op.result (λ p k rest. stands-kept c.args.tree.now c.settle_op.new.tree c.self.inside.store c.settle_op.new.self
+    c.self.inside.indexes
     c.settle_op.ensures.acked (ap (λ (x : CollectionsState). x.acked) p) rest k.live s.listed) c.settle_op.ensures.settled c.settle_op.ensures.refs c.settle_op.ensures.rest
