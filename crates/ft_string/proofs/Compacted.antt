@@ -12,8 +12,7 @@ use Rattle.ft_interval_store.specs.declared.intervals.Interval.{Interval}
 use Rattle.ft_interval_store.specs.declared.pending.Operation.{Operation}
 use Rattle.ft_interval_store.specs.Ends.{References, is_reference}
 use Rattle.ft_interval_store.specs.State.{CollectionsState, ends_of_intervals, ends_of_name, ends_of_operations, keeps, text_elements}
-use Rattle.ft_interval_index.specs.declared.indexes.LabelIndex.{LabelIndex}
-use Rattle.ft_interval_index.specs.Indexes.{index_of}
+use Rattle.ft_interval_index.specs.Indexes.{LabelIndex, index_of}
 use Rattle.ft_interval.specs.State.{IndexedState, StandsOn}
 use Rattle.ft_interval_index.specs.Order.{IsAtMost, IsWithin}
 use Rattle.ft_interval_index.proofs.Listed.{kept-listed}

@@ -6,8 +6,7 @@ use Rattle.std.proofs.lemmas.List.Elements.{All-cons, All-nil}
 use Rattle.ft_base.specs.Scan.{len}
 use Rattle.ft_interval_store.specs.Ends.{place_of_end}
 use Rattle.ft_interval_store.specs.State.{CollectionsState, ends_of_name, text_elements}
-use Rattle.ft_interval_index.specs.declared.indexes.LabelIndex.{LabelIndex}
-use Rattle.ft_interval_index.specs.Indexes.{index_of}
+use Rattle.ft_interval_index.specs.Indexes.{LabelIndex, index_of}
 use Rattle.ft_interval.specs.State.{IndexedState, StandsOn}
 use Rattle.ft_interval_index.specs.Order.{IsAtMost, IsWithin}
 use Rattle.ft_interval_index.proofs.Listed.{kept-listed}
