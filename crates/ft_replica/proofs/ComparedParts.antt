@@ -156,7 +156,7 @@ module _ (k : ℕ) (p : NaiveClient) (s c r : ℕ) where
 
   pub without-operation : (body : Body) → is_op body ≡ false
       → ((after_changes (shown_content p) (told_body k p.doc s c r body)).intervals ≡ (shown_content p).intervals) ×
-          (intervals_after body ≡ intervals_after Nothing)
+      (intervals_after body ≡ intervals_after Nothing)
   without-operation (Op op) h = absurd (cc)
   without-operation Nothing h = (refl, refl)
   without-operation (Elsewhere address) h = (refl, refl)
@@ -186,7 +186,7 @@ module _ (start : Document) (p : NaiveClient) (entry : Entry) (last : ℕ) (t : 
       let x = m.whole in
       let fits = well-formed-fits entry formed in
       let a = taken-alike (after_entry p entry) (entries-answer m.reached.steps x p entry (reached-sound x m.reached) m.keeps fits)
-              (after-taken p entry t.taken) in
+      (after-taken p entry t.taken) in
       told-parts (compared_by pending body) (after_lists p entry) (shown_content (after_entry p entry))
       (λ unset. kept-unset-cells-tell-nothing p x a.0 entry m.reached m.keeps fits a.1.0 unset)
       (λ few. by pending (is_op body) refl refl (neither (pending && is_op body) (has_sub_operation changes_intervals body) few) (λ h. idle-untold h)
@@ -195,7 +195,7 @@ module _ (start : Document) (p : NaiveClient) (entry : Entry) (last : ℕ) (t : 
       by : (waits op : Bool) → pending ≡ waits → is_op entry.msg.body ≡ op → (waits && op ≡ false) ×
           (has_sub_operation changes_intervals entry.msg.body ≡ false)
           → (is_op entry.msg.body ≡ false → Untold) → (pending ≡ false → has_sub_operation changes_intervals entry.msg.body ≡ false → Untold)
-              → Untold
+          → Untold
       by waits false e d h idle quiet = idle d
       by true true e d h idle quiet = absurd (cc)
       by false true e d h idle quiet = quiet e h.1

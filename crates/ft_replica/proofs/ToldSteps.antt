@@ -120,10 +120,10 @@ edit-told p y op e = ap (λ (r : Result NaiveClient EditFault). elim r as (λ _.
 pub edited-told : (p y : NaiveClient) (op : ChannelOp) (last : ℕ) (compared : Compared) (lists all : List ViewChange) → p.last_stage ≡ last
     → local_edit p op ≡ Ok y
     → told_rest (compared_part compared (after_edit_lists p op)) (compared_part compared (shown_content y)) ≡ told_rest (after_edit_lists p op)
-        (shown_content y)
+    (shown_content y)
     → lists ≡ told_locals p.doc (stages_of p) (last + 1) (sub_operations op)
     → all ≡ lists ++ told_rest (compared_part compared (after_changes (shown_content p) lists)) (compared_part compared (shown_content y)) → all
-        ≡ told_of_edit p op
+    ≡ told_of_edit p op
 edited-told p y op last compared lists all is taken enough told made =
     made
     ∙ ap (λ cs. cs ++ told_rest (compared_part compared (after_changes (shown_content p) cs)) (compared_part compared (shown_content y)))

@@ -62,5 +62,5 @@ returns-clause-told g c =
     let document = subst (λ (t : LinkedState _). D.holds t.document (held_by low p)) (sym c.self.view_is) l.document in
     let enough = subst (λ compared. IsEnough compared entry p) (sym c.by_message-compared.ensures)
     (enough-compared start p entry i.last_stage here _ c.requires.formed made
-        (λ idle. idle-stages s p l.rest c.len.result (c.len.ensures ∙ ap (λ (t : LinkedState _). length t.pending) c.self.view_is) idle)) in
+    (λ idle. idle-stages s p l.rest c.len.result (c.len.ensures ∙ ap (λ (t : LinkedState _). length t.pending) c.self.view_is) idle)) in
     c.in_ok-append.ensures.ok ∙ ap (λ cs. c.args.changes.now ++ cs) (c.in_ok-told.ensures.told start low p made here enough document)

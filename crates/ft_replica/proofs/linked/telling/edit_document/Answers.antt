@@ -37,6 +37,6 @@ returns-clause-told g c = λ start low p made is h.
     let all = went-well c.tell_rest.result (sym c.if-is_err.ensures.value)
     (c.tell_rest.ensures (shown_content p) low t.client (sym before) of_lists (edited-named op start p t.client made t.taken) last t.document) in
     let enough = subst (λ compared. told_rest (compared_part compared (after_edit_lists p op)) (compared_part compared (shown_content t.client))
-            ≡ told_rest (after_edit_lists p op) (shown_content t.client))
+    ≡ told_rest (after_edit_lists p op) (shown_content t.client))
     (sym c.by_edit-compared.ensures) (edit-compared start p t.client op made t.taken) in
     edited-told p t.client op c.args.last _ edit.changes _ is t.taken enough lists all
