@@ -1,0 +1,5 @@
+pub mod CharacterCuts
+pub mod PutElements
+pub mod StyledRuns
+pub mod TextElements
+pub mod ShownFromNothing
