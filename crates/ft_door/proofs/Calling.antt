@@ -1,13 +1,18 @@
 -- What a held client is told of its calls.
-use Rattle.std.proofs.Common.{◌≡◌, ℕ, Bool, List, [], ◌∷◌, ◌++◌, Some, None, drop, refl, sym, ◌∙◌, ap, subst, append-nil, arith}
+use Rattle.std.proofs.Common.{◌≡◌, ℕ, Bool, List, [], ◌∷◌, ◌++◌, Option, Some, None, drop, option_map, refl, sym, ◌∙◌, ap, subst, append-nil, arith}
 use Rattle.ft_msg.specs.declared.messages.Draft.{Draft}
 use Rattle.ft_seqr.specs.declared.refusals.Refusal.{Refusal}
 use Rattle.ft_seqr.specs.Walk.{Step}
 use Rattle.ft_replay.specs.LineForm.{bytes_of}
 use Rattle.ft_door.specs.declared.calls.Told.TheVariants.{Full, Refused, Taken}
 use Rattle.ft_door.specs.declared.clients.HeldClient.{HeldClient}
-use Rattle.ft_door.specs.Clients.{CallsClient, ClientGoesOn, SendsDraft, ShowsClient, call_bytes, call_number, refusal_bytes, unread_by}
-use Rattle.ft_door.specs.Editors.{EditorState, NaiveEditor, TellsStep, draft_bytes, oldest_bytes, shown_lines, with_queue}
+use Rattle.ft_changes.specs.declared.changes.ViewChange.{ViewChange}
+use Rattle.ft_changes.specs.Shown.{ShownContent}
+use Rattle.ft_change_lines.specs.ChangeTexts.{changes_text}
+use Rattle.ft_door.specs.Clients.{AreTold, CallsClient, ClientGoesOn, ListensToClient, SendsDraft, ShowsClient, TellsClient, call_bytes, call_number, changes_of, refusal_bytes, unread_by}
+use Rattle.ft_door.specs.Editors.{EditorState, IsTold, Leads, NaiveEditor, TellsStep, draft_bytes, informed, listening, oldest_bytes, shown_lines, with_listener, with_queue}
+use Rattle.ft_door.proofs.Editing.{unheard}
+use Rattle.ft_door.proofs.GivenSteps.{told-leads}
 
 module _ {R : Type 0} (run : HeldClient R) (s t : EditorState) where
   -- a call was taken
@@ -170,6 +175,112 @@ pub view-kept : {R : Type 0} (old new : HeldClient R) → (old.client ≡ None �
 view-kept old new runs client unread = record {
   shown = λ x zero. absurd (cc);
   client = client;
+  unread = λ large. unread;
+  closed = λ is. absurd (cc);
+  known = refl;
+  after_end = λ none. absurd (runs none);
+}
+
+-- a listener begins, or there is none any more; or there was no memory for what is told
+pub listens-now : {R : Type 0} (listens : Bool) (old new : HeldClient R) → (old.client ≡ None → ⊥) → unread_by new ≡ unread_by old
+    → ((x : NaiveEditor) → ClientGoesOn old.client x → ClientGoesOn new.client (with_listener (listening listens) x)) → ListensToClient listens old new 0
+listens-now listens old new runs unread begins = record {
+  client = λ x zero h. begins x h;
+  unread = unread;
+  same = λ large. absurd (omega (arith, large));
+  closed = λ is. absurd (cc);
+  known = refl;
+  after_end = λ none. absurd (runs none);
+}
+
+pub listens-as-before : {R : Type 0} (listens : Bool) (old new : HeldClient R) → (old.client ≡ None → ⊥) → unread_by new ≡ unread_by old → new.client ≡ old.client
+    → ListensToClient listens old new 5
+listens-as-before listens old new runs unread same = record {
+  client = λ x zero. absurd (cc);
+  unread = unread;
+  same = λ large. same;
+  closed = λ is. absurd (cc);
+  known = refl;
+  after_end = λ none. absurd (runs none);
+}
+
+-- ---- what changes
+
+-- for which editor a client stands that has changes to tell: those that its listener wasn't told
+record HasListener (client : Option EditorState) (x : NaiveEditor) (changes : List ViewChange) : Type 0 where
+  pub shown : ShownContent
+  pub listener : x.listener ≡ Some shown
+  pub told : IsTold shown changes x.client
+
+listener-of : (client : Option EditorState) (changes : List ViewChange) → changes_of client ≡ Some changes → (x : NaiveEditor) → ClientGoesOn client x → HasListener client x changes
+listener-of None changes e x h = absurd h
+listener-of (Some s) changes e x h = by x.listener s.told refl e h.leads
+  where
+    by : (shown : Option ShownContent) (told : Option (List ViewChange)) → x.listener ≡ shown → told ≡ Some changes → Leads shown told x.client → HasListener (Some s) x changes
+    by (Some c) (Some cs) l is leads = let same : cs ≡ changes = (cc) in record { shown = c; listener = l; told = subst (λ ds. IsTold c ds x.client) same leads }
+    by (Some c) None l is leads = absurd leads
+    by None (Some cs) l is leads = absurd leads
+    by None None l is leads = absurd (cc)
+
+-- their texts were written, and none is left
+pub changes-told : {R : Type 0} (old new : HeldClient R) (lines : List ℕ) → (old.client ≡ None → ⊥) → option_map changes_text (changes_of old.client) ≡ Some lines
+    → unread_by new ≡ unread_by old ++ lines → ((x : NaiveEditor) → ClientGoesOn old.client x → ClientGoesOn new.client (informed x))
+    → changes_of new.client ≡ option_map (λ _. []) (changes_of old.client) → TellsClient old new 0
+changes-told old new lines runs texts written counted none = record {
+  told = λ x zero h. by x h (changes_of old.client) refl texts none;
+  none = λ x is. absurd (cc);
+  client = λ large. absurd (omega (arith, large));
+  unread = λ large. absurd (omega (arith, large));
+  closed = λ is. absurd (cc);
+  known = refl;
+  after_end = λ ended. absurd (runs ended);
+}
+  where
+    by : (x : NaiveEditor) → ClientGoesOn old.client x → (told : Option (List ViewChange)) → changes_of old.client ≡ told → option_map changes_text told ≡ Some lines
+        → changes_of new.client ≡ option_map (λ _. []) told → (shown : ShownContent) × (changes : List ViewChange) × AreTold old new x shown changes
+    by x h None is e left = absurd (cc)
+    by x h (Some changes) is e left =
+        let l = listener-of old.client changes is x h in
+        let same : changes_text changes ≡ lines = (cc) in (
+          l.shown,
+          changes,
+          record {
+            listener = l.listener;
+            all = is;
+            written = written ∙ ap (λ bytes. unread_by old ++ bytes) (sym same);
+            told = l.told;
+            lead = told-leads l.shown changes x.client l.told;
+            client = counted x h;
+            none_left = left;
+          },
+        )
+
+-- nobody listens
+pub nobody-told : {R : Type 0} (run : HeldClient R) → (run.client ≡ None → ⊥) → None ≡ option_map changes_text (changes_of run.client) → TellsClient run run 8
+nobody-told run runs texts = record {
+  told = λ x zero. absurd (cc);
+  none = λ x eight h. by run.client runs texts x h;
+  client = λ large. refl;
+  unread = λ large. refl;
+  closed = λ is. absurd (cc);
+  known = refl;
+  after_end = λ none. absurd (runs none);
+}
+  where
+    no-changes : (told : Option (List ViewChange)) → None ≡ option_map changes_text told → told ≡ None
+    no-changes None e = refl
+    no-changes (Some changes) e = absurd (cc)
+
+    by : (client : Option EditorState) → (client ≡ None → ⊥) → None ≡ option_map changes_text (changes_of client) → (x : NaiveEditor) → ClientGoesOn client x → x.listener ≡ None
+    by None goes e x h = absurd h
+    by (Some s) goes e x h = unheard x.listener s.told x.client h.leads (no-changes s.told e)
+
+-- there was no memory for the lines
+pub changes-kept : {R : Type 0} (old new : HeldClient R) → (old.client ≡ None → ⊥) → new.client ≡ old.client → unread_by new ≡ unread_by old → TellsClient old new 5
+changes-kept old new runs client unread = record {
+  told = λ x zero. absurd (cc);
+  none = λ x is. absurd (cc);
+  client = λ large. client;
   unread = λ large. unread;
   closed = λ is. absurd (cc);
   known = refl;

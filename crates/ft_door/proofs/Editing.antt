@@ -1,8 +1,9 @@
 -- What an editor is told of its calls, and for which one it stands then.
-use Rattle.std.proofs.Common.{chars, if◌then◌else◌, ◌≡◌, ℕ, ◌+◌, ◌*◌, ◌<◌, ◌≤◌, Bool, true, false, cond, not, ◌&&◌, IsTrue, nat_le, List, [], ◌∷◌, Option, Some, None, Result, Ok, Err, drop, length, max, option_map, slice_get, refl, sym, ◌∙◌, ap, subst, arith}
+use Rattle.std.proofs.Common.{chars, if◌then◌else◌, ◌≡◌, ℕ, ◌+◌, ◌*◌, ◌<◌, ◌≤◌, Bool, true, false, cond, not, ◌&&◌, IsTrue, nat_le, List, [], ◌∷◌, Option, Some, None, Result, Ok, Err, drop, is_some, length, max, option_map, slice_get, refl, sym, ◌∙◌, ap, subst, arith}
 use Rattle.std.proofs.lemmas.Bool.{and_parts, false_from_ne_true, lt-ltb, le-leb, or_left}
 use Rattle.std.proofs.lemmas.Bool.Decides.{nat_tests}
 use Rattle.std.proofs.lemmas.Str.{IsUtf8-from_is_utf8, is_utf8-from_IsUtf8}
+use Rattle.std.specs.Prelude.{OnErr, OnOk}
 use Rattle.std.specs.Str.{IsUtf8, is_utf8}
 use Rattle.ft_base.specs.Scan.{len}
 use Rattle.ft_props.specs.Element.{ListElement, is_pending}
@@ -15,17 +16,20 @@ use Rattle.ft_op.specs.WellFormed.{IsWellFormed}
 use Rattle.ft_msg.specs.declared.faults.Cause.TheVariants.{NotUtf8}
 use Rattle.ft_msg.specs.declared.faults.EditFault.{EditFault}
 use Rattle.ft_msg.specs.declared.faults.LinkFault.{LinkFault}
+use Rattle.ft_msg.specs.declared.faults.LinkFault.TheVariants as links
 use Rattle.ft_msg.specs.declared.faults.ProcessFault.{ProcessFault}
 use Rattle.ft_msg.specs.declared.messages.Body.{Body}
 use Rattle.ft_msg.specs.declared.messages.Draft.{Draft}
 use Rattle.ft_msg.specs.declared.messages.Entry.{Entry}
 use Rattle.ft_msg.specs.declared.messages.Message.{Message}
+use Rattle.ft_msg.specs.declared.views.Link.{Link}
+use Rattle.ft_msg.specs.declared.views.Link.TheVariants.{Joining, Offline, Online}
 use Rattle.ft_msg.specs.declared.views.Numbers.{Numbers}
 use Rattle.ft_msg.specs.declared.views.View.{View}
 use Rattle.ft_msg.specs.Answers.{HeldCounts, ReplicaState, RunsFor, StartsOver, held_in, numbers_of, view_content, with_queue}
 use Rattle.ft_msg.specs.Client.{NaiveClient, client_over, connect, local_edit}
 use Rattle.ft_msg.specs.ClientSteps.{Connects, Drops, Edits, Sends, Takes, unless_refused}
-use Rattle.ft_msg.specs.Content.{content}
+use Rattle.ft_msg.specs.Content.{ViewContent, content}
 use Rattle.ft_msg.specs.Process.{process}
 use Rattle.ft_msg.specs.Reached.{IsReached, IsStart, from_nothing, from_summary}
 use Rattle.ft_msg.specs.Summary.{doc_of}
@@ -44,9 +48,12 @@ use Rattle.ft_session.specs.Outputs.{IsViewOf}
 use Rattle.ft_session.proofs.Counting.{stands-minimum, stands-other, stands-pending, stands-skipped}
 use Rattle.ft_door.specs.declared.calls.Told.{Told}
 use Rattle.ft_door.specs.declared.calls.Told.TheVariants.{Full, Refused, Taken}
-use Rattle.ft_door.specs.Editors.{EditorState, AnswersStep, IsEditor, IsNextFor, IsSomeEditor, NaiveEditor, TakesJoin, TellsStep, as_client, connect_as, connect_line, drop_answer, drop_step, dropped_unless, edit_answer, edit_exceeds, edited, editor_of, entry_answer, is_free, is_join, is_offline, is_sender, joining_as, load_exceeds, load_limit, load_of, load_reading, load_reading_exceeds, message_answer, message_answer_exceeds, message_exceeds, never_exceeds, new_editor, next_exceeds, no_name, oldest_bytes, or_same, order_fault, shown_link, start_load, table_limit, take_entry, is_awaited_by, message_refusal, take_message, take_next, told_of, waits_after, draft_bytes}
+use Rattle.ft_changes.specs.declared.changes.ViewChange.{ViewChange}
+use Rattle.ft_changes.specs.Shown.{ShownContent, shown_content}
+use Rattle.ft_change_lines.specs.FromNothing.{told_from_nothing}
+use Rattle.ft_door.specs.Editors.{EditorState, AnswersStep, IsEditor, IsNextFor, IsSomeEditor, Leads, NaiveEditor, TakesJoin, TellsStep, as_client, client_after, connect_as, connect_line, drop_answer, drop_step, dropped_unless, edit_answer, edit_exceeds, edited, editor_of, entry_answer, is_free, is_join, is_offline, informed, is_sender, joining_as, listening, load_exceeds, load_limit, load_of, load_reading, load_reading_exceeds, message_answer, message_answer_exceeds, message_exceeds, never_exceeds, new_editor, next_exceeds, no_name, oldest_bytes, or_same, order_fault, shown_link, start_load, table_limit, take_entry, is_awaited_by, message_refusal, take_message, take_next, since_nothing, since_told, told_of, waits_after, draft_bytes, with_listener}
 use Rattle.ft_door.specs.Editors as editors
-use Rattle.ft_door.proofs.GivenSteps.{join-taken, runs-queued}
+use Rattle.ft_door.proofs.GivenSteps.{join-taken, lead-same, runs-queued}
 
 -- ---- what is told of a step
 
@@ -71,9 +78,10 @@ pub refused-told : (why : Refusal) (s : EditorState) (step : NaiveEditor → Ste
     → TellsStep (Refused why) s s step never_exceeds
 refused-told why s step is = λ x h. subst (λ (t : Step NaiveEditor). (t.refusal ≡ Some why) × IsEditor s t.made) (sym (is x h)) (refl, h)
 
--- another replica that is as it was
-same-editor : (s : EditorState) (r : ReplicaState) (x : NaiveEditor) → r ≡ s.replica → IsEditor s x → IsEditor (record s { replica = r }) x
-same-editor s r x same h = record {
+-- another replica that is as it was, and changes that lead to what its client shows
+same-editor : (s : EditorState) (r : ReplicaState) (changes : Option (List ViewChange)) (x : NaiveEditor) → r ≡ s.replica → Leads x.listener changes x.client → IsEditor s x
+    → IsEditor (record s { replica = r; told = changes }) x
+same-editor s r changes x same leads h = record {
   runs = subst (λ (q : ReplicaState). RunsFor q x.client) (sym same) h.runs;
   made = h.made;
   low = h.low;
@@ -81,14 +89,15 @@ same-editor s r x same h = record {
   name = h.name;
   waits = h.waits;
   load = h.load;
+  leads = leads;
 }
 
 pub editor-reached : (s : EditorState) (x : NaiveEditor) → IsEditor s x → IsReached x.client
 editor-reached s x h = alone-reached x.load x.client h.made
 
 -- the fields of an editor, and it by another name for each
-abbrev pub state_of : ReplicaState → List Characters → Characters → Bool → ℕ → EditorState
-state_of replica names name waits load = record { replica = replica; names = names; name = name; waits = waits; load = load }
+abbrev pub state_of : ReplicaState → Option (List ViewChange) → List Characters → Characters → Bool → ℕ → EditorState
+state_of replica told names name waits load = record { replica = replica; names = names; name = name; waits = waits; load = load; told = told }
 
 pub told-as : (told other : Told) (old was new is : EditorState) (step : NaiveEditor → Step NaiveEditor) (exceeds : NaiveEditor → Bool) → told ≡ other → was ≡ old → new ≡ is
     → TellsStep other was is step exceeds → TellsStep told old new step exceeds
@@ -101,14 +110,15 @@ editor-as s t x is h = subst (λ (o : EditorState). IsEditor o x) (sym is) h
 
 -- ---- an edit
 
-module _ (s : EditorState) (r : ReplicaState) (op : ChannelOp) (after : ℕ) (formed : IsWellFormed op) (sum : after ≡ s.load + (1 + op_load op)) (low : after ≤ load_limit) where
+module _ (s : EditorState) (r : ReplicaState) (changes : Option (List ViewChange)) (op : ChannelOp) (after : ℕ) (formed : IsWellFormed op) (sum : after ≡ s.load + (1 + op_load op)) (low : after ≤ load_limit) where
   pub edit-told : (exceeds : NaiveEditor → Bool) (refusal : Option Refusal)
       → ((x : NaiveClient) → IsReached x → RunsFor s.replica x → AnswersStep refusal_of_edit s.replica r (local_edit x op) refusal)
-      → TellsStep (told_of refusal) s (record s { replica = r; load = load_of refusal s.load after }) (λ x. edited x op) exceeds
-  edit-told exceeds None give = λ x h.
+      → ((x : NaiveClient) (shown : Option ShownContent) → IsReached x → RunsFor s.replica x → Leads shown s.told x → Leads shown changes (client_after x (local_edit x op)))
+      → TellsStep (told_of refusal) s (record s { replica = r; told = changes; load = load_of refusal s.load after }) (λ x. edited x op) exceeds
+  edit-told exceeds None give lead = λ x h.
       let (y, e, runs) = give x.client (editor-reached s x h) h.runs in
       let load = h.load in
-      subst (λ (a : Result NaiveClient EditFault). ((edit_answer x op a).refusal ≡ None) × IsEditor (record s { replica = r; load = after }) (edit_answer x op a).made) (sym e) (
+      subst (λ (a : Result NaiveClient EditFault). ((edit_answer x op a).refusal ≡ None) × IsEditor (record s { replica = r; told = changes; load = after }) (edit_answer x op a).made) (sym e) (
         refl,
         record {
           runs = runs;
@@ -118,12 +128,17 @@ module _ (s : EditorState) (r : ReplicaState) (op : ChannelOp) (after : ℕ) (fo
           name = h.name;
           waits = h.waits;
           load = omega (arith, load, sum);
+          leads = subst (λ (a : Result NaiveClient EditFault). Leads x.listener changes (client_after x.client a)) e
+              (lead x.client x.listener (editor-reached s x h) h.runs h.leads);
         },
       )
-  edit-told exceeds (Some why) give = λ x h.
+  edit-told exceeds (Some why) give lead = λ x h.
       let (fault, e, is, same) = give x.client (editor-reached s x h) h.runs in
-      subst (λ (a : Result NaiveClient EditFault). ((edit_answer x op a).refusal ≡ Some why) × IsEditor (record s { replica = r }) (edit_answer x op a).made) (sym e)
-      (ap Some (sym is), same-editor s r x same h)
+      subst (λ (a : Result NaiveClient EditFault). ((edit_answer x op a).refusal ≡ Some why) × IsEditor (record s { replica = r; told = changes }) (edit_answer x op a).made) (sym e) (
+        ap Some (sym is),
+        same-editor s r changes x same (subst (λ (a : Result NaiveClient EditFault). Leads x.listener changes (client_after x.client a)) e
+            (lead x.client x.listener (editor-reached s x h) h.runs h.leads)) h,
+      )
 
 -- ---- a message
 
@@ -138,13 +153,20 @@ pub joined-made : (load : ℕ) (joins : Bool) (conn : ℕ) (x : NaiveClient) →
 joined-made load true conn x m = connected-made load conn x (connect x conn) refl m
 joined-made load false conn x m = m
 
-module _ (s : EditorState) (names : List Characters) (r : ReplicaState) (m : Message) (joins : Bool) (after : ℕ) (formed : IsWellFormedMessage m)
+module _ (s : EditorState) (names : List Characters) (r : ReplicaState) (changes : Option (List ViewChange)) (m : Message) (joins : Bool) (after : ℕ) (formed : IsWellFormedMessage m)
     (sum : after ≡ s.load + (1 + body_load m.body)) (low : after ≤ load_limit) (named : names ≡ names_with s.names m.client_id) where
   abbrev entry_of : EditorState → Entry
   entry_of t = numbered_entry t.names m
 
   abbrev state_after : Option Refusal → EditorState
-  state_after refusal = record { replica = r; names = names; name = s.name; waits = waits_after refusal s.waits joins; load = load_of refusal s.load after }
+  state_after refusal =
+      record { replica = r; names = names; name = s.name; waits = waits_after refusal s.waits joins; load = load_of refusal s.load after; told = changes }
+
+  -- the changes lead to what the client shows after the entry
+  abbrev LeadsAfter : Type 0
+  LeadsAfter =
+      (x : NaiveClient) (shown : Option ShownContent) → IsReached x → RunsFor s.replica x → Leads shown s.told x
+      → Leads shown changes (client_after x (process (joining_as joins (entry_of s).origin x) (entry_of s)))
 
   -- where it joins, or doesn't, as is told
   abbrev step_at : NaiveEditor → Step NaiveEditor
@@ -156,8 +178,8 @@ module _ (s : EditorState) (names : List Characters) (r : ReplicaState) (m : Mes
   entry-at : (exceeds : NaiveEditor → Bool) (refusal : Option Refusal)
       → ((x : NaiveClient) → IsReached x → RunsFor s.replica x
       → AnswersStep (refusal_of_process m.seq) s.replica r (process (joining_as joins (entry_of s).origin x) (entry_of s)) refusal)
-      → TellsStep (told_of refusal) s (state_after refusal) step_at exceeds
-  entry-at exceeds None give = λ x h.
+      → LeadsAfter → TellsStep (told_of refusal) s (state_after refusal) step_at exceeds
+  entry-at exceeds None give lead = λ x h.
       let (y, e, runs) = give x.client (editor-reached s x h) h.runs in
       let load = h.load in
       let at : NaiveEditor = record x { names = names_with x.names m.client_id } in
@@ -176,9 +198,11 @@ module _ (s : EditorState) (names : List Characters) (r : ReplicaState) (m : Mes
           name = h.name;
           waits = ap (cond joins false) h.waits;
           load = omega (arith, load, sum);
+          leads = subst (λ (a : Result NaiveClient ProcessFault). Leads x.listener changes (client_after x.client a)) e
+              (lead x.client x.listener (editor-reached s x h) h.runs h.leads);
         },
       )
-  entry-at exceeds (Some why) give = λ x h.
+  entry-at exceeds (Some why) give lead = λ x h.
       let (fault, e, is, replica) = give x.client (editor-reached s x h) h.runs in
       let at : NaiveEditor = record x { names = names_with x.names m.client_id } in
       let same = ap (λ (ns : List Characters). numbered_entry ns m) h.names in
@@ -195,34 +219,44 @@ module _ (s : EditorState) (names : List Characters) (r : ReplicaState) (m : Mes
           name = h.name;
           waits = h.waits;
           load = h.load;
+          leads = subst (λ (a : Result NaiveClient ProcessFault). Leads x.listener changes (client_after x.client a)) e
+              (lead x.client x.listener (editor-reached s x h) h.runs h.leads);
         },
       )
 
   pub entry-told : joins ≡ (s.waits && (is_join m.kind && is_sender s.name m.client_id)) → (exceeds : NaiveEditor → Bool) (refusal : Option Refusal)
       → ((x : NaiveClient) → IsReached x → RunsFor s.replica x
       → AnswersStep (refusal_of_process m.seq) s.replica r (process (joining_as joins (entry_of s).origin x) (entry_of s)) refusal)
-      → TellsStep (told_of refusal) s (state_after refusal) (λ x. take_next x m) exceeds
-  entry-told is exceeds refusal give =
+      → LeadsAfter → TellsStep (told_of refusal) s (state_after refusal) (λ x. take_next x m) exceeds
+  entry-told is exceeds refusal give lead =
       step-same (told_of refusal) s (state_after refusal) step_at (λ x. take_next x m) exceeds exceeds
       (λ x h. ap (λ b. take_entry (record x { names = names_with x.names m.client_id }) b (numbered_entry x.names m))
       (is ∙ ap (λ b. b && (is_join m.kind && is_sender s.name m.client_id)) h.waits ∙ ap (λ (n : Characters). x.waits && (is_join m.kind && is_sender n m.client_id)) h.name))
-      (λ x h. refl) (entry-at exceeds refusal give)
+      (λ x h. refl) (entry-at exceeds refusal give lead)
 
 abbrev GivesEntry : ReplicaState → ReplicaState → Bool → Option Refusal → Entry → Type 0
 GivesEntry old new joins refusal entry =
     (x : NaiveClient) → IsReached x → RunsFor old x → AnswersStep (refusal_of_process entry.msg.seq) old new (process (joining_as joins entry.origin x) entry) refusal
 
+-- the changes lead to what its client shows after the entry
+abbrev LeadsOver : EditorState → Option (List ViewChange) → Bool → Entry → Type 0
+LeadsOver old changes joins entry =
+    (x : NaiveClient) (shown : Option ShownContent) → IsReached x → RunsFor old.replica x → Leads shown old.told x
+    → Leads shown changes (client_after x (process (joining_as joins entry.origin x) entry))
+
 -- .. from the names with its sender on
-pub entry-taken : (s old : EditorState) (r : ReplicaState) (m : Message) (entry : Entry) (joins : Bool) (after : ℕ) (exceeds : NaiveEditor → Bool) (refusal : Option Refusal)
+pub entry-taken : (s old : EditorState) (r : ReplicaState) (changes : Option (List ViewChange)) (m : Message) (entry : Entry) (joins : Bool) (after : ℕ) (exceeds : NaiveEditor → Bool) (refusal : Option Refusal)
     → IsWellFormedMessage entry.msg
     → after ≤ load_limit → entry ≡ numbered_entry s.names m → old ≡ record s { names = names_with s.names m.client_id } → joins ≡ is_awaited_by s m
-    → after ≡ s.load + (1 + body_load m.body) → GivesEntry old.replica r joins refusal entry
-    → TellsStep (told_of refusal) s (record old { replica = r; waits = waits_after refusal old.waits joins; load = load_of refusal old.load after }) (λ x. take_next x m) exceeds
-entry-taken s old r m entry joins after exceeds refusal formed low entry_is old_is is sum give =
-    subst (λ (o : EditorState). GivesEntry o.replica r joins refusal entry
-    → TellsStep (told_of refusal) s (record o { replica = r; waits = waits_after refusal o.waits joins; load = load_of refusal o.load after }) (λ x. take_next x m) exceeds) (sym old_is)
-    (λ given. entry-told s (names_with s.names m.client_id) r m joins after (subst (λ (e : Entry). IsWellFormedMessage e.msg) entry_is formed) sum low refl is exceeds refusal
-    (subst (GivesEntry s.replica r joins refusal) entry_is given)) give
+    → after ≡ s.load + (1 + body_load m.body) → GivesEntry old.replica r joins refusal entry → LeadsOver old changes joins entry
+    → TellsStep (told_of refusal) s (record old { replica = r; told = changes; waits = waits_after refusal old.waits joins; load = load_of refusal old.load after }) (λ x. take_next x m)
+    exceeds
+entry-taken s old r changes m entry joins after exceeds refusal formed low entry_is old_is is sum give lead =
+    subst (λ (o : EditorState). GivesEntry o.replica r joins refusal entry → LeadsOver o changes joins entry
+    → TellsStep (told_of refusal) s (record o { replica = r; told = changes; waits = waits_after refusal o.waits joins; load = load_of refusal o.load after }) (λ x. take_next x m) exceeds)
+    (sym old_is)
+    (λ given led. entry-told s (names_with s.names m.client_id) r changes m joins after (subst (λ (e : Entry). IsWellFormedMessage e.msg) entry_is formed) sum low refl is exceeds refusal
+    (subst (GivesEntry s.replica r joins refusal) entry_is given) (subst (LeadsOver s changes joins) entry_is led)) give lead
 
 -- its numbers are those of the editor for which it stands
 pub order-same : (s : EditorState) (x : NaiveEditor) (m : Message) (numbers : Numbers) → numbers ≡ numbers_of s.replica → IsEditor s x
@@ -300,7 +334,7 @@ pub connect-told : (s : EditorState) (name : Characters) → not s.waits && is_o
 connect-told s name free = λ x h.
     subst (λ (t : Step NaiveEditor). (t.refusal ≡ None) × IsEditor (record s { name = name; waits = true }) t.made)
     (ap (λ b. cond b (passes (record x { name = name; waits = true })) (refuses x AlreadyConnected)) (sym free ∙ free-same s x h))
-    (refl, record { runs = h.runs; made = h.made; low = h.low; names = h.names; name = refl; waits = refl; load = h.load })
+    (refl, record { runs = h.runs; made = h.made; low = h.low; names = h.names; name = refl; waits = refl; load = h.load; leads = h.leads })
 
 pub connect-refused : (s : EditorState) (name : Characters) → not s.waits && is_offline s.replica.client.link ≡ false
     → (x : NaiveEditor) → IsEditor s x → connect_as name x ≡ refuses x AlreadyConnected
@@ -326,6 +360,16 @@ refused-waits : (waits : Bool) (x : NaiveClient) (fault : LinkFault) → dropped
 refused-waits true x fault e = absurd (cc)
 refused-waits false x fault e = refl
 
+dropped-shown : (waits : Bool) (x y : NaiveClient) → dropped_unless waits x ≡ Ok y → shown_content y ≡ shown_content x
+dropped-shown true x y e = let same : x ≡ y = (cc) in ap shown_content (sym same)
+dropped-shown false x y e = by x.link e
+  where
+    by : (link : Link) → elim link as (λ _. Result NaiveClient LinkFault) [ Offline ↦ Err links.NotConnected | _ ↦ Ok (record x { link = Offline; queue = [] }) ] ≡ Ok y
+        → shown_content y ≡ shown_content x
+    by Offline d = absurd (cc)
+    by (Joining n) d = let same : record x { link = Offline; queue = [] } ≡ y = (cc) in ap shown_content (sym same)
+    by (Online n) d = let same : record x { link = Offline; queue = [] } ≡ y = (cc) in ap shown_content (sym same)
+
 pub drop-told : (s : EditorState) (r : ReplicaState) (refusal : Option Refusal)
     → ((x : NaiveClient) → IsReached x → RunsFor s.replica x → AnswersStep (λ (fault : LinkFault). NotConnected) s.replica r (dropped_unless s.waits x) refusal)
     → TellsStep (told_of refusal) s (record s { replica = r; waits = false }) drop_step never_exceeds
@@ -342,6 +386,7 @@ drop-told s r None give = λ x h.
         name = h.name;
         waits = refl;
         load = h.load;
+        leads = lead-same x.listener s.told x.client y (dropped-shown x.waits x.client y taken) h.leads;
       },
     )
 drop-told s r (Some why) give = λ x h.
@@ -357,6 +402,7 @@ drop-told s r (Some why) give = λ x h.
         name = h.name;
         waits = refused-waits x.waits x.client fault taken;
         load = h.load;
+        leads = h.leads;
       },
     )
 
@@ -365,8 +411,12 @@ drop-told s r (Some why) give = λ x h.
 alone-start : (load : ℕ) (doc : Document) → IsStart doc → start_cost doc ≤ load → IsMadeAlone load (client_over doc)
 alone-start load doc s cost = record { start = doc; starts = s; steps = []; made = refl; formed = tt; cost = omega (arith, cost) }
 
+-- one that starts from a summary is reached
+pub start-reached : (sum : SumDoc) → IsValidSummary sum → IsReached (client_over (doc_of sum))
+start-reached sum valid = record { start = doc_of sum; starts = from_summary valid; steps = []; made = refl; bodies = refl }
+
 pub new-stands : (r : ReplicaState) (names : List Characters) (name : Characters) → names ≡ [] → name ≡ no_name → StartsOver r empty 0
-    → IsEditor (record { replica = r; names = names; name = name; waits = false; load = 0 }) new_editor
+    → IsEditor (record { replica = r; names = names; name = name; waits = false; load = 0; told = None }) new_editor
 new-stands r names name n m s =
     let none : start_cost empty ≡ 0 = refl in
     record {
@@ -377,6 +427,7 @@ new-stands r names name n m s =
       name = m;
       waits = refl;
       load = refl;
+      leads = tt;
     }
 
 -- a list has as many elements as were made
@@ -410,10 +461,11 @@ pub summary-full : (s : EditorState) (sum : SumDoc) (r : ReplicaState) (numbers 
 summary-full s sum r numbers conns starts is above =
     (refl, λ x h. lt-ltb load_limit (start_load (doc_of sum)) (subst (λ load. load_limit < load) (start-same sum r numbers conns starts is) above))
 
-pub summary-stands : (sum : SumDoc) (r : ReplicaState) (numbers : Numbers) (load conns : ℕ) → IsValidSummary sum → StartsOver r (doc_of sum) conns → numbers ≡ numbers_of r
+pub summary-stands : (sum : SumDoc) (r : ReplicaState) (changes : Option (List ViewChange)) (listens : Bool) (numbers : Numbers) (load conns : ℕ) → IsValidSummary sum → StartsOver r (doc_of sum) conns → numbers ≡ numbers_of r
     → load ≡ numbers.made * 3 + numbers.seq → load ≤ load_limit
-    → IsEditor (record { replica = r; names = sum.conns; name = no_name; waits = false; load = load }) (editor_of sum)
-summary-stands sum r numbers load conns valid s is paid low =
+    → Leads (listening listens) changes (client_over (doc_of sum))
+    → IsEditor (record { replica = r; names = sum.conns; name = no_name; waits = false; load = load; told = changes }) (editor_of listens sum)
+summary-stands sum r changes listens numbers load conns valid s is paid low leads =
     let doc = doc_of sum in
     let same : load ≡ start_load doc = paid ∙ start-same sum r numbers conns s is in
     record {
@@ -424,6 +476,7 @@ summary-stands sum r numbers load conns valid s is paid low =
       name = refl;
       waits = refl;
       load = same;
+      leads = leads;
     }
 
 -- ---- what it sends
@@ -473,7 +526,59 @@ sent-stands s r is x h =
       name = h.name;
       waits = h.waits;
       load = h.load;
+      leads = lead-same x.listener s.told x.client (record x.client { queue = drop 1 x.client.queue }) refl h.leads;
     }
+
+-- ---- its listener
+
+-- there are changes to tell just where it has one
+pub listener-same : (shown : Option ShownContent) (changes : Option (List ViewChange)) (x : NaiveClient) → Leads shown changes x → is_some changes ≡ is_some shown
+listener-same None None x h = refl
+listener-same (Some s) (Some cs) x h = refl
+listener-same None (Some cs) x h = absurd h
+listener-same (Some s) None x h = absurd h
+
+pub unheard : (shown : Option ShownContent) (changes : Option (List ViewChange)) (x : NaiveClient) → Leads shown changes x → changes ≡ None → shown ≡ None
+unheard None changes x h e = refl
+unheard (Some s) None x h e = absurd h
+unheard (Some s) (Some cs) x h e = absurd (cc)
+
+-- another one begins
+pub anew-told : (s : EditorState) (changes : Option (List ViewChange)) (listener : Option ShownContent) (x : NaiveEditor) → IsEditor s x → Leads listener changes x.client
+    → IsEditor (record s { told = changes }) (with_listener listener x)
+anew-told s changes listener x h leads = record {
+  runs = h.runs;
+  made = h.made;
+  low = h.low;
+  names = h.names;
+  name = h.name;
+  waits = h.waits;
+  load = h.load;
+  leads = leads;
+}
+
+-- whether that went well or not, it stands for some editor behind it
+pub anew-some : {E : Type 0} (listener : Option ShownContent) (old new : EditorState) (r : Result (Unit {0}) E)
+    → ((x : NaiveEditor) → IsEditor old x → OnOk r (IsEditor new (with_listener listener x))) → OnErr r (new ≡ old) → IsSomeEditor old → IsSomeEditor new
+anew-some listener old new (Ok u) ok err (x, h) = (with_listener listener x, ok x h)
+anew-some listener old new (Err fault) ok err some = subst IsSomeEditor (sym err) some
+
+-- all is told to it
+none-left : (shown : Option ShownContent) (changes : Option (List ViewChange)) (x : NaiveClient) → Leads shown changes x
+    → Leads (option_map (λ _. shown_content x) shown) (option_map (λ _. []) changes) x
+none-left None None x h = tt
+none-left (Some s) (Some cs) x h = since_told refl
+none-left None (Some cs) x h = absurd h
+none-left (Some s) None x h = absurd h
+
+pub informed-stands : (s : EditorState) (x : NaiveEditor) → IsEditor s x → IsEditor (record s { told = option_map (λ _. []) s.told }) (informed x)
+informed-stands s x h =
+    anew-told s (option_map (λ _. []) s.told) (option_map (λ _. shown_content x.client) x.listener) x h (none-left x.listener s.told x.client h.leads)
+
+-- what leads from nothing to its view
+pub view-leads : (v : View) (x : NaiveClient) → IsReached x → view_content v ≡ content x → Leads (listening true) (Some (told_from_nothing (view_content v))) x
+view-leads v x reached shows =
+    subst (λ (c : ViewContent). Leads (listening true) (Some (told_from_nothing c)) x) (sym shows) (since_nothing refl reached)
 
 -- ---- what it shows
 

@@ -1,5 +1,7 @@
 -- What a replica is given, and for which client it stands then.
 use Rattle.std.proofs.Common.{◌≡◌, ℕ, ◌+◌, Bool, true, false, not, cond, ◌&&◌, nat_eq, List, [], ◌∷◌, ◌++◌, Option, Some, None, Result, Ok, Err, IfOk, IsSome, refl, sym, ◌∙◌, ap, subst}
+use Rattle.std.specs.Prelude.{OnOk}
+use Rattle.std.proofs.lemmas.Result.{on_ok_weaker}
 use Rattle.ft_base.specs.declared.memory.OutOfMemory.{OutOfMemory}
 use Rattle.ft_op.specs.Document.{Document, empty}
 use Rattle.ft_msg.specs.declared.faults.LinkFault.{LinkFault}
@@ -13,15 +15,22 @@ use Rattle.ft_msg.specs.declared.messages.MsgKind.{MsgKind}
 use Rattle.ft_msg.specs.declared.messages.MsgKind.TheVariants.{Join, Leave, Noop, Op, Other}
 use Rattle.ft_msg.specs.declared.views.Link.{Link}
 use Rattle.ft_msg.specs.declared.views.Link.TheVariants.{Joining, Offline, Online}
-use Rattle.ft_msg.specs.Answers.{Answers, AnswersFault, FaultKind, ReplicaState, Refusal as OfItsClient, RunsFor, StoppedBefore, WantOfMemory, with_queue}
+use Rattle.ft_msg.specs.Answers.{Answers, AnswersFault, FaultKind, MeansRefusal, ReplicaState, Refusal as OfItsClient, RunsFor, StoppedBefore, WantOfMemory, with_queue}
 use Rattle.ft_msg.specs.Client.{NaiveClient, client_over, connect}
 use Rattle.ft_msg.specs.Compacted.{StandsFor}
+use Rattle.ft_msg.specs.Content.{content}
 use Rattle.ft_msg.specs.Indexed.{IndexedClient}
 use Rattle.ft_msg.specs.Process.{after_entry, is_oldest, is_op_kind, is_own, numbers_fault, process, process_fault}
 use Rattle.ft_msg.specs.Reached.{IsReached}
 use Rattle.ft_msg.proofs.ReachedSteps.{reached-connect}
 use Rattle.ft_seqr.specs.declared.refusals.Refusal.{Refusal}
-use Rattle.ft_door.specs.Editors.{AnswersStep, IsRefusal, is_join, joining_as, or_same, order_fault}
+use Rattle.ft_changes.specs.declared.changes.ViewChange.{ViewChange}
+use Rattle.ft_changes.specs.Shown.{ShownContent, after_changes, shown_content}
+use Rattle.ft_changes.specs.Telling.{TellsChanges}
+use Rattle.ft_changes.proofs.ForeignSteps.{after-append}
+use Rattle.ft_change_lines.specs.FromNothing.{told_from_nothing}
+use Rattle.ft_change_lines.proofs.ShownFromNothing.{from-nothing-leads}
+use Rattle.ft_door.specs.Editors.{AddsTold, AnswersStep, IsRefusal, IsTold, Leads, client_after, is_join, joining_as, on_edit, on_entry, on_none, or_same, order_fault, since_nothing, since_told}
 
 -- it takes the step
 pub given-taken : {E : Type 0} (kind : E → FaultKind) (sender : ℕ) (step : NaiveClient → Result NaiveClient E) (refusal : E → Refusal) (old new : ReplicaState)
@@ -37,6 +46,77 @@ given-stopped kind old new fault want a = by (kind fault) want a
     by WantOfMemory want (ran, stops) = subst (λ (stop : Option ℕ). IsSome stop) (sym stops.stop) refl
     by (StoppedBefore seq) want (stopped, same) = subst (λ (stop : Option ℕ). IsSome stop) (sym (ap (λ (r : ReplicaState). r.stop) same ∙ stopped)) refl
     by OfItsClient want a = absurd (want tt)
+
+-- a client for which it runs refuses with the same fault
+pub given-refused : {E : Type 0} (kind : E → FaultKind) (sender : ℕ) (step : NaiveClient → Result NaiveClient E) (old new : ReplicaState) (fault : E) → IsRefusal (kind fault)
+    → Answers kind sender step old new (Err fault) → (x : NaiveClient) → IsReached x → RunsFor old x → step x ≡ Err fault
+given-refused kind sender step old new fault refuses a x reached h = by (kind fault) refuses (a.client x reached h.client)
+  where
+    by : (k : FaultKind) → IsRefusal k → MeansRefusal k (step x ≡ Err fault) → step x ≡ Err fault
+    by OfItsClient r means = means
+    by WantOfMemory r means = absurd r
+    by (StoppedBefore seq) r means = absurd r
+
+-- ---- what is told
+
+-- what is told leads from what was shown to what the client shows
+pub told-leads : (shown : ShownContent) (changes : List ViewChange) (x : NaiveClient) → IsTold shown changes x → after_changes shown changes ≡ shown_content x
+told-leads shown _ _ (since_nothing {x} e r) = ap (λ s. after_changes s (told_from_nothing (content x))) e ∙ from-nothing-leads x r
+told-leads shown _ _ (since_told e) = e
+told-leads shown changes _ (on_none {x} e t) = told-leads shown changes x t ∙ sym e
+told-leads shown _ _ (on_edit {x} {y} {before} op r runs is tells t) =
+    ap (after_changes shown) tells.added ∙ after-append shown before tells.changes ∙ ap (λ s. after_changes s tells.changes) (told-leads shown before x t)
+    ∙ tells.leads x y r runs.client is
+told-leads shown _ _ (on_entry {x} {y} {before} entry r runs is tells t) =
+    ap (after_changes shown) tells.added ∙ after-append shown before tells.changes ∙ ap (λ s. after_changes s tells.changes) (told-leads shown before x t)
+    ∙ tells.leads x y r runs.client is
+
+-- what a client told is told to who listens to another one that shows the same
+pub lead-same : (shown : Option ShownContent) (changes : Option (List ViewChange)) (x y : NaiveClient) → shown_content y ≡ shown_content x → Leads shown changes x → Leads shown changes y
+lead-same None None x y e h = tt
+lead-same (Some s) (Some cs) x y e h = on_none e h
+lead-same None (Some cs) x y e h = absurd h
+lead-same (Some s) None x y e h = absurd h
+
+-- what is told of a step to who listens, and to nobody
+pub adds-some : {E : Type 0} (step : NaiveClient → Result NaiveClient E) (told_of : NaiveClient → List ViewChange) (old : ReplicaState) (told after : Option (List ViewChange))
+    (before more : List ViewChange) → told ≡ Some before → after ≡ Some more → (r : Result (Unit {0}) E) → OnOk r (TellsChanges step told_of old before more)
+    → OnOk r (AddsTold step told_of old told after)
+adds-some step told_of old told after before more t a r h =
+    subst (λ (cs : Option (List ViewChange)). OnOk r (AddsTold step told_of old cs after)) (sym t) (on_ok_weaker r (λ tells. (more, a, tells)) h)
+
+pub adds-none : {E : Type 0} (step : NaiveClient → Result NaiveClient E) (told_of : NaiveClient → List ViewChange) (old : ReplicaState) (told after : Option (List ViewChange))
+    → told ≡ None → after ≡ None → (r : Result (Unit {0}) E) → OnOk r (AddsTold step told_of old told after)
+adds-none step told_of old told after t a (Ok u) = subst (λ (cs : Option (List ViewChange)). AddsTold step told_of old cs after) (sym t) a
+adds-none step told_of old told after t a (Err fault) = tt
+
+module _ {E : Type 0} (kind : E → FaultKind) (sender : ℕ) (step : NaiveClient → Result NaiveClient E) (told_of : NaiveClient → List ViewChange) (old new : ReplicaState)
+    (before after : Option (List ViewChange)) where
+  -- what is told of a step goes behind what was told before it
+  abbrev GoesBehind : Type 0
+  GoesBehind =
+      (shown : ShownContent) (cs ds : List ViewChange) (x y : NaiveClient) → IsReached x → RunsFor old x → step x ≡ Ok y → TellsChanges step told_of old cs ds
+      → IsTold shown cs x → IsTold shown ds y
+
+  lead-on : GoesBehind → (x y : NaiveClient) (shown : Option ShownContent) (cs ds : Option (List ViewChange)) → IsReached x → RunsFor old x → step x ≡ Ok y
+      → AddsTold step told_of old cs ds → Leads shown cs x → Leads shown ds y
+  lead-on behind x y None None ds reached h e adds leads = subst (λ (changes : Option (List ViewChange)). Leads None changes y) (sym adds) tt
+  lead-on behind x y (Some s) (Some changes) ds reached h e (more, is, tells) leads =
+      subst (λ (cs : Option (List ViewChange)). Leads (Some s) cs y) (sym is) (behind s changes more x y reached h e tells leads)
+  lead-on behind x y None (Some changes) ds reached h e adds leads = absurd leads
+  lead-on behind x y (Some s) None ds reached h e adds leads = absurd leads
+
+  pub taken-leads : GoesBehind → Answers kind sender step old new (Ok tt) → AddsTold step told_of old before after → (x : NaiveClient) (shown : Option ShownContent) → IsReached x
+      → RunsFor old x → Leads shown before x → Leads shown after (client_after x (step x))
+  taken-leads behind a adds x shown reached h leads =
+      let (y, e, f) = a.client x reached h.client in
+      subst (λ (r : Result NaiveClient E). Leads shown after (client_after x r)) (sym e) (lead-on behind x y shown before after reached h e adds leads)
+
+  pub refused-leads : (fault : E) → IsRefusal (kind fault) → Answers kind sender step old new (Err fault) → after ≡ before → (x : NaiveClient) (shown : Option ShownContent)
+      → IsReached x → RunsFor old x → Leads shown before x → Leads shown after (client_after x (step x))
+  refused-leads fault refuses a same x shown reached h leads =
+      subst (λ (r : Result NaiveClient E). Leads shown after (client_after x r)) (sym (given-refused kind sender step old new fault refuses a x reached h))
+      (subst (λ (cs : Option (List ViewChange)). Leads shown cs x) (sym same) leads)
 
 -- a client that begins to join is made by steps too
 pub joins-reached : (x : NaiveClient) (conn : ℕ) → IsReached x → IsReached (joining_as true conn x)
@@ -72,6 +152,13 @@ join-given refusal old middle new step taken y is (Ok None) own given = given
 join-given refusal old middle new step taken y is (Ok (Some why)) own given = let e = own.1 in absurd (cc)
 join-given refusal old middle new step taken y is (Err want) own given = tt
 
+-- what it adds to what is told leads on, also from before the client began to join
+pub join-leads : {E : Type 0} (shown : Option ShownContent) (told : Option (List ViewChange)) (x z : NaiveClient) (step : Result NaiveClient E) → shown_content z ≡ shown_content x
+    → (r : Result (Option Refusal) OutOfMemory) → IfOk r (λ _. Leads shown told (client_after z step)) → IfOk r (λ _. Leads shown told (client_after x step))
+join-leads shown told x z (Ok y) e r h = h
+join-leads shown told x z (Err fault) e (Ok refusal) h = lead-same shown told z x (sym e) h
+join-leads shown told x z (Err fault) e (Err want) h = tt
+
 -- where a message is the next one, its number is the next, and no other number contradicts
 next-numbers : (number minimum : ℕ) (m : Message) → order_fault number minimum m ≡ None
     → (nat_eq m.seq (number + 1) ≡ true) × (numbers_fault (client_over (record empty { number = number; minimum = minimum })) (record { msg = m; origin = 0 }) ≡ None)
@@ -100,6 +187,18 @@ same-document x conn = by x.link
       | Offline ↦ Ok (record x { link = Joining conn; conns = x.conns ++ (conn ∷ []); next_client_seq = 1 })
       | _ ↦ Err AlreadyConnected
     ])).doc ≡ x.doc
+    by Offline = refl
+    by (Joining n) = refl
+    by (Online n) = refl
+
+-- and what is shown
+pub same-shown : (x : NaiveClient) (conn : ℕ) → shown_content (joining_as true conn x) ≡ shown_content x
+same-shown x conn = by x.link
+  where
+    by : (link : Link) → shown_content (or_same x (elim link [
+      | Offline ↦ Ok (record x { link = Joining conn; conns = x.conns ++ (conn ∷ []); next_client_seq = 1 })
+      | _ ↦ Err AlreadyConnected
+    ])) ≡ shown_content x
     by Offline = refl
     by (Joining n) = refl
     by (Online n) = refl

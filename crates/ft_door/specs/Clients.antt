@@ -6,7 +6,10 @@ use Rattle.ft_seqr.specs.Refusals.{refusal_number, refusal_text}
 use Rattle.ft_seqr.specs.Walk.{Step}
 use Rattle.ft_replay.specs.LineForm.{bytes_of}
 use Rattle.ft_door.specs.declared.clients.HeldClient.{HeldClient}
-use Rattle.ft_door.specs.Editors.{EditorState, IsEditor, NaiveEditor, draft_bytes, new_editor, shown_lines, with_queue}
+use Rattle.ft_changes.specs.declared.changes.ViewChange.{ViewChange}
+use Rattle.ft_changes.specs.Shown.{ShownContent, after_changes, shown_content}
+use Rattle.ft_change_lines.specs.ChangeTexts.{changes_text}
+use Rattle.ft_door.specs.Editors.{EditorState, IsEditor, IsTold, NaiveEditor, draft_bytes, informed, listening, new_editor, shown_lines, with_listener, with_queue}
 
 -- what wasn't read yet of what was written
 abbrev pub unread_by : {R : Type 0} → HeldClient R → List ℕ
@@ -72,6 +75,43 @@ pub record ShowsClient {R : Type 0} (old new : HeldClient R) (status : ℕ) : Ty
   pub unread : 5 ≤ status → unread_by new ≡ unread_by old
   pub closed : status ≡ 7 → old.client ≡ None
   pub known : IsTrue (nat_eq status 0 || (nat_eq status 5 || nat_eq status 7))
+  pub after_end : old.client ≡ None → (status ≡ 7) × (new ≡ old)
+
+-- the changes that a client's listener wasn't told yet, if it has one
+abbrev pub changes_of : Option EditorState → Option (List ViewChange)
+changes_of None = None
+changes_of (Some s) = s.told
+
+-- what a number tells of a call by which a listener begins, or there is none any more: what is told leads from nothing then; there was no
+-- memory, or the client is at its end, and nothing changed
+pub record ListensToClient {R : Type 0} (listens : Bool) (old new : HeldClient R) (status : ℕ) : Type 0 where
+  pub client : (x : NaiveEditor) → status ≡ 0 → ClientGoesOn old.client x → ClientGoesOn new.client (with_listener (listening listens) x)
+  pub unread : unread_by new ≡ unread_by old
+  pub same : 5 ≤ status → new.client ≡ old.client
+  pub closed : status ≡ 7 → old.client ≡ None
+  pub known : IsTrue (nat_eq status 0 || (nat_eq status 5 || nat_eq status 7))
+  pub after_end : old.client ≡ None → (status ≡ 7) × (new ≡ old)
+
+-- the changes of a client, whose texts were written, are all that its listener wasn't told, and just those that are told of its steps; and they
+-- lead from what that listener shows to what the client shows
+pub record AreTold {R : Type 0} (old new : HeldClient R) (x : NaiveEditor) (shown : ShownContent) (changes : List ViewChange) : Type 0 where
+  pub listener : x.listener ≡ Some shown
+  pub all : changes_of old.client ≡ Some changes
+  pub written : unread_by new ≡ unread_by old ++ changes_text changes
+  pub told : IsTold shown changes x.client
+  pub lead : after_changes shown changes ≡ shown_content x.client
+  pub client : ClientGoesOn new.client (informed x)
+  pub none_left : changes_of new.client ≡ Some []
+
+-- what a number tells of a call for changes: their texts are written, in order; there was no memory, or the client is at its end, or nobody
+-- listens, and nothing changed
+pub record TellsClient {R : Type 0} (old new : HeldClient R) (status : ℕ) : Type 0 where
+  pub told : (x : NaiveEditor) → status ≡ 0 → ClientGoesOn old.client x → (shown : ShownContent) × (changes : List ViewChange) × AreTold old new x shown changes
+  pub none : (x : NaiveEditor) → status ≡ 8 → ClientGoesOn old.client x → x.listener ≡ None
+  pub client : 5 ≤ status → new.client ≡ old.client
+  pub unread : 5 ≤ status → unread_by new ≡ unread_by old
+  pub closed : status ≡ 7 → old.client ≡ None
+  pub known : IsTrue (nat_eq status 0 || (nat_eq status 5 || (nat_eq status 7 || nat_eq status 8)))
   pub after_end : old.client ≡ None → (status ≡ 7) × (new ≡ old)
 
 -- the next bytes were read into the first of the room

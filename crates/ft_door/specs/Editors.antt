@@ -1,5 +1,5 @@
 -- One client alone, whose messages go over a network of its own: what each call makes of it.
-use Rattle.std.specs.Prelude.{◌≡◌, ℕ, ◌+◌, ◌*◌, ◌-◌, ◌≤◌, ◌^◌, Bool, true, false, cond, not, ◌&&◌, ◌||◌, IsTrue, bytes_eq, nat_eq, nat_le, nat_lt, length, max, List, [], ◌∷◌, Option, Some, None, option_map, Result, Ok, Err, chars, ⊤, if◌then◌else◌}
+use Rattle.std.specs.Prelude.{◌≡◌, ℕ, ◌+◌, ◌*◌, ◌-◌, ◌≤◌, ◌^◌, Bool, true, false, cond, not, ◌&&◌, ◌||◌, IsTrue, bytes_eq, nat_eq, nat_le, nat_lt, length, max, List, [], ◌∷◌, Option, Some, None, option_map, Result, Ok, Err, chars, is_some, ⊤, if◌then◌else◌}
 use Rattle.std.specs.Str.{is_utf8}
 use Rattle.serde_json.specs.Written.{compact_text}
 use Rattle.ft_props.specs.Properties.{Characters}
@@ -41,6 +41,11 @@ use Rattle.ft_seqr.specs.ViewLines.{content_lines}
 use Rattle.ft_seqr.specs.Walk.{Step, passes, refuses}
 use Rattle.ft_seqr.specs.World.{NamedClient, body_load, op_load}
 use Rattle.ft_laws_sessions.specs.ClientDrafts.{IsMadeAlone}
+use Rattle.ft_changes.specs.declared.changes.ViewChange.{ViewChange}
+use Rattle.ft_changes.specs.Shown.{ShownContent, shown_content}
+use Rattle.ft_changes.specs.Told.{told_of_edit, told_of_entry}
+use Rattle.ft_changes.specs.Telling.{TellsChanges}
+use Rattle.ft_change_lines.specs.FromNothing.{nothing_shown, told_from_nothing}
 use Rattle.ft_replay.specs.LineForm.{bytes_of}
 use Rattle.ft_replay.specs.Observation.{names_with, numbered_entry}
 use Rattle.ft_door.specs.declared.calls.Call.{Call}
@@ -49,13 +54,15 @@ use Rattle.ft_door.specs.declared.calls.Told.{Told}
 use Rattle.ft_door.specs.declared.calls.Told.TheVariants.{Full, Refused, Taken}
 
 -- what an editor has: its client; the names of the connections in the messages that it took, by number; the name of its own
--- connection; whether it waits for the join of that one; and what its steps cost
+-- connection; whether it waits for the join of that one; what its steps cost; and what is shown by its listener, if it has one: by who
+-- applied all changes that were asked for
 pub record NaiveEditor : Type 0 where
   pub client : NaiveClient
   pub names : List Characters
   pub name : Characters
   pub waits : Bool
   pub load : ℕ
+  pub listener : Option ShownContent
 
 -- the greatest load
 abbrev pub load_limit : ℕ
@@ -69,9 +76,9 @@ table_limit = 2 ^ 32 - 1
 abbrev pub no_name : Characters
 no_name = chars []
 
--- a new one: an empty document, no connection
+-- a new one: an empty document, no connection, no listener
 abbrev pub new_editor : NaiveEditor
-new_editor = record { client = client_over empty; names = []; name = no_name; waits = false; load = 0 }
+new_editor = record { client = client_over empty; names = []; name = no_name; waits = false; load = 0; listener = None }
 
 -- ---- what is too much for it: it isn't taken then, and nothing changes
 
@@ -233,13 +240,25 @@ drop_step x = drop_answer x (dropped_unless x.waits x.client)
 abbrev pub start_load : Document → ℕ
 start_load doc = max (held_in doc).text (max (held_in doc).rows (held_in doc).cols) * 3 + doc.number
 
--- one that starts from a summary
-abbrev pub editor_of : SumDoc → NaiveEditor
-editor_of sum = record { client = client_over (doc_of sum); names = sum.conns; name = no_name; waits = false; load = start_load (doc_of sum) }
+-- a listener that begins, if somebody listens: it shows nothing yet
+abbrev pub listening : Bool → Option ShownContent
+listening true = Some nothing_shown
+listening false = None
+
+-- one that starts from a summary, where somebody listens or doesn't
+abbrev pub editor_of : Bool → SumDoc → NaiveEditor
+editor_of listens sum = record {
+  client = client_over (doc_of sum);
+  names = sum.conns;
+  name = no_name;
+  waits = false;
+  load = start_load (doc_of sum);
+  listener = listening listens;
+}
 
 abbrev pub load_reading : NaiveEditor → Result SumDoc SumFault → Step NaiveEditor
 load_reading x (Err fault) = refuses x (Summary fault)
-load_reading x (Ok sum) = passes (editor_of sum)
+load_reading x (Ok sum) = passes (editor_of (is_some x.listener) sum)
 
 abbrev pub load_line : List ℕ → NaiveEditor → Step NaiveEditor
 load_line line x = load_reading x (summary line)
@@ -297,17 +316,45 @@ abbrev pub oldest_bytes : List Draft → Option (List ℕ)
 oldest_bytes [] = None
 oldest_bytes (d ∷ ds) = Some (draft_bytes d)
 
+-- ---- its listener
+
+-- it has this listener
+abbrev pub with_listener : Option ShownContent → NaiveEditor → NaiveEditor
+with_listener listener x = record x { listener = listener }
+
+-- its listener, if it has one, has applied all changes: it shows what the client shows
+abbrev pub informed : NaiveEditor → NaiveEditor
+informed x = with_listener (option_map (λ _. shown_content x.client) x.listener) x
+
 -- ---- for which it stands
 
--- an editor over a replica, as contracts see it
+-- an editor over a replica, as contracts see it; with the changes that its listener wasn't told yet, if it has one
 pub record EditorState : Type 0 where
   pub replica : ReplicaState
   pub names : List Characters
   pub name : Characters
   pub waits : Bool
   pub load : ℕ
+  pub told : Option (List ViewChange)
 
--- its replica runs for the client, which such steps made
+-- the changes that a client told since its listener showed that: behind what leads from nothing to what the client showed then, or behind none,
+-- just those that are told of each edit and of each entry that it took; what changes nothing that is shown is told by none
+pub data IsTold (shown : ShownContent) : List ViewChange → NaiveClient → Type 0 where
+  since_nothing : {x : NaiveClient} → shown ≡ nothing_shown → IsReached x → IsTold shown (told_from_nothing (content x)) x
+  since_told : {x : NaiveClient} → shown ≡ shown_content x → IsTold shown [] x
+  on_none : {x y : NaiveClient} {changes : List ViewChange} → shown_content y ≡ shown_content x → IsTold shown changes x → IsTold shown changes y
+  on_edit : {x y : NaiveClient} {before after : List ViewChange} {old : ReplicaState} (op : ChannelOp) → IsReached x → RunsFor old x → local_edit x op ≡ Ok y
+      → TellsChanges (λ z. local_edit z op) (λ z. told_of_edit z op) old before after → IsTold shown before x → IsTold shown after y
+  on_entry : {x y : NaiveClient} {before after : List ViewChange} {old : ReplicaState} (entry : Entry) → IsReached x → RunsFor old x → process x entry ≡ Ok y
+      → TellsChanges (λ z. process z entry) (λ z. told_of_entry z entry) old before after → IsTold shown before x → IsTold shown after y
+
+-- the changes that a listener wasn't told yet, if there is one; there are none without one
+abbrev pub Leads : Option ShownContent → Option (List ViewChange) → NaiveClient → Type 0
+Leads None None x = ⊤
+Leads (Some shown) (Some changes) x = IsTold shown changes x
+Leads _ _ x = ⊥
+
+-- its replica runs for the client, which such steps made, and the changes are those that its listener wasn't told yet
 pub record IsEditor (s : EditorState) (x : NaiveEditor) : Type 0 where
   pub runs : RunsFor s.replica x.client
   pub made : IsMadeAlone x.load x.client
@@ -316,6 +363,7 @@ pub record IsEditor (s : EditorState) (x : NaiveEditor) : Type 0 where
   pub name : s.name ≡ x.name
   pub waits : s.waits ≡ x.waits
   pub load : s.load ≡ x.load
+  pub leads : Leads x.listener s.told x.client
 
 -- the message is the join that it waits for
 abbrev pub is_awaited_by : EditorState → Message → Bool
@@ -350,6 +398,17 @@ waits_after None waits joins = cond joins false waits
 waits_after (Some why) waits joins = waits
 
 -- ---- what a replica is given
+
+-- the client after a step, as it was where it refuses that
+abbrev pub client_after : {E : Type 0} → NaiveClient → Result NaiveClient E → NaiveClient
+client_after x (Ok y) = y
+client_after x (Err fault) = x
+
+-- a step adds to the changes, if somebody listens, just those that are told of it
+abbrev pub AddsTold : {E : Type 0} → (NaiveClient → Result NaiveClient E) → (NaiveClient → List ViewChange) → ReplicaState
+    → Option (List ViewChange) → Option (List ViewChange) → Type 0
+AddsTold step told old None after = after ≡ None
+AddsTold step told old (Some before) after = (changes : List ViewChange) × (after ≡ Some changes) × TellsChanges step told old before changes
 
 -- an error says that its client refuses
 abbrev pub IsRefusal : FaultKind → Type 0

@@ -1,17 +1,18 @@
 //! A client that is held between calls.
 
-ghost use Rattle.std.specs.Prelude.{◌≡◌, Bool, IfOk, None, Some, drop, length, option_map, string_bytes};
+ghost use Rattle.std.specs.Prelude.{◌≡◌, [], Bool, IfOk, None, OnErr, OnOk, Some, drop, length, option_map, string_bytes};
 ghost use Rattle.ft_seqr.specs.Walk.{Step};
 ghost use Rattle.ft_replay.specs.LineForm.{bytes_of};
-ghost use Rattle.ft_door.specs.Clients.{CallsClient, ClientGoesOn, IsNew, ReadsClient, SendsDraft, ShowsClient, refusal_bytes, unread_by};
-ghost use Rattle.ft_door.specs.Editors.{EditorState, NaiveEditor, TellsStep, call_exceeds, call_step, oldest_bytes, shown_lines, with_queue};
+ghost use Rattle.ft_change_lines.specs.ChangeTexts.{changes_text};
+ghost use Rattle.ft_door.specs.Clients.{CallsClient, ClientGoesOn, IsNew, ListensToClient, ReadsClient, SendsDraft, ShowsClient, TellsClient, changes_of, refusal_bytes, unread_by};
+ghost use Rattle.ft_door.specs.Editors.{EditorState, NaiveEditor, TellsStep, call_exceeds, call_step, informed, listening, oldest_bytes, shown_lines, with_listener, with_queue};
 
 use crate::calls::{Call, Told};
 use crate::editors::Editor;
 use crate::sessions::CLOSED;
 use crate::waiting::Waiting;
 use ft_base::OutOfMemory;
-use ft_msg::Replica;
+use ft_changes::Telling;
 use ft_report::{DONE, OUT_OF_MEMORY, SOME_REFUSED, TOO_LONG};
 use ft_seqr::Refusal;
 use std::alloc::Global;
@@ -19,19 +20,19 @@ use std::alloc::Global;
 /// The call was refused, and there was no memory for the line that tells why.
 pub const UNTOLD: u32 = 2;
 
-/// There is nothing to send.
+/// There is nothing to send, or nobody is told.
 pub const NOTHING: u32 = 8;
 
 /// A client that is held between calls: what takes its edits and messages, and what was written and isn't read yet.
 #[derive(Drop)]
-pub struct HeldClient<R: Replica + Drop> {
+pub struct HeldClient<R: Telling + Drop> {
     alloc: Global,
     // None from its end on.
     client: Option<Editor<R>>,
     waiting: Waiting,
 }
 
-impl<R: Replica + Drop> HeldClient<R> {
+impl<R: Telling + Drop> HeldClient<R> {
     /// A new client: an empty document, no connection.
     ///
     /// Returns `OutOfMemory` where there is no room for it.
@@ -106,6 +107,38 @@ impl<R: Replica + Drop> HeldClient<R> {
             Some(client) => {
                 let lines = client.view_text();
                 self.show(&lines)
+            }
+        }
+    }
+
+    /// A listener begins to be told what changes in what the client shows: the first changes lead from nothing to what it
+    /// shows now, and after each start from a summary they do so again. Or nobody listens any more: then nothing is kept to be
+    /// told. What is told waits in memory until it is asked for.
+    ///
+    /// Returns `DONE`; `OUT_OF_MEMORY` where there is no room for what is told, and `CLOSED` where the client is at its end: then
+    /// nothing changed.
+    pub fn tell(&mut self, listens: bool) -> u32
+        ensures { ListensToClient listens self.old self.new result }
+    {
+        if self.client.is_none() {
+            CLOSED
+        } else {
+            self.tell_open(listens)
+        }
+    }
+
+    /// Puts the texts of the changes since it was last asked behind what isn't read yet, each on a line.
+    ///
+    /// Returns `DONE`, and `NOTHING` where nobody listens; `OUT_OF_MEMORY` where there is no room for the lines, and `CLOSED`
+    /// where the client is at its end: then nothing changed.
+    pub fn changes(&mut self) -> u32
+        ensures { TellsClient self.old self.new result }
+    {
+        match &self.client {
+            None => CLOSED,
+            Some(client) => {
+                let lines = client.changes_text();
+                self.give(&lines)
             }
         }
     }
@@ -187,6 +220,45 @@ impl<R: Replica + Drop> HeldClient<R> {
             Err(OutOfMemory) => OUT_OF_MEMORY,
         }
     }
+
+    // As `tell`, where the client isn't at its end.
+    fn tell_open(&mut self, listens: bool) -> u32
+        requires { self.old.client ≡ None → ⊥ }
+        ensures { ListensToClient listens self.old self.new result }
+    {
+        match tell_client(&mut self.client, listens) {
+            Ok(()) => DONE,
+            Err(OutOfMemory) => OUT_OF_MEMORY,
+        }
+    }
+
+    // Puts the lines of changes behind what waits, if somebody listens and they were made; they count as told then.
+    fn give(&mut self, made: &Result<Option<String>, OutOfMemory>) -> u32
+        requires { self.old.client ≡ None → ⊥ }
+        ensures { IfOk made.now (λ lines. option_map (λ text. string_bytes text) lines ≡ option_map changes_text (changes_of self.old.client)) → TellsClient self.old self.new result }
+    {
+        let Ok(lines) = made else {
+            return OUT_OF_MEMORY;
+        };
+        match lines {
+            Some(text) => self.give_lines(text.as_str()),
+            None => NOTHING,
+        }
+    }
+
+    // Puts the lines of the changes behind what waits, which count as told then.
+    fn give_lines(&mut self, lines: &str) -> u32
+        requires { self.old.client ≡ None → ⊥ }
+        ensures { option_map changes_text (changes_of self.old.client) ≡ Some lines.now → TellsClient self.old self.new result }
+    {
+        match self.waiting.push(lines.as_bytes()) {
+            Ok(()) => {
+                count_told(&mut self.client);
+                DONE
+            }
+            Err(OutOfMemory) => OUT_OF_MEMORY,
+        }
+    }
 }
 
 // What is written of a refusal, with its LF.
@@ -198,10 +270,36 @@ fn refusal_line(alloc: Global, why: Refusal) -> Result<String, OutOfMemory>
 }
 
 // The oldest draft of the client counts as sent, if there is a client.
-fn count_sent<R: Replica + Drop>(client: &mut Option<Editor<R>>)
+fn count_sent<R: Telling + Drop>(client: &mut Option<Editor<R>>)
     ensures { (x : NaiveEditor) → ClientGoesOn client.old x → ClientGoesOn client.new (with_queue (drop 1 x.client.queue) x) }
 {
     if let Some(client) = client {
         client.sent();
+    }
+}
+
+// A listener of the client begins, or there is none any more, if there is a client.
+//
+// Returns `OutOfMemory` where there is no room for what is told, and then nothing changed.
+fn tell_client<R: Telling + Drop>(
+    client: &mut Option<Editor<R>>,
+    listens: bool,
+) -> Result<(), OutOfMemory>
+    ensures ok { (x : NaiveEditor) → ClientGoesOn client.old x → OnOk result (ClientGoesOn client.new (with_listener (listening listens) x)) }
+    ensures err { OnErr result (client.new ≡ client.old) }
+{
+    match client {
+        Some(client) => client.tell(listens),
+        None => Ok(()),
+    }
+}
+
+// All changes of the client count as told, if there is a client.
+fn count_told<R: Telling + Drop>(client: &mut Option<Editor<R>>)
+    ensures editor { (x : NaiveEditor) → ClientGoesOn client.old x → ClientGoesOn client.new (informed x) }
+    ensures none { changes_of client.new ≡ option_map (λ _. []) (changes_of client.old) }
+{
+    if let Some(client) = client {
+        client.informed();
     }
 }

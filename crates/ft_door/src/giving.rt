@@ -1,9 +1,9 @@
 //! The steps of a replica, as an editor takes them.
 
-ghost use Rattle.std.specs.Prelude.{◌≡◌, ◌<◌, ◌^◌, true, IfOk, IsSome, OnErr, int_lt, pos};
+ghost use Rattle.std.specs.Prelude.{◌≡◌, ◌<◌, ◌^◌, Option, true, IfOk, IsSome, OnErr, OnOk, int_lt, pos};
 ghost use Rattle.ft_op.specs.Document.{empty};
 ghost use Rattle.ft_op.specs.WellFormed.{IsWellFormed};
-ghost use Rattle.ft_msg.specs.Answers.{RunsFor, edit_fault_kind, link_fault_kind, process_fault_kind};
+ghost use Rattle.ft_msg.specs.Answers.{Answers, RunsFor, edit_fault_kind, link_fault_kind, process_fault_kind};
 ghost use Rattle.ft_json.specs.declared.fields.Field.TheVariants.{MinimumSequenceNumber, ReferenceSequenceNumber};
 ghost use Rattle.ft_msg.specs.declared.faults.ProcessFault.TheVariants.{BadNumbers};
 ghost use Rattle.ft_msg.specs.Client.{NaiveClient, client_over, drop_link, local_edit};
@@ -12,27 +12,34 @@ ghost use Rattle.ft_msg.specs.Reached.{IsReached};
 ghost use Rattle.ft_msg.specs.WellFormed.{HasNumbersInRange, IsWellFormedMessage};
 ghost use Rattle.ft_seqr.specs.declared.refusals.Refusal.TheVariants.{NotConnected};
 ghost use Rattle.ft_seqr.specs.Refusals.{refusal_of_edit, refusal_of_process};
-ghost use Rattle.ft_door.specs.Editors.{AnswersStep, IsRefusal, joining_as, order_fault};
+ghost use Rattle.ft_changes.specs.Shown.{ShownContent};
+ghost use Rattle.ft_changes.specs.Told.{told_of_edit, told_of_entry};
+ghost use Rattle.ft_door.specs.Editors.{AddsTold, AnswersStep, IsRefusal, Leads, client_after, joining_as, order_fault};
 
 use ft_base::OutOfMemory;
+use ft_changes::{Telling, ViewChanges};
 use ft_json::Field;
 use ft_msg::{EditFault, Entry, LinkFault, Message, MsgKind, ProcessFault, Replica};
 use ft_op::ChannelOp;
 use ft_seqr::Refusal;
 
-/// Gives the replica an edit of its own. Returns why it is refused, if it is, and then nothing changed.
+/// Gives the replica an edit of its own. Returns why it is refused, if it is, and then nothing changed. What changes in the
+/// view is added to what is told, if somebody listens.
 ///
 /// Returns `OutOfMemory` where there was no memory, and the replica has stopped then.
-pub fn give_edit<R: Replica>(
+pub fn give_edit<R: Telling>(
     replica: &mut R,
     op: &ChannelOp,
+    told: &mut Option<ViewChanges>,
 ) -> Result<Option<Refusal>, OutOfMemory>
     requires { IsWellFormed op.now }
     ensures answers { (x : NaiveClient) → IsReached x → RunsFor (R.state replica.old) x
         → IfOk result (AnswersStep refusal_of_edit (R.state replica.old) (R.state replica.new) (local_edit x op.now)) }
     ensures stops { OnErr result (IsSome (R.state replica.new).stop) }
+    ensures leads { (x : NaiveClient) (shown : Option ShownContent) → IsReached x → RunsFor (R.state replica.old) x → Leads shown told.old x
+        → IfOk result (λ _. Leads shown told.new (client_after x (local_edit x op.now))) }
 {
-    match replica.edit(op) {
+    match tell_edit(replica, op, told) {
         Ok(()) => Ok(None),
         Err(fault) => {
             let refusal = edit_refusal(fault)?;
@@ -41,25 +48,67 @@ pub fn give_edit<R: Replica>(
     }
 }
 
-/// Gives the replica the next message of the log. Returns why it is refused, if it is, and then nothing changed.
+/// Gives the replica the next message of the log. Returns why it is refused, if it is, and then nothing changed. What
+/// changes in the view is added to what is told, if somebody listens.
 ///
 /// Returns `OutOfMemory` where there was no memory, and the replica has stopped then.
-pub fn give_entry<R: Replica>(
+pub fn give_entry<R: Telling>(
     replica: &mut R,
     entry: &Entry,
+    told: &mut Option<ViewChanges>,
 ) -> Result<Option<Refusal>, OutOfMemory>
     requires { IsWellFormedMessage entry.now.msg }
     ensures answers { (x : NaiveClient) → IsReached x → RunsFor (R.state replica.old) x
         → IfOk result (AnswersStep (refusal_of_process entry.now.msg.seq) (R.state replica.old) (R.state replica.new) (process x entry.now)) }
     ensures stops { OnErr result (IsSome (R.state replica.new).stop) }
+    ensures leads { (x : NaiveClient) (shown : Option ShownContent) → IsReached x → RunsFor (R.state replica.old) x → Leads shown told.old x
+        → IfOk result (λ _. Leads shown told.new (client_after x (process x entry.now))) }
 {
-    match replica.process(entry) {
+    match tell_entry(replica, entry, told) {
         Ok(()) => Ok(None),
         Err(fault) => {
             let refusal = process_refusal(entry.msg.seq, fault)?;
             Ok(Some(refusal))
         }
     }
+}
+
+// Gives the replica an edit. Adds what changes in the view, if somebody listens, and nothing after an error.
+fn tell_edit<R: Telling>(
+    replica: &mut R,
+    op: &ChannelOp,
+    told: &mut Option<ViewChanges>,
+) -> Result<(), EditFault>
+    requires { IsWellFormed op.now }
+    ensures answers { Answers edit_fault_kind 0 (λ x. local_edit x op.now) (R.state replica.old) (R.state replica.new) result }
+    ensures told { OnOk result (AddsTold (λ x. local_edit x op.now) (λ x. told_of_edit x op.now) (R.state replica.old) told.old told.new) }
+    ensures same { OnErr result (told.new ≡ told.old) }
+{
+    let Some(mut changes) = told.take() else {
+        return replica.edit(op);
+    };
+    let answer = replica.edit_telling(op, &mut changes);
+    drop(told.replace(changes));
+    answer
+}
+
+// Gives the replica a message. Adds what changes in the view, if somebody listens, and nothing after an error.
+fn tell_entry<R: Telling>(
+    replica: &mut R,
+    entry: &Entry,
+    told: &mut Option<ViewChanges>,
+) -> Result<(), ProcessFault>
+    requires { IsWellFormedMessage entry.now.msg }
+    ensures answers { Answers process_fault_kind entry.now.origin (λ x. process x entry.now) (R.state replica.old) (R.state replica.new) result }
+    ensures told { OnOk result (AddsTold (λ x. process x entry.now) (λ x. told_of_entry x entry.now) (R.state replica.old) told.old told.new) }
+    ensures same { OnErr result (told.new ≡ told.old) }
+{
+    let Some(mut changes) = told.take() else {
+        return replica.process(entry);
+    };
+    let answer = replica.process_telling(entry, &mut changes);
+    drop(told.replace(changes));
+    answer
 }
 
 /// The replica begins to join under this number, which it does where it is offline.

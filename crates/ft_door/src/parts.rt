@@ -1,6 +1,6 @@
 //! What an editor has, and what each call makes of it.
 
-ghost use Rattle.std.specs.Prelude.{◌≡◌, ◌+◌, ◌*◌, ◌<◌, ◌≤◌, ◌^◌, ◌&&◌, ℕ, List, true, not, Some, Ok, IfOk, IfNone, IfSome, IsTrue, false, chars, drop, length, option_copied, option_map, slice_get, string_bytes};
+ghost use Rattle.std.specs.Prelude.{[], Option, None, OnErr, OnOk, is_some, ◌≡◌, ◌+◌, ◌*◌, ◌<◌, ◌≤◌, ◌^◌, ◌&&◌, ℕ, List, true, not, Some, Ok, IfOk, IfNone, IfSome, IsTrue, false, chars, drop, length, option_copied, option_map, slice_get, string_bytes};
 ghost use Rattle.ft_op.specs.WellFormed.{IsWellFormed};
 ghost use Rattle.ft_json.specs.Readers.{Reads};
 ghost use Rattle.ft_sumdoc.specs.Summary.{summary};
@@ -9,6 +9,7 @@ ghost use Rattle.ft_msg.specs.declared.messages.Draft.{Draft};
 ghost use Rattle.ft_msg.specs.declared.messages.Message.{Message};
 ghost use Rattle.ft_msg.specs.Answers.{RunsFor, numbers_of, view_content};
 ghost use Rattle.ft_msg.specs.Client.{NaiveClient};
+ghost use Rattle.ft_change_lines.specs.FromNothing.{told_from_nothing};
 ghost use Rattle.ft_msg.specs.Content.{content};
 ghost use Rattle.ft_msg.specs.Process.{process};
 ghost use Rattle.ft_msg.specs.Reached.{IsReached};
@@ -20,12 +21,16 @@ ghost use Rattle.ft_seqr.specs.WellFormedEvent.{IsWellFormedEvent};
 ghost use Rattle.ft_seqr.specs.World.{body_load, op_load};
 ghost use Rattle.ft_replay.specs.LineForm.{bytes_of};
 ghost use Rattle.ft_replay.specs.Observation.{names_with, numbered_entry};
-ghost use Rattle.ft_door.specs.Editors.{EditorState, AnswersStep, IsEditor, IsNextFor, IsSomeEditor, NaiveEditor, TakesJoin, TellsStep, call_exceeds, call_step, connect_as, connect_line, draft_bytes, drop_step, dropped_unless, edit_event, edit_exceeds, edit_line, edit_line_exceeds, edited, edited_op, editor_of, is_awaited_by, is_join, is_offline, is_sender, joining_as, load_limit, load_line, load_line_exceeds, load_of, load_reading, load_reading_exceeds, message_exceeds, message_refusal, never_exceeds, new_editor, next_exceeds, no_name, oldest_bytes, process_line, process_line_exceeds, shown_lines, shown_link, table_limit, take_message, take_next, told_of, waits_after, with_queue};
+ghost use Rattle.ft_changes.specs.Shown.{ShownContent};
+ghost use Rattle.ft_change_lines.specs.ChangeTexts.{changes_text};
+ghost use Rattle.ft_door.specs.Editors.{EditorState, AnswersStep, IsEditor, IsNextFor, IsSomeEditor, Leads, NaiveEditor, TakesJoin, TellsStep, call_exceeds, call_step, client_after, connect_as, connect_line, draft_bytes, drop_step, dropped_unless, edit_event, edit_exceeds, edit_line, edit_line_exceeds, edited, edited_op, editor_of, informed, is_awaited_by, is_join, is_offline, is_sender, joining_as, listening, load_limit, load_line, load_line_exceeds, load_of, load_reading, load_reading_exceeds, message_exceeds, message_refusal, never_exceeds, new_editor, next_exceeds, no_name, oldest_bytes, process_line, process_line_exceeds, shown_lines, shown_link, table_limit, take_message, take_next, told_of, waits_after, with_listener, with_queue};
 
 use crate::calls::{Call, Told};
 use crate::giving::{begin_join, give_edit, give_entry, lose_link, order_fault};
 use ft_base::moved::both;
 use ft_base::{Datum, OutOfMemory, Text};
+use ft_change_lines::{changes_text, told_from_nothing};
+use ft_changes::{Telling, ViewChanges};
 use ft_laws_sessions::formed::reads_are_well_formed;
 use ft_msg::{
     Body, Cause, Draft, Entry, Link, Message, MsgKind, Names, Numbers, ProcessFault, Replica, View,
@@ -51,7 +56,7 @@ const LOAD_LIMIT: u64 = 1 << 52;
 /// The number of a connection goes by its first appearance in the log, so it isn't known before its join comes. Until then the
 /// replica is offline, where it takes messages and edits as one that is joining does.
 #[derive(Drop)]
-pub struct Parts<R: Replica> {
+pub struct Parts<R: Telling> {
     alloc: Global,
     replica: R,
     /// The names of the connections in the messages that it took.
@@ -62,17 +67,19 @@ pub struct Parts<R: Replica> {
     waits: bool,
     /// What its steps cost: one each, and one for each sub-operation and each inserted element.
     load: u64,
+    /// The changes that wait to be told, if somebody listens.
+    told: Option<ViewChanges>,
 }
 
-impl<R: Replica> Model for Parts<R> {
+impl<R: Telling> Model for Parts<R> {
     ghost use Rattle.ft_door.specs.Editors.{EditorState};
 
     ghost Value = { EditorState };
 
-    ghost view = { λ a. record { replica = R.state a.replica; names = a.names; name = a.name; waits = a.waits; load = a.load } };
+    ghost view = { λ a. record { replica = R.state a.replica; names = a.names; name = a.name; waits = a.waits; load = a.load; told = a.told } };
 }
 
-impl<R: Replica + Drop> Parts<R> {
+impl<R: Telling + Drop> Parts<R> {
     /// Those of a new editor: an empty document, no connection.
     ///
     /// Returns `OutOfMemory` where there is no room for them.
@@ -88,6 +95,7 @@ impl<R: Replica + Drop> Parts<R> {
             name,
             waits: false,
             load: 0,
+            told: None,
         })
     }
 
@@ -139,6 +147,39 @@ impl<R: Replica + Drop> Parts<R> {
             Ok(view) => self.text_of(view),
             Err(ViewFault::OutOfMemory | ViewFault::Stopped { .. }) => Err(OutOfMemory),
         }
+    }
+
+    /// A listener begins to be told what changes, from nothing on, or nobody listens any more.
+    ///
+    /// Returns `OutOfMemory` where there is no room for what is told, and then nothing changed.
+    pub fn tell(&mut self, listens: bool) -> Result<(), OutOfMemory>
+        ensures ok { (x : NaiveEditor) → IsEditor self.old x → OnOk result (IsEditor self.new (with_listener (listening listens) x)) }
+        ensures err { OnErr result (self.new ≡ self.old) }
+    {
+        let told = told_anew(self.alloc, &self.replica, listens)?;
+        drop(mem::replace(&mut self.told, told));
+        Ok(())
+    }
+
+    /// The texts of the changes that wait to be told, each on a line, if somebody listens.
+    ///
+    /// Returns `OutOfMemory` where there is no room for them.
+    pub fn changes_text(&self) -> Result<Option<String>, OutOfMemory>
+        ensures { IfOk result (λ lines. option_map (λ text. string_bytes text) lines ≡ option_map changes_text self.now.told) }
+    {
+        match &self.told {
+            None => Ok(None),
+            Some(changes) => some_changes(self.alloc, changes),
+        }
+    }
+
+    /// All changes count as told.
+    pub fn informed(&mut self)
+        ensures editor { (x : NaiveEditor) → IsEditor self.old x → IsEditor self.new (informed x) }
+        ensures none { self.new.told ≡ option_map (λ _. []) self.old.told }
+    {
+        let told = emptied(self.alloc, &self.told);
+        drop(mem::replace(&mut self.told, told));
     }
 
     // Takes an edit of its own.
@@ -193,7 +234,9 @@ impl<R: Replica + Drop> Parts<R> {
         requires low { load ≤ load_limit }
         ensures { IfOk result (λ told. TellsStep told self.old self.new (λ x. edited x op.now) (λ x. edit_exceeds x (Some op.now))) }
     {
-        let refusal = give_edit(&mut self.replica, op)?;
+        let mut told = self.told.take();
+        let refusal = give_edit(&mut self.replica, op, &mut told)?;
+        drop(mem::replace(&mut self.told, told));
         self.load = load_of(refusal, self.load, load);
         Ok(told_of(refusal))
     }
@@ -296,7 +339,9 @@ impl<R: Replica + Drop> Parts<R> {
             → joins ≡ is_awaited_by s m → load ≡ s.load + (1 + body_load m.body)
             → IfOk result (λ told. TellsStep told s self.new (λ x. take_next x m) (λ x. next_exceeds x m.body)) }
     {
-        let refusal = receive(&mut self.replica, joins, entry)?;
+        let mut told = self.told.take();
+        let refusal = receive(&mut self.replica, joins, entry, &mut told)?;
+        drop(mem::replace(&mut self.told, told));
         self.waits = waits_after(refusal, self.waits, joins);
         self.load = load_of(refusal, self.load, load);
         Ok(told_of(refusal))
@@ -374,17 +419,25 @@ impl<R: Replica + Drop> Parts<R> {
         ensures { IfOk result (λ told. TellsStep told self.old self.new (λ x. load_reading x (Ok sum.now)) (λ x. load_reading_exceeds (Ok sum.now))) }
     {
         let replica = R::from_summary(self.alloc, sum)?;
+        let told = told_anew(self.alloc, &replica, self.told.is_some())?;
         match start_load(replica.numbers()) {
-            Some(load) => self.begin(sum, replica, load),
+            Some(load) => self.begin(sum, replica, load, told),
             None => Ok(Told::Full),
         }
     }
 
-    // Starts anew, with this replica over the document of the summary.
-    fn begin(&mut self, sum: &SumDoc, replica: R, load: u64) -> Result<Told, OutOfMemory>
+    // Starts anew, with this replica over the document of the summary, and with what is told then.
+    fn begin(
+        &mut self,
+        sum: &SumDoc,
+        replica: R,
+        load: u64,
+        changes: Option<ViewChanges>,
+    ) -> Result<Told, OutOfMemory>
         requires valid { IsValidSummary sum.now }
         requires few { length sum.now.conns < 2 ^ 32 }
-        ensures { (IsEditor (record { replica = R.state replica; names = sum.now.conns; name = no_name; waits = false; load = load }) (editor_of sum.now))
+        ensures { ((x : NaiveEditor) → IsEditor self.old x
+            → IsEditor (record { replica = R.state replica; names = sum.now.conns; name = no_name; waits = false; load = load; told = changes }) (editor_of (is_some x.listener) sum.now))
             → IfOk result (λ told. TellsStep told self.old self.new (λ x. load_reading x (Ok sum.now)) (λ x. load_reading_exceeds (Ok sum.now))) }
     {
         let alloc = self.alloc;
@@ -397,6 +450,7 @@ impl<R: Replica + Drop> Parts<R> {
             name,
             waits: false,
             load,
+            told: changes,
         };
         drop(mem::replace(self, parts));
         Ok(Told::Taken)
@@ -427,34 +481,43 @@ fn fault_refusal(number: u64, fault: Option<ProcessFault>) -> Option<Refusal>
 }
 
 // Gives the replica the next message, before which it begins to join under the number of its sender, where it
-// joins.
-fn receive<R: Replica>(
+// joins. What changes in the view is added to what is told, if somebody listens.
+fn receive<R: Telling>(
     replica: &mut R,
     joins: bool,
     entry: &Entry,
+    told: &mut Option<ViewChanges>,
 ) -> Result<Option<Refusal>, OutOfMemory>
     requires formed { IsWellFormedMessage entry.now.msg }
     requires join { joins ≡ true → TakesJoin (R.state replica.old) entry.now }
-    ensures { (x : NaiveClient) → IsReached x → RunsFor (R.state replica.old) x
+    ensures answers { (x : NaiveClient) → IsReached x → RunsFor (R.state replica.old) x
         → IfOk result (AnswersStep (refusal_of_process entry.now.msg.seq) (R.state replica.old) (R.state replica.new) (process (joining_as joins entry.now.origin x) entry.now)) }
+    ensures leads { (x : NaiveClient) (shown : Option ShownContent) → IsReached x → RunsFor (R.state replica.old) x → Leads shown told.old x
+        → IfOk result (λ _. Leads shown told.new (client_after x (process (joining_as joins entry.now.origin x) entry.now))) }
 {
     if joins {
-        take_join(replica, entry)
+        take_join(replica, entry, told)
     } else {
-        give_entry(replica, entry)
+        give_entry(replica, entry, told)
     }
 }
 
 // Gives the replica its join, before which it begins to join under the number of its sender. Its client takes that, so it
 // isn't refused.
-fn take_join<R: Replica>(replica: &mut R, entry: &Entry) -> Result<Option<Refusal>, OutOfMemory>
+fn take_join<R: Telling>(
+    replica: &mut R,
+    entry: &Entry,
+    told: &mut Option<ViewChanges>,
+) -> Result<Option<Refusal>, OutOfMemory>
     requires formed { IsWellFormedMessage entry.now.msg }
     requires join { TakesJoin (R.state replica.old) entry.now }
-    ensures { (x : NaiveClient) → IsReached x → RunsFor (R.state replica.old) x
+    ensures answers { (x : NaiveClient) → IsReached x → RunsFor (R.state replica.old) x
         → IfOk result (AnswersStep (refusal_of_process entry.now.msg.seq) (R.state replica.old) (R.state replica.new) (process (joining_as true entry.now.origin x) entry.now)) }
+    ensures leads { (x : NaiveClient) (shown : Option ShownContent) → IsReached x → RunsFor (R.state replica.old) x → Leads shown told.old x
+        → IfOk result (λ _. Leads shown told.new (client_after x (process (joining_as true entry.now.origin x) entry.now))) }
 {
     begin_join(replica, entry.origin)?;
-    give_entry(replica, entry)
+    give_entry(replica, entry, told)
 }
 
 // The replica loses its connection, unless it only waits for one. Returns why that is refused, if it is.
@@ -463,6 +526,52 @@ fn drop_unless<R: Replica>(replica: &mut R, waits: bool) -> Result<Option<Refusa
         → IfOk result (AnswersStep (λ _. NotConnected) (R.state replica.old) (R.state replica.new) (dropped_unless waits x)) }
 {
     if waits { Ok(None) } else { lose_link(replica) }
+}
+
+// What is told to a listener that begins, if somebody listens: what leads from nothing to what the replica shows.
+//
+// Returns `OutOfMemory` where there is no room for it, or the replica has stopped.
+fn told_anew<R: Telling>(
+    alloc: Global,
+    replica: &R,
+    listens: bool,
+) -> Result<Option<ViewChanges>, OutOfMemory>
+    ensures { (x : NaiveClient) → IsReached x → RunsFor (R.state replica.now) x → IfOk result (λ told. Leads (listening listens) told x) }
+{
+    if !listens {
+        return Ok(None);
+    }
+    match replica.view() {
+        Ok(view) => told_of_view(alloc, view),
+        Err(ViewFault::OutOfMemory | ViewFault::Stopped { .. }) => Err(OutOfMemory),
+    }
+}
+
+// What leads from nothing to what this view shows.
+fn told_of_view(alloc: Global, view: View) -> Result<Option<ViewChanges>, OutOfMemory>
+    ensures { IfOk result (λ told. told ≡ Some (told_from_nothing (view_content view))) }
+{
+    let told = told_from_nothing(alloc, &view);
+    drop(view);
+    Ok(Some(told?))
+}
+
+// No changes, if somebody listens.
+fn emptied(alloc: Global, told: &Option<ViewChanges>) -> Option<ViewChanges>
+    ensures { result ≡ option_map (λ _. []) told.now }
+{
+    match told {
+        None => None,
+        Some(_) => Some(ViewChanges::new(alloc)),
+    }
+}
+
+// The texts of changes, each on a line.
+fn some_changes(alloc: Global, changes: &ViewChanges) -> Result<Option<String>, OutOfMemory>
+    ensures { IfOk result (λ lines. option_map (λ text. string_bytes text) lines ≡ Some (changes_text changes.now)) }
+{
+    let text = changes_text(alloc, changes.as_slice())?;
+    Ok(Some(text))
 }
 
 // What is told of a step that is refused so, if it is.

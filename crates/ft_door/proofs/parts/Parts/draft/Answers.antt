@@ -11,12 +11,12 @@ some_line-requires g c =
 pub returns-in-None : goal.returns-in-None
 returns-in-None g c = λ x h.
     let i = c.self.inside in
-    let old = state_of (g.R.Replica.state i.replica) i.names i.name i.waits i.load in
+    let old = state_of (g.R.Replica.state i.replica) i.told i.names i.name i.waits i.load in
     none-told old c.in-None.ensures x (editor-as old c.args.self.now x c.self.view_is h)
 
 pub returns-in-Some : goal.returns-in-Some
 returns-in-Some g c = λ x h.
     let i = c.self.inside in
-    let old = state_of (g.R.Replica.state i.replica) i.names i.name i.waits i.load in
+    let old = state_of (g.R.Replica.state i.replica) i.told i.names i.name i.waits i.load in
     IfOk-weaker c.some_line.result _ _ (λ line k. k ∙ oldest-told old c.in-Some.draft.now c.in-Some.ensures x (editor-as old c.args.self.now x c.self.view_is h))
     c.some_line.ensures

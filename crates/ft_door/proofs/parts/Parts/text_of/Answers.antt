@@ -12,7 +12,7 @@ linked v link = record v { numbers = record v.numbers { link = link } }
 pub returns : goal.returns
 returns g c = λ x h numbers shows.
     let i = c.self.inside in
-    let old = state_of (g.R.Replica.state i.replica) i.names i.name i.waits i.load in
+    let old = state_of (g.R.Replica.state i.replica) i.told i.names i.name i.waits i.load in
     let v = c.args.view in
     c.client_text-text.ensures (as_client x) (view-stands old v (linked v c.shown_link-link.result) (ap (linked v) c.shown_link-link.ensures)
     (numbers ∙ ap (λ (s : EditorState). numbers_of s.replica) (sym c.self.view_is)) x (editor-as old c.args.self.now x c.self.view_is h) shows)

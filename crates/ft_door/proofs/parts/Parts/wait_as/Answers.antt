@@ -7,9 +7,9 @@ use Rattle.ft_door.proofs.parts.Parts.wait_as.Goals as goal
 pub returns : goal.returns
 returns g c =
     let i = c.self.inside in
-    let old = state_of (g.R.Replica.state i.replica) i.names i.name i.waits i.load in
+    let old = state_of (g.R.Replica.state i.replica) i.told i.names i.name i.waits i.load in
     let r = g.R.Replica.state i.replica in
     let name = chars c.args.text.now in
     let free = subst (λ (s : EditorState). not s.waits && is_offline s.replica.client.link ≡ true) (sym c.self.view_is) c.requires in
-    told-as Taken Taken c.args.self.now old (state_of r i.names c.in_ok-name.name true i.load) (state_of r i.names name true i.load) (connect_as name) never_exceeds refl c.self.view_is
-    (ap (λ n. state_of r i.names n true i.load) c.in_ok-name.ensures) (connect-told old name free)
+    told-as Taken Taken c.args.self.now old (state_of r i.told i.names c.in_ok-name.name true i.load) (state_of r i.told i.names name true i.load) (connect_as name) never_exceeds refl c.self.view_is
+    (ap (λ n. state_of r i.told i.names n true i.load) c.in_ok-name.ensures) (connect-told old name free)
