@@ -32,7 +32,7 @@ enum {
     VEMIKTAG_OUT_OF_MEMORY = 5, /* there was no memory */
     VEMIKTAG_TOO_LONG = 6,      /* the input has more than 16,777,216 bytes, or the session has heard more lines, or a client is full */
     VEMIKTAG_CLOSED = 7,        /* the session or the client isn't open, or takes nothing more */
-    VEMIKTAG_NOTHING = 8        /* a client has nothing to send */
+    VEMIKTAG_NOTHING = 8        /* a client has nothing to send, or nobody is told of its changes */
 };
 
 /* Puts the report of a session, whose events are the lines of the input, into the first bytes of `report`, which has
@@ -126,6 +126,19 @@ uint32_t vemiktag_client_outgoing(vemiktag_client *client);
  *
  * VEMIKTAG_OUT_OF_MEMORY: nothing changed. VEMIKTAG_CLOSED: as above. */
 uint32_t vemiktag_client_view(vemiktag_client *client);
+
+/* Where `listens`, you are told from now on what changes in what the client shows: it keeps the changes until you ask for them. The first ones
+ * lead from nothing to what it shows now, and after each load they begin so again: then empty what you keep. Where not, it keeps none; a client
+ * begins so.
+ *
+ * VEMIKTAG_OUT_OF_MEMORY: nothing changed. VEMIKTAG_CLOSED: as above. */
+uint32_t vemiktag_client_tell(vemiktag_client *client, bool listens);
+
+/* Puts the changes since you last asked behind what waits to be read, in order, a JSON object each on a line: who applies them to what was
+ * shown shows what the client shows (docs/CALLING.md says what to do with each).
+ *
+ * VEMIKTAG_NOTHING: you aren't told. VEMIKTAG_OUT_OF_MEMORY: nothing changed, and they go on waiting. VEMIKTAG_CLOSED: as above. */
+uint32_t vemiktag_client_changes(vemiktag_client *client);
 
 /* Puts into `count` how many bytes wait to be read.
  *

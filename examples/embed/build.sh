@@ -78,6 +78,8 @@ $under "$out/handles" < "$top/examples/tea_at_five.session"
 $under "$out/client" | cmp - "$here/editors.told"
 echo "C, two editors: as editors.told"
 python3 "$here/editors.py" | cmp - "$here/editors.told"
-echo "Python, two editors: as editors.told"
+echo "Python, two editors: as editors.told, by views and by changes"
+[ "$(python3 "$here/shown.py")" = "Cell Gone Interval Put PutUnits Style Take TakeUnits" ]
+echo "Python, each kind of change: as the view"
 # shellcheck disable=SC2086
 $under "$out/clients"

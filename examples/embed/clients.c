@@ -16,6 +16,8 @@ static const char draft[] = "{\"clientSequenceNumber\":1,\"contents\":{\"address
                             "\"referenceSequenceNumber\":1,\"type\":\"op\"}\n";
 static const char shown[] = "client \"a/1\" online seq 1 min 0 pending 1\ntext \"Tea\"\n";
 
+static const char put[] = "{\"change\":\"put\",\"pos\":0,\"seg\":\"Tea\",\"props\":{}}\n";
+
 static char text[4096];
 
 /* Whether this is what waits, which is read. */
@@ -32,7 +34,8 @@ static void try_closed(vemiktag_client *client) {
     expect(CALL(load, client, summary) == VEMIKTAG_CLOSED, "a closed client loads nothing");
     expect(CALL(connect, client, "a/1") == VEMIKTAG_CLOSED && vemiktag_client_drop(client) == VEMIKTAG_CLOSED, "connects to nothing");
     expect(CALL(edit, client, typed) == VEMIKTAG_CLOSED && CALL(process, client, join) == VEMIKTAG_CLOSED, "takes nothing");
-    expect(vemiktag_client_outgoing(client) == VEMIKTAG_CLOSED && vemiktag_client_view(client) == VEMIKTAG_CLOSED, "and has nothing to send or show");
+    expect(vemiktag_client_outgoing(client) == VEMIKTAG_CLOSED && vemiktag_client_view(client) == VEMIKTAG_CLOSED, "has nothing to send or show");
+    expect(vemiktag_client_tell(client, true) == VEMIKTAG_CLOSED && vemiktag_client_changes(client) == VEMIKTAG_CLOSED, "and tells nothing");
 }
 
 /* What is refused, and that nothing changes by it. */
@@ -52,7 +55,9 @@ static uint32_t play(vemiktag_client *client) {
     uint32_t status = vemiktag_client_new(client);
     status = status == VEMIKTAG_DONE ? CALL(connect, client, "a/1") : status;
     status = status == VEMIKTAG_DONE ? CALL(process, client, join) : status;
+    status = status == VEMIKTAG_DONE ? vemiktag_client_tell(client, true) : status;
     status = status == VEMIKTAG_DONE ? CALL(edit, client, typed) : status;
+    status = status == VEMIKTAG_DONE ? vemiktag_client_changes(client) : status;
     status = status == VEMIKTAG_DONE ? vemiktag_client_view(client) : status;
     status = status == VEMIKTAG_DONE ? vemiktag_client_outgoing(client) : status;
     return status == VEMIKTAG_DONE ? CALL(load, client, summary) : status;
@@ -79,6 +84,29 @@ static void try_client(void) {
     try_closed(&client);
 }
 
+/* A client that tells what changes, or doesn't; with each allocation of what is told failing in its turn, it is told after all. */
+static void try_told(void) {
+    vemiktag_client client = {0};
+    expect(vemiktag_client_new(&client) == VEMIKTAG_DONE && vemiktag_client_changes(&client) == VEMIKTAG_NOTHING, "nobody is told");
+    expect(vemiktag_client_tell(&client, true) == VEMIKTAG_DONE && vemiktag_client_changes(&client) == VEMIKTAG_DONE, "one is, from now on");
+    expect(reads(&client, "") && CALL(edit, &client, typed) == VEMIKTAG_DONE, "of nothing, and of what is typed");
+    uint32_t status = VEMIKTAG_OUT_OF_MEMORY;
+    for (long turn = 0; status == VEMIKTAG_OUT_OF_MEMORY; turn++) {
+        left = turn;
+        status = vemiktag_client_changes(&client);
+        left = -1;
+        expect(status == VEMIKTAG_DONE || reads(&client, ""), "without memory nothing is told");
+    }
+    expect(status == VEMIKTAG_DONE && reads(&client, put), "but it is with it");
+    expect(vemiktag_client_changes(&client) == VEMIKTAG_DONE && reads(&client, ""), "once");
+    expect(CALL(load, &client, summary) == VEMIKTAG_DONE && vemiktag_client_changes(&client) == VEMIKTAG_DONE, "it starts from a summary");
+    expect(reads(&client, put), "and tells what leads there from nothing");
+    expect(vemiktag_client_tell(&client, true) == VEMIKTAG_DONE && vemiktag_client_changes(&client) == VEMIKTAG_DONE, "so it does");
+    expect(reads(&client, put), "to who listens anew");
+    expect(vemiktag_client_tell(&client, false) == VEMIKTAG_DONE && vemiktag_client_changes(&client) == VEMIKTAG_NOTHING, "nobody is told any more");
+    expect(vemiktag_client_free(&client) == VEMIKTAG_DONE, "it is freed");
+}
+
 /* A call that is refused, with each of its allocations failing in its turn: the client ends, or it goes on and the line alone is lost. */
 static void try_untold(void) {
     long turn = 0, untold = 0;
@@ -102,6 +130,7 @@ static void try_untold(void) {
 
 int main(void) {
     try_client();
+    try_told();
     try_untold();
     long turn = 0;
     for (bool failed = true; failed; turn++) {

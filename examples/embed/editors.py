@@ -1,5 +1,6 @@
 """editors.py: two editors in one process, each with a client, and what orders their messages. They type at once, one of them is cut
-off, types on, and comes back. What they show is written after each step: the same as client.c writes."""
+off, types on, and comes back. What they show is written after each step: the same as client.c writes. Each of them keeps what it shows by
+the changes that its client tells, too, and that is the same."""
 
 import vemiktag
 
@@ -33,10 +34,11 @@ class Server:
 
 
 class Editor:
-    """A client, the name of its connection, and how many messages it was given."""
+    """A client, the name of its connection, how many messages it was given, and what is shown by what it tells."""
 
     def __init__(self, server):
-        self.server, self.client, self.given = server, vemiktag.Client(), 0
+        self.server, self.client, self.given, self.shown = server, vemiktag.Client(), 0, vemiktag.Shown()
+        self.client.tell()
 
     def join(self, name):
         self.name = name
@@ -56,6 +58,12 @@ class Editor:
             self.client.process(message)
             self.given += 1
 
+    def view(self):
+        view = self.client.view()
+        self.shown.apply(self.client.changes())
+        assert list(self.shown.lines()) == view[1:], "what is told leads to the view"
+        return view
+
 
 server = Server()
 ann, bob = Editor(server), Editor(server)
@@ -69,7 +77,7 @@ def exchange():
 
 
 def show(when):
-    print(when, *ann.client.view(), *bob.client.view(), sep="\n")
+    print(when, *ann.view(), *bob.view(), sep="\n")
 
 
 ann.join("ann/1")

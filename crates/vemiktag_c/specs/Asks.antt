@@ -3,7 +3,7 @@ use Rattle.std.specs.Prelude.{◌≡◌, ℕ, ◌≤◌, List, [], length, ⊤}
 use Rattle.ft_msg.specs.declared.replica.Replica.{Ghosts}
 use Rattle.ft_door.specs.declared.clients.HeldClient.{HeldClient}
 use Rattle.ft_door.specs.declared.sessions.HeldSession.{HeldSession}
-use Rattle.ft_door.specs.Clients.{CallsClient, IsNew, ReadsClient, SendsDraft, ShowsClient}
+use Rattle.ft_door.specs.Clients.{CallsClient, IsNew, ListensToClient, ReadsClient, SendsDraft, ShowsClient, TellsClient}
 use Rattle.ft_door.specs.Editors.{call_exceeds, call_step}
 use Rattle.ft_door.specs.Runs.{ClosesSession, HearsLine, ReadsReport, Stands}
 use Rattle.vemiktag_c.specs.declared.asks.Ask.{Ask}
@@ -20,6 +20,8 @@ Answers ask.ReadReport bytes s c s' c' room count status = (status ≡ 0) × Rea
 Answers (ask.Call call) bytes s c s' c' room count status = CallsClient (call_step call bytes) (call_exceeds call bytes) c c' status × (s' ≡ s)
 Answers ask.Outgoing bytes s c s' c' room count status = SendsDraft c c' status × (s' ≡ s)
 Answers ask.View bytes s c s' c' room count status = ShowsClient c c' status × (s' ≡ s)
+Answers (ask.Tell listens) bytes s c s' c' room count status = ListensToClient listens c c' status × (s' ≡ s)
+Answers ask.Changes bytes s c s' c' room count status = TellsClient c c' status × (s' ≡ s)
 Answers ask.Waiting bytes s c s' c' room count status = (status ≡ 0) × (s' ≡ s) × (c' ≡ c)
 Answers ask.ReadTold bytes s c s' c' room count status = (status ≡ 0) × ReadsClient c c' room count × (s' ≡ s)
 
@@ -31,6 +33,8 @@ Counts ask.ReadReport reported told room count = count ≤ length room
 Counts (ask.Call call) reported told room count = ⊤
 Counts ask.Outgoing reported told room count = ⊤
 Counts ask.View reported told room count = ⊤
+Counts (ask.Tell listens) reported told room count = ⊤
+Counts ask.Changes reported told room count = ⊤
 Counts ask.Waiting reported told room count = count ≡ told
 Counts ask.ReadTold reported told room count = count ≤ length room
 

@@ -6,8 +6,8 @@ ghost use Rattle.ft_door.specs.Runs.{unread_of};
 ghost use Rattle.vemiktag_c.specs.Asks.{Answers, Counts, IsNewAs};
 
 use ft_base::OutOfMemory;
+use ft_changes::Telling;
 use ft_door::{Call, HeldClient, HeldSession};
-use ft_msg::Replica;
 use ft_report::DONE;
 use std::alloc::Global;
 
@@ -26,6 +26,10 @@ pub enum Ask {
     Outgoing,
     /// The client puts the lines of what it shows behind what waits.
     View,
+    /// A listener of the client begins, or there is none any more.
+    Tell(bool),
+    /// The client puts the changes since it was last asked behind what waits.
+    Changes,
     /// How many bytes of the client wait.
     Waiting,
     /// The next bytes of the client are read.
@@ -44,7 +48,7 @@ pub enum Role {
 /// The parts of a run that is opened as this.
 ///
 /// Returns `OutOfMemory` where there is no room for them.
-pub fn new_parts<R: Replica + Drop>(
+pub fn new_parts<R: Telling + Drop>(
     alloc: Global,
     role: Role,
 ) -> Result<(HeldSession<R>, HeldClient<R>), OutOfMemory>
@@ -64,7 +68,7 @@ pub fn new_parts<R: Replica + Drop>(
 
 /// Answers this, with these bytes, and room for what is read; returns the status that C is told. `count` is how many bytes were
 /// read, where some are, and behind a line, a close or a question for it how many wait.
-pub fn answer<R: Replica + Drop>(
+pub fn answer<R: Telling + Drop>(
     session: &mut HeldSession<R>,
     client: &mut HeldClient<R>,
     ask: Ask,
@@ -93,6 +97,8 @@ pub fn answer<R: Replica + Drop>(
         Ask::Call(call) => client.call(call, bytes),
         Ask::Outgoing => client.outgoing(),
         Ask::View => client.view(),
+        Ask::Tell(listens) => client.tell(listens),
+        Ask::Changes => client.changes(),
         Ask::Waiting => {
             *count = client.unread();
             DONE

@@ -5,7 +5,7 @@
 #![tactic(auto)]
 
 ghost use Rattle.std.specs.Prelude.{◌≡◌, [], IfOk, None};
-ghost use Rattle.ft_door.specs.Clients.{CallsClient, SendsDraft, ShowsClient};
+ghost use Rattle.ft_door.specs.Clients.{CallsClient, ListensToClient, SendsDraft, ShowsClient, TellsClient};
 ghost use Rattle.ft_door.specs.Editors.{call_exceeds, call_step};
 ghost use Rattle.ft_report.specs.Reports.{Tells};
 ghost use Rattle.vemiktag_c.specs.Asks.{Answers, Counts, IsNewAs};
@@ -222,6 +222,29 @@ pub extern "C" fn vemiktag_client_view(alloc: Global, client: &mut Handle) -> u3
     ensures { Calls (λ a b s. ShowsClient a.client b.client s × (b.session ≡ a.session)) (held_run client.old) (held_run client.new) result }
 {
     asked(alloc, client, Ask::View, &[], &mut [], &mut 0)
+}
+
+/// A listener of the client begins, which `vemiktag_client_changes` tells of what changes in what the client shows; or
+/// there is none any more. The first changes lead from nothing to what it shows now, and after each load they do so again.
+///
+/// Returns 0; 5 where there was no memory; 7 where the client takes nothing, or is closed. In all but 0 nothing changed.
+#[unsafe(no_mangle)]
+pub extern "C" fn vemiktag_client_tell(alloc: Global, client: &mut Handle, listens: bool) -> u32
+    ensures { Calls (λ a b s. ListensToClient listens a.client b.client s × (b.session ≡ a.session)) (held_run client.old) (held_run client.new) result }
+{
+    asked(alloc, client, Ask::Tell(listens), &[], &mut [], &mut 0)
+}
+
+/// Puts the changes since it was last asked behind what waits to be read, a JSON object each on a line. Until then they
+/// wait in memory.
+///
+/// Returns 0; 8 where nobody listens; 5 where there was no memory; 7 where the client takes nothing, or is closed. In all but
+/// 0 nothing changed.
+#[unsafe(no_mangle)]
+pub extern "C" fn vemiktag_client_changes(alloc: Global, client: &mut Handle) -> u32
+    ensures { Calls (λ a b s. TellsClient a.client b.client s × (b.session ≡ a.session)) (held_run client.old) (held_run client.new) result }
+{
+    asked(alloc, client, Ask::Changes, &[], &mut [], &mut 0)
 }
 
 /// Tells how many bytes wait to be read.
