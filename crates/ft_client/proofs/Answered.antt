@@ -7,6 +7,11 @@ pub then-ok : {A E P Q : Type 0} (r : Result A E) → OnOk r P → (P → Q) →
 then-ok (Ok a) h f = f h
 then-ok (Err e) h f = tt
 
+-- what holds anyway
+pub on-ok : {A E P : Type 0} (r : Result A E) → P → OnOk r P
+on-ok (Ok a) p = p
+on-ok (Err e) p = tt
+
 pub three-ok : {A E P Q R S : Type 0} (r : Result A E) → OnOk r P → OnOk r Q → OnOk r R → (P → Q → R → S) → OnOk r S
 three-ok (Ok a) h g k f = f h g k
 three-ok (Err e) h g k f = tt

@@ -25,3 +25,4 @@ pub mod JoinedOps
 pub mod GivenParts
 pub mod GivenEdits
 pub mod Rejoined
+pub mod ToldParts

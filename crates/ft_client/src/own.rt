@@ -5,11 +5,13 @@ mod edits;
 mod messages;
 mod rejoining;
 mod shown;
+mod telling;
 
 use crate::numbers::TreeNumbers;
 use crate::stages::OwnStage;
 use ft_attrib::Attribution;
 use ft_base::{OutOfMemory, Steps, Text};
+use ft_changes::Listener;
 use ft_matrix::SharedMatrix;
 use ft_msg::{EditFault, Entry, Numbers, View};
 use ft_op::ChannelOp;
@@ -98,17 +100,13 @@ impl OwnDocument for TreeOwn {
         op: &ChannelOp,
         steps: &mut Steps<G>,
     ) -> Result<usize, EditFault> {
-        let Some(first) = last.checked_add(1) else {
-            return Err(EditFault::OutOfMemory);
-        };
-        match op {
-            ChannelOp::Text(op) => self.edit_text(op, first, steps),
-            ChannelOp::Grid(op) => self.edit_table(op, first, steps),
-        }
+        let mut nobody = Listener::nobody(self.text.allocator());
+        self.edit_heard(last, op, &mut nobody, steps)
     }
 
     fn take(&mut self, entry: &Entry) -> Result<(), OutOfMemory> {
-        self.take_in::<Brand>(entry, Blank::new(1))
+        let mut nobody = Listener::nobody(self.text.allocator());
+        self.take_in::<Brand>(entry, &mut nobody, Blank::new(1))
     }
 
     fn take_own(&mut self, count: usize, entry: &Entry) -> Result<(), OutOfMemory> {

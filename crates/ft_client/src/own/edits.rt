@@ -6,12 +6,14 @@ ghost use Rattle.ft_op.specs.declared.operations.GridOp.{GridOp};
 ghost use Rattle.ft_op.specs.declared.operations.Target.{Target};
 ghost use Rattle.ft_op.specs.declared.operations.ChannelOp.TheVariants.{Grid};
 ghost use Rattle.ft_op.specs.Operation.{sub_operations, text_sub_operations};
-ghost use Rattle.ft_op.specs.WellFormed.{IsWellFormedGrid, IsWellFormedText};
+ghost use Rattle.ft_op.specs.WellFormed.{IsWellFormed, IsWellFormedGrid, IsWellFormedText};
 ghost use Rattle.ft_msg.specs.Client.{local_sub_operations};
-ghost use Rattle.ft_replica.specs.Own.{AnswersStages, HeldDocument, HoldsOne, NamesFit};
+ghost use Rattle.ft_changes.specs.Listeners.{heard};
+ghost use Rattle.ft_changes.specs.Told.{told_locals};
+ghost use Rattle.ft_replica.specs.Own.{AnswersStages, HeldDocument, HoldsOne, NamesFit, ReadsFew};
 ghost use Rattle.ft_string.specs.Edits.{IsShort};
 ghost use Rattle.ft_matrix.specs.GridStates.{depth_of};
-ghost use Rattle.ft_client.specs.Holds.{HoldsTree, units_in};
+ghost use Rattle.ft_client.specs.Holds.{HoldsTree, tree_content, units_in};
 ghost use Rattle.ft_client.specs.Parts.{stages_from, text_part, units_by, units_by_all, units_of};
 ghost use Rattle.ft_client.specs.Notes.{Notes};
 
@@ -19,21 +21,49 @@ use crate::numbers::TreeNumbers;
 use crate::own::TreeOwn;
 use crate::stages::{OwnStage, Part};
 use ft_base::{OutOfMemory, Steps};
+use ft_changes::Listener;
 use ft_msg::EditFault;
-use ft_op::{CellOp, GridOp, Target, TextOp};
+use ft_op::{CellOp, ChannelOp, GridOp, Target, TextOp};
 use std::collections::VecDeque;
 use std::slice;
 use std::sync::ledger::Ledger;
 
 impl TreeOwn {
-    /// Takes an edit of the text as pending stages from `first` on, the one behind the last, and returns how many.
+    /// Takes an edit as pending stages behind the last one, and returns how many. The listener hears how the shown elements of the
+    /// lists change; after a refusal nothing is said of what it heard.
     ///
     /// Returns the refusal of the first sub-operation that can't be taken, and `OutOfMemory` where there is no room, or a count
     /// would pass its greatest number.
-    pub(crate) fn edit_text<G: Ledger>(
+    pub(crate) fn edit_heard<G: Ledger>(
+        &mut self,
+        last: u64,
+        op: &ChannelOp,
+        listener: &mut Listener,
+        steps: &mut Steps<G>,
+    ) -> Result<usize, EditFault>
+        requires formed { IsWellFormed op.now }
+        requires known { HoldsOne HoldsTree self.old (λ p. p.last_stage ≡ last) }
+        ensures answers { (held : HeldDocument) → NamesFit held → held.last ≡ last → HoldsTree self.old held
+            → AnswersStages (HoldsTree self.new) held (local_sub_operations held.doc held.stages (last + 1) (sub_operations op.now)) result }
+        ensures reads { ReadsFew op.now (tree_content self.old) steps.old steps.new }
+        ensures told { (held : HeldDocument) → NamesFit held → held.last ≡ last → HoldsTree self.old held
+            → OnOk result (listener.new ≡ heard listener.old (told_locals held.doc held.stages (last + 1) (sub_operations op.now))) }
+    {
+        let Some(first) = last.checked_add(1) else {
+            return Err(EditFault::OutOfMemory);
+        };
+        match op {
+            ChannelOp::Text(op) => self.edit_text(op, first, listener, steps),
+            ChannelOp::Grid(op) => self.edit_table(op, first, listener, steps),
+        }
+    }
+
+    // Takes an edit of the text as pending stages from `first` on, the one behind the last, and returns how many.
+    fn edit_text<G: Ledger>(
         &mut self,
         op: &TextOp,
         first: u64,
+        listener: &mut Listener,
         steps: &mut Steps<G>,
     ) -> Result<usize, EditFault>
         requires formed { IsWellFormedText op.now }
@@ -42,8 +72,10 @@ impl TreeOwn {
             → AnswersStages (HoldsTree self.new) held (local_sub_operations held.doc held.stages first (text_sub_operations op.now)) result }
         ensures reads { IsShort op.now → steps.new ≤ steps.old + 9 * (self.old.text.depth + 1) }
         ensures depth { 4 ^ self.old.text.depth ≤ length self.old.text.elements + 1 }
+        ensures told { (held : HeldDocument) → NamesFit held → held.last + 1 ≡ first → HoldsTree self.old held
+            → OnOk result (listener.new ≡ heard listener.old (told_locals held.doc held.stages first (text_sub_operations op.now))) }
     {
-        let count = self.text.edit(op, first, steps)?;
+        let count = self.text.edit_telling(op, first, listener, steps)?;
         note(
             &mut self.stages,
             &mut self.numbers,
@@ -53,14 +85,12 @@ impl TreeOwn {
         )
     }
 
-    /// Takes an edit of the table as pending stages from `first` on, the one behind the last, and returns how many.
-    ///
-    /// Returns the refusal of the first sub-operation that can't be taken, and `OutOfMemory` where there is no room, or a count
-    /// would pass its greatest number.
-    pub(crate) fn edit_table<G: Ledger>(
+    // The same of the table.
+    fn edit_table<G: Ledger>(
         &mut self,
         op: &GridOp,
         first: u64,
+        listener: &mut Listener,
         steps: &mut Steps<G>,
     ) -> Result<usize, EditFault>
         requires formed { IsWellFormedGrid op.now }
@@ -70,8 +100,10 @@ impl TreeOwn {
         ensures reads { (target : Target) (p count : ℕ) → op.now ≡ GridOp.One (CellOp.SpliceIn target p count)
             → steps.new ≤ steps.old + 9 * (depth_of target self.old.table + 1) }
         ensures depth { (target : Target) → 4 ^ depth_of target self.old.table ≤ length (units_in target self.old.table) + 1 }
+        ensures told { (held : HeldDocument) → NamesFit held → held.last + 1 ≡ first → HoldsTree self.old held
+            → OnOk result (listener.new ≡ heard listener.old (told_locals held.doc held.stages first (sub_operations (Grid op.now)))) }
     {
-        let count = self.table.edit(op, first, steps)?;
+        let count = self.table.edit_telling(op, first, listener, steps)?;
         let Ok(rows) = units_of(Target::Rows, op) else {
             return Err(EditFault::OutOfMemory);
         };

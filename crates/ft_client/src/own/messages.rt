@@ -9,22 +9,27 @@ ghost use Rattle.ft_msg.specs.Agreed.{reference_number};
 ghost use Rattle.ft_msg.specs.Client.{floor};
 ghost use Rattle.ft_msg.specs.Process.{process_fault};
 ghost use Rattle.ft_msg.specs.WellFormed.{IsWellFormedMessage};
+ghost use Rattle.ft_changes.specs.Listeners.{heard};
+ghost use Rattle.ft_changes.specs.Told.{told_body, told_sub_operations};
 ghost use Rattle.ft_replica.specs.Own.{HeldDocument, HoldsOne, NamesFit, with_entry};
 ghost use Rattle.ft_client.specs.Holds.{HoldsTree, with_body};
 
 use crate::own::TreeOwn;
 use ft_base::{OutOfMemory, Perspective, Steps};
+use ft_changes::Listener;
 use ft_msg::{Body, Entry, Message};
 use ft_op::{ChannelOp, GridOp};
 use std::sync::ledger::{Blank, Ledger};
 
 impl TreeOwn {
-    /// Takes a message of another client, or one without an operation.
+    /// Takes a message of another client, or one without an operation. The listener hears how the shown elements of the lists
+    /// change.
     ///
     /// Returns `OutOfMemory` where there is no room, or a count would pass its greatest number.
     pub(crate) fn take_in<G: Ledger>(
         &mut self,
         entry: &Entry,
+        listener: &mut Listener,
         blank: Blank,
     ) -> Result<(), OutOfMemory>
         requires name { blank.name ≡ G.name }
@@ -32,21 +37,30 @@ impl TreeOwn {
         requires one { 0 < blank.parts }
         requires formed { IsWellFormedMessage entry.now.msg }
         requires known { HoldsOne HoldsTree self.old (λ p. process_fault p entry.now ≡ None) }
-        ensures { (held : HeldDocument) → NamesFit held → HoldsTree self.old held → OnOk result (HoldsTree self.new (with_entry entry.now held)) }
+        ensures takes { (held : HeldDocument) → NamesFit held → HoldsTree self.old held → OnOk result (HoldsTree self.new (with_entry entry.now held)) }
+        ensures told { (held : HeldDocument) → NamesFit held → HoldsTree self.old held
+            → OnOk result (listener.new ≡ heard listener.old (told_body held.last held.doc entry.now.msg.seq entry.now.origin (reference_number entry.now.msg.ref_seq) entry.now.msg.body)) }
     {
-        self.take_body::<G>(entry, blank)?;
+        self.take_body::<G>(entry, listener, blank)?;
         self.numbers.take(entry);
         Ok(())
     }
 
     // The same, but that the numbers of the last message stay.
-    fn take_body<G: Ledger>(&mut self, entry: &Entry, blank: Blank) -> Result<(), OutOfMemory>
+    fn take_body<G: Ledger>(
+        &mut self,
+        entry: &Entry,
+        listener: &mut Listener,
+        blank: Blank,
+    ) -> Result<(), OutOfMemory>
         requires name { blank.name ≡ G.name }
         requires parts { blank.parts ≡ G.parts }
         requires one { 0 < blank.parts }
         requires formed { IsWellFormedMessage entry.now.msg }
         requires known { HoldsOne HoldsTree self.old (λ p. process_fault p entry.now ≡ None) }
-        ensures { (held : HeldDocument) → NamesFit held → HoldsTree self.old held → OnOk result (HoldsTree self.new (with_body entry.now held)) }
+        ensures takes { (held : HeldDocument) → NamesFit held → HoldsTree self.old held → OnOk result (HoldsTree self.new (with_body entry.now held)) }
+        ensures told { (held : HeldDocument) → NamesFit held → HoldsTree self.old held
+            → OnOk result (listener.new ≡ heard listener.old (told_body held.last held.doc entry.now.msg.seq entry.now.origin (reference_number entry.now.msg.ref_seq) entry.now.msg.body)) }
     {
         match &entry.msg.body {
             Body::Nothing => Ok(()),
@@ -56,7 +70,7 @@ impl TreeOwn {
                     c: entry.origin,
                 };
                 let mut steps = Steps::<G>::new(blank);
-                self.apply(op, entry.msg.seq, at, &mut steps)
+                self.apply(op, entry.msg.seq, at, listener, &mut steps)
             }
             Body::Elsewhere(_) => self.numbers.count_other(),
         }
@@ -70,19 +84,22 @@ impl TreeOwn {
         op: &ChannelOp,
         seq: u64,
         at: Perspective,
+        listener: &mut Listener,
         steps: &mut Steps<G>,
     ) -> Result<(), OutOfMemory>
         requires formed { IsWellFormed op.now }
         requires known { HoldsOne HoldsTree self.old (λ p. floor p ≤ at.r) }
-        ensures { (held : HeldDocument) → NamesFit held → HoldsTree self.old held
+        ensures applied { (held : HeldDocument) → NamesFit held → HoldsTree self.old held
             → OnOk result (HoldsTree self.new (record held { doc = effects held.doc seq at.c at.r (sub_operations op.now) })) }
+        ensures told { (held : HeldDocument) → NamesFit held → HoldsTree self.old held
+            → OnOk result (listener.new ≡ heard listener.old (told_sub_operations held.last held.doc seq at.c at.r (sub_operations op.now))) }
     {
         match op {
             ChannelOp::Text(op) => {
-                let skipped = self.text.apply(op, seq, at, steps)?;
+                let skipped = self.text.apply_telling(op, seq, at, listener, steps)?;
                 self.numbers.skip(skipped)
             }
-            ChannelOp::Grid(op) => self.apply_grid(op, seq, at, steps),
+            ChannelOp::Grid(op) => self.apply_grid(op, seq, at, listener, steps),
         }
     }
 
@@ -94,16 +111,19 @@ impl TreeOwn {
         op: &GridOp,
         seq: u64,
         at: Perspective,
+        listener: &mut Listener,
         steps: &mut Steps<G>,
     ) -> Result<(), OutOfMemory>
         requires formed { IsWellFormed (ChannelOp.Grid op.now) }
         requires known { HoldsOne HoldsTree self.old (λ p. floor p ≤ at.r) }
-        ensures { (held : HeldDocument) → NamesFit held → HoldsTree self.old held
+        ensures applied { (held : HeldDocument) → NamesFit held → HoldsTree self.old held
             → OnOk result (HoldsTree self.new (record held { doc = effects held.doc seq at.c at.r (sub_operations (ChannelOp.Grid op.now)) })) }
+        ensures told { (held : HeldDocument) → NamesFit held → HoldsTree self.old held
+            → OnOk result (listener.new ≡ heard listener.old (told_sub_operations held.last held.doc seq at.c at.r (sub_operations (ChannelOp.Grid op.now)))) }
     {
         let rows = self.table.rows_made();
         let cols = self.table.cols_made();
-        let skipped = self.table.apply(op, seq, at, steps)?;
+        let skipped = self.table.apply_telling(op, seq, at, listener, steps)?;
         let rows = more(rows, self.table.rows_made());
         let cols = more(cols, self.table.cols_made());
         self.numbers.count_units(rows, cols)?;

@@ -5,6 +5,8 @@ ghost use Rattle.ft_msg.specs.Answers.{view_content};
 ghost use Rattle.ft_msg.specs.Client.{NaiveClient};
 ghost use Rattle.ft_msg.specs.Content.{content};
 ghost use Rattle.ft_msg.specs.SummaryOf.{summary_of};
+ghost use Rattle.ft_changes.specs.Rest.{rest_of};
+ghost use Rattle.ft_changes.specs.Shown.{shown_content};
 ghost use Rattle.ft_laws_names.specs.WellNamed.{IsWellNamed};
 ghost use Rattle.ft_replica.specs.Own.{HeldDocument, HoldsOne, NamesFit, held_by};
 ghost use Rattle.ft_laws_summaries.specs.Summaries.{IsSmall};
@@ -15,6 +17,7 @@ ghost use Rattle.ft_client.specs.Numbers.{IsShortSummary, bare_summary};
 
 use crate::own::TreeOwn;
 use ft_base::{OutOfMemory, Text};
+use ft_changes::ShownRest;
 use ft_json::GREATEST_COUNT;
 use ft_msg::{Numbers, Runs, Spots, View};
 use ft_sumdoc::{
@@ -34,6 +37,22 @@ impl TreeOwn {
         self.text.view(&mut view)?;
         self.table.view(&mut view)?;
         Ok(view)
+    }
+
+    /// What is shown at the last stage beside the elements, and how many these are.
+    pub(crate) fn rest_at(&self, last: u64) -> Result<ShownRest, OutOfMemory>
+        requires { HoldsOne HoldsTree self.now (λ p. p.last_stage ≡ last) }
+        ensures { (low : ℕ) (p : NaiveClient) → IsWellNamed p → p.last_stage ≡ last → HoldsTree self.now (held_by low p)
+            → IfOk result (λ rest. rest ≡ rest_of (shown_content p)) }
+    {
+        let elements = self.text.shown_count();
+        let intervals = self.text.shown_intervals()?;
+        let cells = self.table.shown_cells()?;
+        Ok(ShownRest {
+            elements,
+            intervals,
+            cells,
+        })
     }
 
     /// The summary of the document, which has nothing pending, with these names of connections.

@@ -9,8 +9,8 @@ pub apply-requires-clause-known : goal.apply-requires-clause-known
 apply-requires-clause-known g c = known-above c.args.self.now c.args.entry.now c.in-Op.op c.reference_number.result c.requires.formed
     c.in-Op.is c.reference_number.ensures c.requires.known
 
-pub returns-in-Elsewhere : goal.returns-in-Elsewhere
-returns-in-Elsewhere g c = λ held named h.
+pub returns-in-Elsewhere-clause-takes : goal.returns-in-Elsewhere-clause-takes
+returns-in-Elsewhere-clause-takes g c = λ held named h.
     let e = c.args.entry.now in
     let new = record c.args.self.now { numbers = c.count_other.new.self } in
     then-ok c.count_other.result c.count_other.ensures
