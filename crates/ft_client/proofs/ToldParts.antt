@@ -1,12 +1,12 @@
 -- What is known at a step of which text and table tell, and what is shown beside the elements.
-use Rattle.std.proofs.Common.{◌≡◌, ◌<◌, ◌≤◌, ◌+◌, ℕ, suc, Bool, true, false, cond, List, [], ◌∷◌, refl, sym, ◌∙◌, ap, arith, length, map}
+use Rattle.std.proofs.Common.{◌≡◌, ◌<◌, ◌≤◌, ◌+◌, ℕ, suc, Bool, true, false, cond, List, [], ◌∷◌, refl, sym, ◌∙◌, ap, arith, length}
 use Rattle.ft_base.specs.Scan.{len, one_more_if}
 use Rattle.ft_changes.specs.declared.rest.ShownRest.{ShownRest}
 use Rattle.ft_changes.specs.Rest.{rest_of}
+use Rattle.ft_replica.specs.Comparing.{compared_part}
+use Rattle.ft_replica.specs.declared.comparing.Compared.{Compared}
 use Rattle.ft_changes.specs.Shown.{shown_content, shown_element, shown_elements}
-use Rattle.ft_msg.specs.Client.{NaiveClient, floor, stages_of}
-use Rattle.ft_msg.specs.Content.{all_cells, interval_record, stage_view}
-use Rattle.ft_op.specs.Stages.{shown_intervals}
+use Rattle.ft_msg.specs.Client.{NaiveClient, floor}
 use Rattle.ft_props.specs.Element.{ListElement, seen}
 use Rattle.ft_sumdoc.specs.declared.summary.CellRec.{CellRec}
 use Rattle.ft_sumdoc.specs.declared.summary.IntervalRec.{IntervalRec}
@@ -38,13 +38,12 @@ shown-length k (x ∷ xs) = step (seen k x) (shown-length k xs)
 abbrev rest_with : ℕ → List IntervalRec → List CellRec → ShownRest
 rest_with n is cs = record { elements = n; intervals = is; cells = cs }
 
--- what is shown beside the elements
-pub rest-shown : (p : NaiveClient) (n : ℕ) (is : List IntervalRec) (cs : List CellRec) → n ≡ len (seen p.last_stage) p.doc.text.items
-    → is ≡ map (interval_record p.last_stage p.doc.text.items) (shown_intervals p.doc.text.items p.doc.intervals (stages_of p))
-    → cs ≡ all_cells p.doc.cells (stages_of p) (stage_view p.last_stage p.doc.cols.items) 0 (stage_view p.last_stage p.doc.rows.items)
-    → rest_with n is cs ≡ rest_of (shown_content p)
-rest-shown p n is cs e f g =
+-- what is compared of what is shown beside the elements
+pub rest-shown : (p : NaiveClient) (compared : Compared) (n : ℕ) (is : List IntervalRec) (cs : List CellRec) → n ≡ len (seen p.last_stage) p.doc.text.items
+    → is ≡ cond compared.intervals (shown_content p).intervals [] → cs ≡ cond compared.cells (shown_content p).cells []
+    → rest_with n is cs ≡ rest_of (compared_part compared (shown_content p))
+rest-shown p compared n is cs e f g =
     let count = length (shown_elements p.last_stage p.doc.text.items) in
     ap (λ k. rest_with k is cs) (e ∙ sym (shown-length p.last_stage p.doc.text.items))
     ∙ ap (λ js. rest_with count js cs) f
-    ∙ ap (rest_with count (shown_content p).intervals) g
+    ∙ ap (rest_with count (cond compared.intervals (shown_content p).intervals [])) g

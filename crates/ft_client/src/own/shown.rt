@@ -1,6 +1,6 @@
 //! What a document of trees shows, and its summary.
 
-ghost use Rattle.std.specs.Prelude.{◌≡◌, ◌<◌, ◌≤◌, ◌^◌, [], ℕ, IfOk, IsTrue, OnOk, length};
+ghost use Rattle.std.specs.Prelude.{◌≡◌, ◌<◌, ◌≤◌, ◌^◌, [], ℕ, IfOk, IsTrue, OnOk, cond, length};
 ghost use Rattle.ft_msg.specs.Answers.{view_content};
 ghost use Rattle.ft_msg.specs.Client.{NaiveClient};
 ghost use Rattle.ft_msg.specs.Content.{content};
@@ -8,6 +8,7 @@ ghost use Rattle.ft_msg.specs.SummaryOf.{summary_of};
 ghost use Rattle.ft_changes.specs.Rest.{rest_of};
 ghost use Rattle.ft_changes.specs.Shown.{shown_content};
 ghost use Rattle.ft_laws_names.specs.WellNamed.{IsWellNamed};
+ghost use Rattle.ft_replica.specs.Comparing.{compared_part};
 ghost use Rattle.ft_replica.specs.Own.{HeldDocument, HoldsOne, NamesFit, held_by};
 ghost use Rattle.ft_laws_summaries.specs.Summaries.{IsSmall};
 ghost use Rattle.ft_sumdoc.specs.Runs.{unit_count};
@@ -20,6 +21,7 @@ use ft_base::{OutOfMemory, Text};
 use ft_changes::ShownRest;
 use ft_json::GREATEST_COUNT;
 use ft_msg::{Numbers, Runs, Spots, View};
+use ft_replica::Compared;
 use ft_sumdoc::{
     CellRecs, IntervalRecs, MOST_UNITS, RunRec, RunRecs, Seg, SegRec, SegRecs, SumDoc, Texts,
 };
@@ -39,20 +41,46 @@ impl TreeOwn {
         Ok(view)
     }
 
-    /// What is shown at the last stage beside the elements, and how many these are.
-    pub(crate) fn rest_at(&self, last: u64) -> Result<ShownRest, OutOfMemory>
+    /// What is compared of what is shown at the last stage beside the elements, and how many these are.
+    pub(crate) fn rest_at(&self, last: u64, compared: Compared) -> Result<ShownRest, OutOfMemory>
         requires { HoldsOne HoldsTree self.now (λ p. p.last_stage ≡ last) }
         ensures { (low : ℕ) (p : NaiveClient) → IsWellNamed p → p.last_stage ≡ last → HoldsTree self.now (held_by low p)
-            → IfOk result (λ rest. rest ≡ rest_of (shown_content p)) }
+            → IfOk result (λ rest. rest ≡ rest_of (compared_part compared (shown_content p))) }
     {
         let elements = self.text.shown_count();
-        let intervals = self.text.shown_intervals()?;
-        let cells = self.table.shown_cells()?;
+        let intervals = self.compared_intervals(last, compared.intervals)?;
+        let cells = self.compared_cells(last, compared.cells)?;
         Ok(ShownRest {
             elements,
             intervals,
             cells,
         })
+    }
+
+    // The shown intervals, if they are asked for, else none.
+    fn compared_intervals(&self, last: u64, asked: bool) -> Result<IntervalRecs, OutOfMemory>
+        requires { HoldsOne HoldsTree self.now (λ p. p.last_stage ≡ last) }
+        ensures { (low : ℕ) (p : NaiveClient) → IsWellNamed p → p.last_stage ≡ last → HoldsTree self.now (held_by low p)
+            → IfOk result (λ intervals. intervals ≡ cond asked (shown_content p).intervals []) }
+    {
+        if asked {
+            self.text.shown_intervals()
+        } else {
+            Ok(IntervalRecs::new(self.text.allocator()))
+        }
+    }
+
+    // The shown cells, if they are asked for, else none.
+    fn compared_cells(&self, last: u64, asked: bool) -> Result<CellRecs, OutOfMemory>
+        requires { HoldsOne HoldsTree self.now (λ p. p.last_stage ≡ last) }
+        ensures { (low : ℕ) (p : NaiveClient) → IsWellNamed p → p.last_stage ≡ last → HoldsTree self.now (held_by low p)
+            → IfOk result (λ cells. cells ≡ cond asked (shown_content p).cells []) }
+    {
+        if asked {
+            self.table.shown_cells()
+        } else {
+            Ok(CellRecs::new(self.text.allocator()))
+        }
     }
 
     /// The summary of the document, which has nothing pending, with these names of connections.

@@ -14,7 +14,7 @@ use ft_base::{OutOfMemory, Steps};
 use ft_changes::{Listener, ShownRest, ViewChanges};
 use ft_msg::{EditFault, Entry};
 use ft_op::ChannelOp;
-use ft_replica::{TellingDocument, ToldEdit};
+use ft_replica::{Compared, TellingDocument, ToldEdit};
 use std::marker::Brand;
 use std::sync::ledger::{Blank, Ledger};
 
@@ -34,8 +34,8 @@ impl TellingDocument for TreeOwn {
         Ok(listener.into_changes())
     }
 
-    fn shown_rest(&self, last: u64) -> Result<ShownRest, OutOfMemory> {
-        self.rest_at(last)
+    fn shown_rest(&self, last: u64, compared: Compared) -> Result<ShownRest, OutOfMemory> {
+        self.rest_at(last, compared)
     }
 }
 
