@@ -81,5 +81,9 @@ python3 "$here/editors.py" | cmp - "$here/editors.told"
 echo "Python, two editors: as editors.told, by views and by changes"
 [ "$(python3 "$here/shown.py")" = "Cell Gone Interval Put PutUnits Style Take TakeUnits" ]
 echo "Python, each kind of change: as the view"
+for seed in 1 2 3; do
+    python3 "$here/told.py" "$seed" 2000 > "$out/told"
+done
+echo "Python, three editors that type at random: changes and views are the same"
 # shellcheck disable=SC2086
 $under "$out/clients"

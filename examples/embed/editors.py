@@ -65,44 +65,47 @@ class Editor:
         return view
 
 
-server = Server()
-ann, bob = Editor(server), Editor(server)
+def main():
+    """What the two of them do, and what they show."""
+    server = Server()
+    ann, bob = Editor(server), Editor(server)
 
+    def exchange():
+        ann.submit()
+        bob.submit()
+        ann.deliver()
+        bob.deliver()
 
-def exchange():
+    def show(when):
+        print(when, *ann.view(), *bob.view(), sep="\n")
+
+    ann.join("ann/1")
+    bob.join("bob/1")
+    exchange()
+    ann.client.insert(0, "The cat sat.")
+    exchange()
+    show("ann has typed")
+    ann.client.insert(4, "black ")
+    bob.client.remove(7, 11)
+    bob.client.insert(7, " slept")
+    show("both have typed")
+    exchange()
+    show("each has heard of the other")
+    bob.leave()
+    bob.client.insert(20, " Quietly.")
+    ann.client.remove(4, 10)
     ann.submit()
-    bob.submit()
     ann.deliver()
+    show("bob is cut off")
+    bob.join("bob/2")
     bob.deliver()
+    exchange()
+    show("bob is back")
+    try:
+        bob.client.insert(100, "!")
+    except ValueError as why:
+        print(why)
 
 
-def show(when):
-    print(when, *ann.view(), *bob.view(), sep="\n")
-
-
-ann.join("ann/1")
-bob.join("bob/1")
-exchange()
-ann.client.insert(0, "The cat sat.")
-exchange()
-show("ann has typed")
-ann.client.insert(4, "black ")
-bob.client.remove(7, 11)
-bob.client.insert(7, " slept")
-show("both have typed")
-exchange()
-show("each has heard of the other")
-bob.leave()
-bob.client.insert(20, " Quietly.")
-ann.client.remove(4, 10)
-ann.submit()
-ann.deliver()
-show("bob is cut off")
-bob.join("bob/2")
-bob.deliver()
-exchange()
-show("bob is back")
-try:
-    bob.client.insert(100, "!")
-except ValueError as why:
-    print(why)
+if __name__ == "__main__":
+    main()
