@@ -1,9 +1,8 @@
 -- Free runs that rise and don't meet, where one is cut, taken out or given back.
-use Rattle.std.proofs.Common.{◌≡◌, ◌≢◌, ℕ, zero, suc, ◌+◌, ◌<◌, ◌≤◌, Bool, true, false, cond, not, nat_le, nat_lt, List, [], ◌∷◌, ◌++◌, Some, None, take, drop, length}
+use Rattle.std.proofs.Common.{◌≡◌, ◌≢◌, ℕ, zero, suc, ◌+◌, ◌<◌, ◌≤◌, Bool, true, false, cond, nat_le, List, [], ◌∷◌, ◌++◌, Some, take, drop, get_or, length}
 use Rattle.std.proofs.Common.{refl, sym, ap, subst, ◌∙◌, inl, inr, arith, true≢false}
-use Rattle.std.specs.Prelude.{slice_get, slice_set, position}
-use Rattle.std.specs.List.{position_or_len}
-use Rattle.std.specs.Option.{unwrap_or}
+use Rattle.std.specs.Prelude.{slice_get, slice_set}
+use Rattle.std.specs.List.Sorted.{IsPartitionPoint, IsPartitionedBy}
 use Rattle.std.proofs.lemmas.Bool.{cases_lt}
 use Rattle.std.proofs.lemmas.Bool.Decides.{nat_tests}
 use Rattle.ft_base.specs.Scan.{one_more_if}
@@ -43,35 +42,34 @@ module _ (x : HandleRun) (n : ℕ) (some : n < x.count) where
 
 -- ---- the place where a run is put in
 
-pub place_is : (h : ℕ) (xs : List HandleRun) → position_or_len (λ x. nat_lt h x.first) xs ≡ begun h xs
-place_is h [] = refl
-place_is h (x ∷ xs) = by_test (nat_le x.first h) refl (place_is h xs)
-  where
-    by_case : (b : Bool) → position_or_len (λ x. nat_lt h x.first) xs ≡ begun h xs
-        → cond (not (not b)) (1 + position_or_len (λ x. nat_lt h x.first) xs) 0 ≡ cond b (suc (begun h xs)) zero
-    by_case true rest = omega (arith, rest)
-    by_case false rest = refl
+first_above : (h j : ℕ) (xs : List HandleRun) (d : HandleRun) → AreBehind h xs → j < length xs → h < (get_or xs j d).first
+first_above h j [] d b lt = absurd (omega arith)
+first_above h zero (x ∷ xs) d b lt = b.0
+first_above h (suc j) (x ∷ xs) d b lt = first_above h j xs d b.1 (omega arith)
 
-    by_test : (b : Bool) → nat_le x.first h ≡ b → position_or_len (λ x. nat_lt h x.first) xs ≡ begun h xs
-        → position_or_len (λ x. nat_lt h x.first) (x ∷ xs) ≡ cond (nat_le x.first h) (suc (begun h xs)) zero
-    by_test b e rest =
-        let other : nat_lt h x.first ≡ not b = grind (arith, nat_tests, e) in
-        ap (λ t. cond (not t) (1 + position_or_len (λ x. nat_lt h x.first) xs) 0) other ∙ by_case b rest ∙ ap (λ t. cond t (suc (begun h xs)) zero) (sym e)
+firsts_rise : (xs : List HandleRun) → AreApart xs → (i j : ℕ) (d : HandleRun) → i ≤ j → j < length xs → (get_or xs i d).first ≤ (get_or xs j d).first
+firsts_rise [] a i j d le lt = absurd (omega arith)
+firsts_rise (x ∷ xs) a zero zero d le lt = omega arith
+firsts_rise (x ∷ xs) a zero (suc j) d le lt = omega (arith, first_above (x.first + x.count) j xs d a.1 (omega arith))
+firsts_rise (x ∷ xs) a (suc i) zero d le lt = absurd (omega arith)
+firsts_rise (x ∷ xs) a (suc i) (suc j) d le lt = firsts_rise xs a.2 i j d (omega arith) (omega arith)
 
-pub unwrapped : {X : Type 0} (p : X → Bool) (xs : List X) → position_or_len p xs ≤ length xs → unwrap_or (position p xs) (length xs) ≡ position_or_len p xs
-unwrapped p xs within = by_test (nat_lt (position_or_len p xs) (length xs)) refl
-  where
-    by_test : (b : Bool) → nat_lt (position_or_len p xs) (length xs) ≡ b → unwrap_or (cond b (Some (position_or_len p xs)) None) (length xs) ≡ position_or_len p xs
-    by_test true e = refl
-    by_test false e = grind (arith, nat_tests, e, within)
+begun_too : (n m h : ℕ) → n ≤ m → nat_le m h ≡ true → nat_le n h ≡ true
+begun_too n m h le t = grind (arith, nat_tests)
 
-pub begun_within : (h : ℕ) (xs : List HandleRun) → begun h xs ≤ length xs
-begun_within h [] = omega arith
-begun_within h (x ∷ xs) = by_test (nat_le x.first h) (begun_within h xs)
-  where
-    by_test : (b : Bool) → begun h xs ≤ length xs → cond b (suc (begun h xs)) zero ≤ suc (length xs)
-    by_test true rest = omega (arith, rest)
-    by_test false rest = omega arith
+pub partitioned : (h : ℕ) (xs : List HandleRun) → AreApart xs → IsPartitionedBy (λ x. nat_le x.first h) xs
+partitioned h xs a = λ i j d le lt t. begun_too (get_or xs i d).first (get_or xs j d).first h (firsts_rise xs a i j d le lt) t
+
+pub point_begun : (h i : ℕ) (xs : List HandleRun) → i ≤ length xs → IsPartitionPoint (λ x. nat_le x.first h ≡ true) (λ x. nat_le x.first h ≡ false) xs i
+    → i ≡ begun h xs
+point_begun h i [] le p = omega arith
+point_begun h zero (x ∷ xs) le p =
+    let no : nat_le x.first h ≡ false = p.1 0 x (omega arith) (omega arith) in
+    sym (ap (λ b. cond b (suc (begun h xs)) zero) no)
+point_begun h (suc i) (x ∷ xs) le p =
+    let yes : nat_le x.first h ≡ true = p.0 0 x (omega arith) (omega arith) in
+    let rest = point_begun h i xs (omega arith) (λ k d lo hi. p.0 (suc k) d (omega arith) (omega arith), λ k d lo hi. p.1 (suc k) d (omega arith) (omega arith)) in
+    ap (λ n. suc n) rest ∙ sym (ap (λ b. cond b (suc (begun h xs)) zero) yes)
 
 -- ---- a run is given back
 

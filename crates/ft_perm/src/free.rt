@@ -1,6 +1,6 @@
 //! Free handles as runs in rising order, of which no two meet.
 
-ghost use Rattle.std.specs.Prelude.{◌≡◌, ℕ, ◌+◌, ◌<◌, ◌≤◌, IfSome, OnOk, OnErr, length, nat_le, nat_lt, position, slice_get, true};
+ghost use Rattle.std.specs.Prelude.{◌≡◌, ℕ, ◌+◌, ◌<◌, ◌≤◌, IfSome, OnOk, OnErr, length, nat_le, position, slice_get, true};
 ghost use Rattle.ft_base.specs.Scan.{one_more_if};
 ghost use Rattle.ft_perm.specs.Handles.{in_run};
 ghost use Rattle.ft_perm.specs.Vectors.{AreApart, begun, joined_at, times_held};
@@ -33,10 +33,11 @@ pub fn take_front(free: &mut Vec<Handles>, i: usize, count: u64) -> Handles
     free[i].take_front(count)
 }
 
-/// Adds a run in its place, and joins it with the runs that it meets.
+/// Adds a run in its place, which is found by halves, and joins it with the runs that it meets.
 ///
 /// Returns `OutOfMemory` where there is no room for it, and then the runs are as they were.
 pub fn give_back(free: &mut Vec<Handles>, run: Handles) -> Result<(), OutOfMemory>
+    requires { AreApart free.old.items }
     ensures ok { OnOk result ((h : ℕ) → times_held h free.new.items ≡ times_held h free.old.items + one_more_if (in_run h run) 0) }
     ensures err { OnErr result (free.new.items ≡ free.old.items) }
     ensures apart { OnOk result (AreApart free.old.items → ((h : ℕ) → in_run h run ≡ true → times_held h free.old.items ≡ 0) → AreApart free.new.items) }
@@ -52,17 +53,11 @@ pub fn give_back(free: &mut Vec<Handles>, run: Handles) -> Result<(), OutOfMemor
 
 // The place of the first run that begins behind `first`, or the end.
 fn place_for(free: &[Handles], first: u64) -> usize
+    requires { AreApart free.now }
     ensures within { result ≤ length free.now }
     ensures place { result ≡ begun first free.now }
 {
-    first_behind(free, first).unwrap_or(free.len())
-}
-
-// The same where there is one.
-fn first_behind(free: &[Handles], first: u64) -> Option<usize>
-    ensures { result ≡ position (λ run. nat_lt first run.first) free.now }
-{
-    free.iter().position(|run| first < run.first)
+    free.partition_point(|run| run.first <= first)
 }
 
 // Joins the run at place `i` with the one behind it, where they meet.

@@ -18,7 +18,8 @@ use std::marker::Model;
 /// are free again. A handle is in use where it is below the next fresh one and isn't free. Who changes the tree keeps
 /// the vector proper: each handle of its elements is in use, and no two elements have the same one.
 ///
-/// `alloc_run` and `recycle` look at the runs of free handles one by one.
+/// `alloc_run` looks at the runs of free handles one by one, up to the first that has enough; `recycle` finds its place
+/// among them by halves.
 #[derive(Drop)]
 pub struct Vector {
     pub tree: Tree<Handles>,

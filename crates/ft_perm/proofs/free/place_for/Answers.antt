@@ -1,12 +1,13 @@
-use Rattle.std.proofs.Common.{length, nat_lt, subst, sym, ap, ◌∙◌, ◌≤◌}
-use Rattle.std.specs.Option.{unwrap_or}
-use Rattle.ft_perm.specs.Handles.{HandleRun}
-use Rattle.ft_perm.proofs.ApartRuns.{begun_within, place_is, unwrapped}
+use Rattle.std.proofs.Common.{nat_le, rules, tests}
+use Rattle.std.proofs.lemmas.List.Sorted.{IsPartitionPoint-from_clause}
+use Rattle.ft_perm.proofs.ApartRuns.{partitioned, point_begun}
 use Rattle.ft_perm.proofs.free.place_for.Goals as goal
 
 pub returns-clause-place : goal.returns-clause-place
 returns-clause-place c =
     let xs = c.args.free.now in
-    let same = place_is c.args.first xs in
-    let within = subst (λ n. n ≤ length xs) (sym same) (begun_within c.args.first xs) in
-    c.unwrap_or.ensures ∙ ap (λ o. unwrap_or o (length xs)) c.first_behind.ensures ∙ unwrapped (λ (x : HandleRun). nat_lt c.args.first x.first) xs within ∙ same
+    let h = c.args.first in
+    point_begun h c.partition_point.result xs c.partition_point.ensures.bound
+    (IsPartitionPoint-from_clause (λ x. nat_le x.first h) xs c.partition_point.result c.partition_point.ensures.partitioned (partitioned h xs
+    c.requires)
+    (λ a r f' k. search (rules, tests)))
