@@ -19,6 +19,7 @@ use Rattle.ft_msg.specs.Compacted.{IsCompacted}
 use Rattle.ft_msg.specs.Indexed.{indexed_client}
 use Rattle.ft_msg.specs.Process.{after_entry, is_op, is_own, is_own_join, process}
 use Rattle.ft_msg.specs.Reached.{IsReached}
+use Rattle.ft_changes.specs.Beside.{entry_moves_ends_alike, is_changed_around, is_changed_by}
 use Rattle.ft_changes.specs.Shown.{ShownContent, after_changes, as_view, shown_content}
 use Rattle.ft_changes.specs.Told.{told_cells, told_edit, told_edit_lists, told_intervals, told_lists, told_of_entry}
 
@@ -228,3 +229,30 @@ abbrev pub KeptEditsLeaveCells : Type 0
 KeptEditsLeaveCells =
     (kept x z : NaiveClient) (op : ChannelOp) → IsReached x → IsCompacted kept x → local_edit kept op ≡ Ok z
     → list_any changes_table (sub_operations op) ≡ false → told_cells (after_edit_lists kept op).cells (shown_content z).cells ≡ []
+
+-- of intervals only those can be told by an edit that it adds, changes or deletes: it is enough to compare these
+abbrev pub EditsTellTheirIntervals : Type 0
+EditsTellTheirIntervals =
+    (x y : NaiveClient) (op : ChannelOp) → IsReached x → local_edit x op ≡ Ok y
+    → told_intervals (after_edit_lists x op).intervals (shown_content y).intervals
+    ≡ told_intervals (filter (is_changed_by (sub_operations op)) (after_edit_lists x op).intervals) (filter (is_changed_by (sub_operations op)) (shown_content y).intervals)
+
+abbrev pub KeptEditsTellTheirIntervals : Type 0
+KeptEditsTellTheirIntervals =
+    (kept x z : NaiveClient) (op : ChannelOp) → IsReached x → IsCompacted kept x → local_edit kept op ≡ Ok z
+    → told_intervals (after_edit_lists kept op).intervals (shown_content z).intervals
+    ≡ told_intervals (filter (is_changed_by (sub_operations op)) (after_edit_lists kept op).intervals) (filter (is_changed_by (sub_operations op)) (shown_content z).intervals)
+
+-- and by a message that moves the ends as it moves the lists only those that it or a pending stage adds, changes or deletes
+abbrev pub MessagesTellTheirIntervals : Type 0
+MessagesTellTheirIntervals =
+    (x y : NaiveClient) (entry : Entry) → IsReached x → has_fitting_body entry ≡ true → process x entry ≡ Ok y → entry_moves_ends_alike x entry ≡ true
+    → told_intervals (after_lists x entry).intervals (shown_content y).intervals
+    ≡ told_intervals (filter (is_changed_around x entry) (after_lists x entry).intervals) (filter (is_changed_around x entry) (shown_content y).intervals)
+
+abbrev pub KeptMessagesTellTheirIntervals : Type 0
+KeptMessagesTellTheirIntervals =
+    (kept x y : NaiveClient) (entry : Entry) → IsReached x → IsCompacted kept x → has_fitting_body entry ≡ true → process x entry ≡ Ok y
+    → entry_moves_ends_alike kept entry ≡ true
+    → told_intervals (after_lists kept entry).intervals (shown_content (after_entry kept entry)).intervals
+    ≡ told_intervals (filter (is_changed_around kept entry) (after_lists kept entry).intervals) (filter (is_changed_around kept entry) (shown_content (after_entry kept entry)).intervals)

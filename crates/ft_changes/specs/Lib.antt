@@ -3,6 +3,7 @@ pub mod PlacedRuns
 pub mod Shown
 pub mod Told
 pub mod Telling
+pub mod Beside
 pub mod Laws
 pub mod Rest
 pub mod Listeners
