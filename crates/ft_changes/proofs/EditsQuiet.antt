@@ -1,4 +1,5 @@
--- An edit of the client's own tells no interval where it has no operation of theirs, and no cell where none of its operations is on the table.
+-- An edit of the client's own moves the intervals as it moves the lists where it has no operation of theirs, and tells no cell where none of its
+-- operations is on the table.
 use Rattle.std.proofs.Common.{◌≡◌, ℕ, ◌+◌, ◌-◌, ◌≤◌, Bool, true, false, cond, not, ◌&&◌, ◌||◌, List, [], ◌∷◌, ◌++◌, Option, Some, None, Result, Ok, Err, append_assoc, append-nil, refl, sym, ◌∙◌, ap, subst, arith, filter, flat_map, length, map}
 use Rattle.std.specs.List.{list_all, list_any}
 use Rattle.ft_base.proofs.Booleans.{both}
@@ -34,7 +35,7 @@ use Rattle.ft_changes.specs.declared.changes.ViewChange.TheVariants.{Put}
 use Rattle.ft_changes.specs.Laws.{after_edit_lists, changes_intervals, changes_table}
 use Rattle.ft_changes.specs.Shown.{ShownContent, after_changes, shown_content, shown_properties}
 use Rattle.ft_changes.specs.ShownRuns.{changed_runs, gone_runs}
-use Rattle.ft_changes.specs.Told.{told_cells, told_intervals, told_local, told_locals}
+use Rattle.ft_changes.specs.Told.{told_cells, told_local, told_locals}
 use Rattle.ft_changes.proofs.AckedLists.{neither}
 use Rattle.ft_changes.proofs.CellsLead.{styled-cells, taken-cells, text-cells}
 use Rattle.ft_changes.proofs.ForeignSteps.{after-append}
@@ -42,7 +43,7 @@ use Rattle.ft_changes.proofs.LocalEnds.{is_known, named-known}
 use Rattle.ft_changes.proofs.LocalIntervals.{AreNamesKnown, AreStagesKnown, Leads, all-lead}
 use Rattle.ft_changes.proofs.LocalLaw.{IsEdited, Made, client-shows, drafted, front-parts, in-range, with_front}
 use Rattle.ft_changes.proofs.LocalSteps.{is_up_to, seen-later}
-use Rattle.ft_changes.proofs.NothingTold.{cells-same-none, intervals-same-none}
+use Rattle.ft_changes.proofs.NothingTold.{cells-same-none}
 use Rattle.ft_changes.proofs.ToldItems.{Rise}
 
 -- ---- the client before the edit
@@ -79,7 +80,7 @@ each-known : (doc : Document) (stages : List Stage) → Each (λ (t : Stage). Is
 each-known doc [] h = tt
 each-known doc (t ∷ stages) h = (known-names doc t.stage t.names t.sub_operation h.0, each-known doc stages h.1)
 
-before-edit : (x : NaiveClient) → IsReady x → Rise interval_cmp x.doc.intervals → Leads x.last_stage (shown_content x) x.doc (stages_of x)
+pub before-edit : (x : NaiveClient) → IsReady x → Rise interval_cmp x.doc.intervals → Leads x.last_stage (shown_content x) x.doc (stages_of x)
 before-edit x ready rise =
     let xs = x.doc.text.items in
     let marks = all-weaker (has_marks_of inserts_text removes_text (stages_of x)) (is_left inserts_text removes_text (stages_of x) 0)
@@ -112,7 +113,7 @@ drafted-pending None n z = refl
 drafted-pending (Some sent) n z = refl
 
 -- what an edit that was taken made
-record Took (x y : NaiveClient) (op : ChannelOp) : Type 0 where
+pub record Took (x y : NaiveClient) (op : ChannelOp) : Type 0 where
   pub doc : Document
   pub stages : List Stage
   pub made : local_sub_operations x.doc (stages_of x) (x.last_stage + 1) (sub_operations op) ≡ Ok (doc, stages)
@@ -120,7 +121,7 @@ record Took (x y : NaiveClient) (op : ChannelOp) : Type 0 where
   pub last : y.last_stage ≡ x.last_stage + length stages
   pub all : stages_of y ≡ stages_of x ++ stages
 
-took : (x y : NaiveClient) (op : ChannelOp) → local_edit x op ≡ Ok y → Took x y op
+pub took : (x y : NaiveClient) (op : ChannelOp) → local_edit x op ≡ Ok y → Took x y op
 took x y op e = by (local_sub_operations x.doc (stages_of x) (x.last_stage + 1) (sub_operations op)) refl e
   where
     by : (r : Made) → local_sub_operations x.doc (stages_of x) (x.last_stage + 1) (sub_operations op) ≡ r
@@ -330,13 +331,6 @@ edit-leaves-cells x y op ready rise e none =
     ∙ ap (λ stages. shown y.last_stage y.doc.cells stages y.doc.cols.items y.doc.rows.items) (sym t.all)
 
 -- ---- what is told
-
-pub edit-tells-no-interval : (x y : NaiveClient) (op : ChannelOp) → IsReady x → IsReady y → Rise interval_cmp x.doc.intervals → local_edit x op
-    ≡ Ok y
-    → list_any changes_intervals (sub_operations op) ≡ false → told_intervals (after_edit_lists x op).intervals (shown_content y).intervals ≡ []
-edit-tells-no-interval x y op ready after rise e none =
-    ap (λ is. told_intervals is (shown_content y).intervals) (edit-moves x y op ready after rise e none) ∙ intervals-same-none
-    (shown_content y).intervals
 
 pub edit-tells-no-cell : (x y : NaiveClient) (op : ChannelOp) → IsReady x → Rise interval_cmp x.doc.intervals → local_edit x op ≡ Ok y
     → list_any changes_table (sub_operations op) ≡ false → told_cells (after_edit_lists x op).cells (shown_content y).cells ≡ []

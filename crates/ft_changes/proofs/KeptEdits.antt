@@ -1,5 +1,5 @@
--- What an edit doesn't tell, of a client that steps made and of one that keeps such a client.
-use Rattle.std.proofs.Common.{◌≡◌, false, [], Result, Ok, Err, refl, sym, ap, subst}
+-- What an edit tells of intervals, and what it doesn't tell of cells, of a client that steps made and of one that keeps such a client.
+use Rattle.std.proofs.Common.{◌≡◌, false, [], Result, Ok, Err, refl, sym, ap, filter, subst}
 use Rattle.std.specs.List.{list_any}
 use Rattle.ft_op.specs.declared.operations.ChannelOp.{ChannelOp}
 use Rattle.ft_op.specs.Document.{Document}
@@ -17,11 +17,13 @@ use Rattle.ft_laws_compaction.specs.Keeping.{AnswersAlike, refused, taken}
 use Rattle.ft_laws_compaction.proofs.AllSteps.{reached-sound}
 use Rattle.ft_laws_compaction.proofs.KeptReady.{kept-ready}
 use Rattle.ft_laws_compaction.proofs.KeptSteps.{edits-answer}
-use Rattle.ft_changes.specs.Laws.{after_edit_lists, changes_intervals, changes_table}
+use Rattle.ft_changes.specs.Beside.{is_changed_by}
+use Rattle.ft_changes.specs.Laws.{after_edit_lists, changes_table}
 use Rattle.ft_changes.specs.Shown.{shown_content}
 use Rattle.ft_changes.specs.Told.{told_cells, told_intervals}
-use Rattle.ft_changes.proofs.EditsQuiet.{edit-tells-no-cell, edit-tells-no-interval}
+use Rattle.ft_changes.proofs.EditsQuiet.{edit-tells-no-cell}
 use Rattle.ft_changes.proofs.OrderedIntervals.{reached-rise}
+use Rattle.ft_changes.proofs.OwnIntervals.{edit-tells-its-intervals}
 use Rattle.ft_changes.proofs.ToldItems.{Rise}
 
 reached-ready : (x : NaiveClient) → IsReached x → IsReady x
@@ -30,11 +32,12 @@ reached-ready x reached = client-ready-from reached.start reached.steps x (reach
 reached-edit : (x y : NaiveClient) (op : ChannelOp) → IsReached x → local_edit x op ≡ Ok y → IsReached y
 reached-edit x y op reached e = reached-after x y (Edits op) reached (ap unless_refused e) refl
 
-pub edits-move-no-interval : (x y : NaiveClient) (op : ChannelOp) → IsReached x → local_edit x op ≡ Ok y → list_any changes_intervals
-    (sub_operations op) ≡ false
-    → told_intervals (after_edit_lists x op).intervals (shown_content y).intervals ≡ []
-edits-move-no-interval x y op reached e none =
-    edit-tells-no-interval x y op (reached-ready x reached) (reached-ready y (reached-edit x y op reached e)) (reached-rise x reached) e none
+pub edits-tell-their-intervals : (x y : NaiveClient) (op : ChannelOp) → IsReached x → local_edit x op ≡ Ok y
+    → told_intervals (after_edit_lists x op).intervals (shown_content y).intervals
+    ≡ told_intervals (filter (is_changed_by (sub_operations op)) (after_edit_lists x op).intervals)
+    (filter (is_changed_by (sub_operations op)) (shown_content y).intervals)
+edits-tell-their-intervals x y op reached e =
+    edit-tells-its-intervals x y op (reached-ready x reached) (reached-rise x reached) e (reached-ready y (reached-edit x y op reached e))
 
 pub edits-leave-cells : (x y : NaiveClient) (op : ChannelOp) → IsReached x → local_edit x op ≡ Ok y → list_any changes_table (sub_operations op)
     ≡ false
@@ -63,9 +66,10 @@ module _ (kept x z : NaiveClient) (op : ChannelOp) (reached : IsReached x) (k : 
       let next = reached-edit x answer.0 op reached answer.1.0 in
       kept-ready next.steps answer.0 z (reached-sound answer.0 next) answer.1.1
 
-  pub kept-edits-move-no-interval : list_any changes_intervals (sub_operations op) ≡ false → told_intervals (after_edit_lists kept op).intervals
-      (shown_content z).intervals ≡ []
-  kept-edits-move-no-interval none = edit-tells-no-interval kept z op ready after rise e none
+  pub kept-edits-tell-their-intervals : told_intervals (after_edit_lists kept op).intervals (shown_content z).intervals
+      ≡ told_intervals (filter (is_changed_by (sub_operations op)) (after_edit_lists kept op).intervals)
+      (filter (is_changed_by (sub_operations op)) (shown_content z).intervals)
+  kept-edits-tell-their-intervals = edit-tells-its-intervals kept z op ready rise e after
 
   pub kept-edits-leave-cells : list_any changes_table (sub_operations op) ≡ false → told_cells (after_edit_lists kept op).cells
       (shown_content z).cells ≡ []

@@ -35,6 +35,9 @@ pub mod SlidNumbers
 pub mod IntervalsLead
 pub mod QuietIntervals
 pub mod FilteredItems
+pub mod FilteredIntervals
+pub mod OwnIntervals
+pub mod NamedIntervals
 pub mod SetCells
 pub mod RestSteps
 pub mod RunsInOrder

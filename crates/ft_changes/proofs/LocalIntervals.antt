@@ -99,7 +99,7 @@ names-weaker xs ys f names (OnIntervals op) h =
     (held-weaker (is_known xs) (is_known ys) f names.first q.0)
     (held-weaker (is_known xs) (is_known ys) f names.second q.1)
 
-shown-append : (xs : List ListElement) (is : List Interval) (ts us : List Stage) → shown_intervals xs is (ts ++ us) ≡ shown_intervals xs
+pub shown-append : (xs : List ListElement) (is : List Interval) (ts us : List Stage) → shown_intervals xs is (ts ++ us) ≡ shown_intervals xs
     (shown_intervals xs is ts) us
 shown-append xs is [] us = refl
 shown-append xs is (t ∷ ts) us = shown-append xs (intervals_after_stage t.sub_operation (settle_elements xs t.stage t.names)

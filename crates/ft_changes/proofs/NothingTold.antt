@@ -62,7 +62,7 @@ module _ {A : Type 0} (order : A → A → Ordering) (same : A → A → Bool) (
 pub own-cell : (c : CellRec) → same_cell_value c c ≡ true
 own-cell c = (bytes_eq-Decides c.value c.value).1 refl
 
-own-interval : (i : IntervalRec) → same_interval i i ≡ true
+pub own-interval : (i : IntervalRec) → same_interval i i ≡ true
 own-interval i =
     ap (λ b. b && int_eq i.ends.end i.ends.end && same_props i.props i.props) ((Decides-int_eq i.ends.start i.ends.start).1 refl)
     ∙ ap (λ b. b && same_props i.props i.props) ((Decides-int_eq i.ends.end i.ends.end).1 refl) ∙ (same_props-Decides i.props i.props).1 refl

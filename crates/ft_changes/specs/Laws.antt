@@ -207,24 +207,13 @@ CellsToldAreSet =
 abbrev pub after_edit_lists : NaiveClient → ChannelOp → ShownContent
 after_edit_lists x op = after_changes (shown_content x) (told_edit_lists x op)
 
--- an edit without an operation of intervals tells none, whatever is pending
-abbrev pub EditsMoveNoInterval : Type 0
-EditsMoveNoInterval =
-    (x y : NaiveClient) (op : ChannelOp) → IsReached x → local_edit x op ≡ Ok y → list_any changes_intervals (sub_operations op) ≡ false
-    → told_intervals (after_edit_lists x op).intervals (shown_content y).intervals ≡ []
-
--- and one without an operation of the table tells no cell
+-- an edit without an operation of the table tells no cell
 abbrev pub EditsLeaveCells : Type 0
 EditsLeaveCells =
     (x y : NaiveClient) (op : ChannelOp) → IsReached x → local_edit x op ≡ Ok y → list_any changes_table (sub_operations op) ≡ false
     → told_cells (after_edit_lists x op).cells (shown_content y).cells ≡ []
 
 -- so it is with a client that keeps x but for what compaction takes away, and is z after the edit
-abbrev pub KeptEditsMoveNoInterval : Type 0
-KeptEditsMoveNoInterval =
-    (kept x z : NaiveClient) (op : ChannelOp) → IsReached x → IsCompacted kept x → local_edit kept op ≡ Ok z
-    → list_any changes_intervals (sub_operations op) ≡ false → told_intervals (after_edit_lists kept op).intervals (shown_content z).intervals ≡ []
-
 abbrev pub KeptEditsLeaveCells : Type 0
 KeptEditsLeaveCells =
     (kept x z : NaiveClient) (op : ChannelOp) → IsReached x → IsCompacted kept x → local_edit kept op ≡ Ok z

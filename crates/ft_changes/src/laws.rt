@@ -1,13 +1,13 @@
 //! Laws of what is told, each a clause of a function without code.
 
-ghost use Rattle.ft_changes.specs.Laws.{AckMovesNoInterval, AckTellsNothing, CellsToldAreSet, EditsLeaveCells, EditsMoveNoInterval, KeptAckTellsNothing, KeptEditsLeaveCells, KeptEditsMoveNoInterval, KeptIsShown, KeptJoinTellsNothing, KeptQuietIntervals, KeptTells, KeptTellsEdits, KeptTellsTheSame, KeptUnsetCellsTellNothing, NamelessIsShown, OwnJoinTellsNothing, QuietIntervals, ShownIsContent, ToldEditLeadsOn, ToldInPlaceOf, ToldLeadsOn, ToldListsLead, UnsetCellsTellNothing};
+ghost use Rattle.ft_changes.specs.Laws.{AckMovesNoInterval, AckTellsNothing, CellsToldAreSet, EditsLeaveCells, EditsTellTheirIntervals, KeptAckTellsNothing, KeptEditsLeaveCells, KeptEditsTellTheirIntervals, KeptIsShown, KeptJoinTellsNothing, KeptQuietIntervals, KeptTells, KeptTellsEdits, KeptTellsTheSame, KeptUnsetCellsTellNothing, NamelessIsShown, OwnJoinTellsNothing, QuietIntervals, ShownIsContent, ToldEditLeadsOn, ToldInPlaceOf, ToldLeadsOn, ToldListsLead, UnsetCellsTellNothing};
 
 /// What an editor keeps of the text as elements is what the view has; and an editor that applies what it is told of an
 /// entry or of an edit of its own shows what the client shows after it. But for cells and intervals the changes of the
 /// lists lead there alone. Of its own join a client tells nothing, and its own message moves no interval as it comes
 /// back, so it tells nothing of that either. Of a message that sets no cell none is told, and else only cells that it
-/// sets; and no interval, where nothing is pending and the message has no interval operation. Of an edit without an
-/// interval operation no interval is told, whatever is pending, and of one that isn't on the table no cell.
+/// sets; and no interval, where nothing is pending and the message has no interval operation. Of an edit only intervals
+/// are told that it adds, changes or deletes, whatever is pending, and of one that isn't on the table no cell.
 pub fn telling()
     ensures kept { ShownIsContent }
     ensures lists { ToldListsLead }
@@ -19,8 +19,8 @@ pub fn telling()
     ensures cells { UnsetCellsTellNothing }
     ensures quiet { QuietIntervals }
     ensures set { CellsToldAreSet }
-    ensures still { EditsMoveNoInterval }
     ensures texts { EditsLeaveCells }
+    ensures edited { EditsTellTheirIntervals }
 {}
 
 /// A client that keeps another but for what compaction takes away shows the same as elements too, and tells just the
@@ -38,6 +38,6 @@ pub fn telling_of_kept()
     ensures same { KeptTellsTheSame }
     ensures cells { KeptUnsetCellsTellNothing }
     ensures quiet { KeptQuietIntervals }
-    ensures still { KeptEditsMoveNoInterval }
     ensures texts { KeptEditsLeaveCells }
+    ensures edited { KeptEditsTellTheirIntervals }
 {}

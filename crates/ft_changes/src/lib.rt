@@ -5,6 +5,7 @@ pub mod changes;
 mod items;
 pub mod laws;
 pub mod listeners;
+pub mod named;
 pub mod rest;
 pub mod runs;
 pub mod telling;

@@ -1,6 +1,6 @@
 use Rattle.ft_changes.proofs.AckedClient.{ack-moves-none}
 use Rattle.ft_changes.proofs.CellsTold.{unset-cells-tell-nothing}
-use Rattle.ft_changes.proofs.KeptEdits.{edits-leave-cells, edits-move-no-interval}
+use Rattle.ft_changes.proofs.KeptEdits.{edits-leave-cells, edits-tell-their-intervals}
 use Rattle.ft_changes.proofs.LocalLaw.{told-edit-leads-on}
 use Rattle.ft_changes.proofs.NothingTold.{ack-tells-nothing, own-join-tells-nothing}
 use Rattle.ft_changes.proofs.QuietIntervals.{quiet-intervals}
@@ -39,8 +39,8 @@ returns-clause-quiet c = quiet-intervals
 pub returns-clause-set : goal.returns-clause-set
 returns-clause-set c = told-cells-set
 
-pub returns-clause-still : goal.returns-clause-still
-returns-clause-still c = edits-move-no-interval
-
 pub returns-clause-texts : goal.returns-clause-texts
 returns-clause-texts c = edits-leave-cells
+
+pub returns-clause-edited : goal.returns-clause-edited
+returns-clause-edited c = edits-tell-their-intervals

@@ -1,6 +1,6 @@
 use Rattle.ft_changes.proofs.CellsTold.{kept-unset-cells-tell-nothing}
 use Rattle.ft_changes.proofs.KeptClients.{kept-is-shown, told-by-stand-in}
-use Rattle.ft_changes.proofs.KeptEdits.{kept-edits-leave-cells, kept-edits-move-no-interval}
+use Rattle.ft_changes.proofs.KeptEdits.{kept-edits-leave-cells, kept-edits-tell-their-intervals}
 use Rattle.ft_changes.proofs.KeptTells.{kept-ack-tells-nothing, kept-join-tells-nothing, kept-tells, kept-tells-edits}
 use Rattle.ft_changes.proofs.KeptTold.{kept-tells-the-same}
 use Rattle.ft_changes.proofs.NamelessClients.{nameless-is-shown}
@@ -37,8 +37,8 @@ returns-clause-cells c = kept-unset-cells-tell-nothing
 pub returns-clause-quiet : goal.returns-clause-quiet
 returns-clause-quiet c = kept-quiet-intervals
 
-pub returns-clause-still : goal.returns-clause-still
-returns-clause-still c = kept-edits-move-no-interval
-
 pub returns-clause-texts : goal.returns-clause-texts
 returns-clause-texts c = kept-edits-leave-cells
+
+pub returns-clause-edited : goal.returns-clause-edited
+returns-clause-edited c = kept-edits-tell-their-intervals
