@@ -46,7 +46,7 @@ map-same test f g same (x ∷ xs) h =
     let p = both (test x) (list_all test xs) h in
     ap (λ y. y ∷ map f xs) (same x p.0) ∙ ap (λ ys. g x ∷ ys) (map-same test f g same xs p.1)
 
-map-twice : {A B C : Type 0} (f : B → C) (g : A → B) (xs : List A) → map f (map g xs) ≡ map (λ x. f (g x)) xs
+pub map-twice : {A B C : Type 0} (f : B → C) (g : A → B) (xs : List A) → map f (map g xs) ≡ map (λ x. f (g x)) xs
 map-twice f g [] = refl
 map-twice f g (x ∷ xs) = ap (λ ys. f (g x) ∷ ys) (map-twice f g xs)
 
@@ -61,7 +61,7 @@ module _ (k n c : ℕ) where
   new-shown m by props [] = tt
   new-shown m by props (b ∷ bs) = (refl, refl, new-shown (m + 1) by props bs)
 
-  new-count : (m : ℕ) (by : Option Stamp) (props : PropertyList) (bs : List ElementContent)
+  pub new-count : (m : ℕ) (by : Option Stamp) (props : PropertyList) (bs : List ElementContent)
       → len (seen k) (new_elements m (Acked n c) [] by props bs) ≡ length bs
   new-count m by props [] = refl
   new-count m by props (b ∷ bs) = ap suc (new-count (m + 1) by props bs)
@@ -247,7 +247,7 @@ module _ (k n c r : ℕ) where
     put-shown = put-are_shown k see is_pending p (new_elements doc.text.made (Acked n c) [] by props bs) xs (new-shown k n c doc.text.made by props
         bs) h.shown
 
-    put-end : (o : Option ElementId) → is_end_on xs o ≡ true → end_after_put place (length bs) (end_number k xs o) ≡ end_number k ys o
+    pub put-end : (o : Option ElementId) → is_end_on xs o ≡ true → end_after_put place (length bs) (end_number k xs o) ≡ end_number k ys o
     put-end None e = refl
     put-end (Some a) e =
         let new = new_elements doc.text.made (Acked n c) [] by props bs in
@@ -299,7 +299,7 @@ module _ (k n c r : ℕ) where
     take-shown : AreShown k left
     take-shown = range-are_shown k (with_removal n c) (λ x e. removed-gone n c x ∙ sym (removed-hidden k n c x)) (λ x. refl) see p q 0 before h.shown
 
-    take-end : (o : Option ElementId) → is_end_on before o ≡ true → after_runs runs (shown_elements k before) (end_number k before o)
+    pub take-end : (o : Option ElementId) → is_end_on before o ≡ true → after_runs runs (shown_elements k before) (end_number k before o)
         ≡ end_number k left (slide left o)
     take-end None e = detached-stays runs (shown_elements k before) 0
     take-end (Some a) e =
@@ -326,7 +326,7 @@ module _ (k n c r : ℕ) where
     abbrev annotated : List ListElement
     annotated = change_range (seen_by r c) p q (with_annotation changes) doc.text.items
 
-    annotated-end : (o : Option ElementId) → end_number k annotated o ≡ end_number k doc.text.items o
+    pub annotated-end : (o : Option ElementId) → end_number k annotated o ≡ end_number k doc.text.items o
     annotated-end None = refl
     annotated-end (Some a) = ap pos (range-rank (with_annotation changes) (λ x. refl) see p q a k (λ x. refl) 0 doc.text.items)
 
@@ -335,7 +335,7 @@ module _ (k n c r : ℕ) where
     annotated-intervals (i ∷ is) = rw (annotated-end i.start, annotated-end i.end, annotated-intervals is) refl
 
   -- what is shown, and that nothing is pending
-  record Leads (t : ShownContent) (doc : Document) : Type 0 where
+  pub record Leads (t : ShownContent) (doc : Document) : Type 0 where
     pub intervals : ShowsIntervals t doc
     pub shown : AreShown k doc.text.items
 
@@ -435,7 +435,7 @@ module _ (k n c r : ℕ) where
       by (Some row) None = record { intervals = is; shown = h.shown }
       by None col = record { intervals = is; shown = h.shown }
 
-  effect-leads : (t : ShownContent) (doc : Document) (o : SubOperation) → changes_intervals o ≡ false → ShowsLists k t doc → IsQuiet doc
+  pub effect-leads : (t : ShownContent) (doc : Document) (o : SubOperation) → changes_intervals o ≡ false → ShowsLists k t doc → IsQuiet doc
       → ShowsIntervals t doc
       → Leads (after_changes t (told_sub_operation k doc c r o)) (effect doc n c r o)
   effect-leads t doc (OnText op) e lists h is = text-leads t doc op lists h is (effect-consistent doc n c r (OnText op) h.consistent)

@@ -26,7 +26,7 @@ use Rattle.ft_changes.proofs.OrderedIntervals.{reached-rise}
 use Rattle.ft_changes.proofs.OwnIntervals.{edit-tells-its-intervals}
 use Rattle.ft_changes.proofs.ToldItems.{Rise}
 
-reached-ready : (x : NaiveClient) → IsReached x → IsReady x
+pub reached-ready : (x : NaiveClient) → IsReached x → IsReady x
 reached-ready x reached = client-ready-from reached.start reached.steps x (reached-run x reached)
 
 reached-edit : (x y : NaiveClient) (op : ChannelOp) → IsReached x → local_edit x op ≡ Ok y → IsReached y

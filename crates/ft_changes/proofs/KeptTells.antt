@@ -28,7 +28,7 @@ use Rattle.ft_changes.proofs.ToldItems.{Rise}
 use Rattle.ft_changes.proofs.ToldLaw.{processed}
 
 -- where the whole client takes a step, the other takes it and keeps it
-alike-taken : {E : Type 0} {a b : Result NaiveClient E} (y : NaiveClient) → AnswersAlike E a b → b ≡ Ok y → (z : NaiveClient) × ((a
+pub alike-taken : {E : Type 0} {a b : Result NaiveClient E} (y : NaiveClient) → AnswersAlike E a b → b ≡ Ok y → (z : NaiveClient) × ((a
     ≡ Ok z) × IsCompacted z y)
 alike-taken y (refused fault) e = absurd (cc)
 alike-taken {E} y (taken kept x k) e =

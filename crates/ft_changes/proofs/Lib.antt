@@ -38,6 +38,15 @@ pub mod FilteredItems
 pub mod FilteredIntervals
 pub mod OwnIntervals
 pub mod NamedIntervals
+pub mod BesidePlaces
+pub mod BesideRuns
+pub mod BesideEnds
+pub mod StandingElements
+pub mod MarkedEnds
+pub mod ThroughStages
+pub mod MessageSteps
+pub mod MessageEnds
+pub mod MessageIntervals
 pub mod SetCells
 pub mod RestSteps
 pub mod RunsInOrder

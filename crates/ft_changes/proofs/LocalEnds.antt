@@ -326,22 +326,22 @@ module _ (j k : ℕ) (low : j < k) where
 
 -- ---- ends at a stage
 
--- the element at an end is shown
-pub shown-one : (k : ℕ) (a : ElementId) (xs : List ListElement) → list_all (λ e. not (has_id a e) || seen k e) xs ≡ true → is_known xs a ≡ true
-    → is_shown_one (has_id a) (seen k) xs ≡ true
-shown-one k a [] h g = absurd (cc)
-shown-one k a (x ∷ xs) h g =
-    let p = both (not (has_id a x) || seen k x) (list_all (λ e. not (has_id a e) || seen k e) xs) h in
-    by (has_id a x) p.0 g (shown-one k a xs p.1)
+-- the first element of a name passes, if all of that name do
+pub shown-one : (test : ListElement → Bool) (a : ElementId) (xs : List ListElement) → list_all (λ e. not (has_id a e) || test e) xs ≡ true
+    → is_known xs a ≡ true → is_shown_one (has_id a) test xs ≡ true
+shown-one test a [] h g = absurd (cc)
+shown-one test a (x ∷ xs) h g =
+    let p = both (not (has_id a x) || test x) (list_all (λ e. not (has_id a e) || test e) xs) h in
+    by (has_id a x) p.0 g (shown-one test a xs p.1)
   where
-    by : (b : Bool) → not b || seen k x ≡ true → b || is_known xs a ≡ true → (is_known xs a ≡ true → is_shown_one (has_id a) (seen k) xs ≡ true)
-        → cond b (seen k x) (is_shown_one (has_id a) (seen k) xs) ≡ true
+    by : (b : Bool) → not b || test x ≡ true → b || is_known xs a ≡ true → (is_known xs a ≡ true → is_shown_one (has_id a) test xs ≡ true)
+        → cond b (test x) (is_shown_one (has_id a) test xs) ≡ true
     by true e f ih = e
     by false e f ih = ih f
 
 pub end-shown_one : (k : ℕ) (xs : List ListElement) → are_distinct_elements xs ≡ true → (a : ElementId) → has_named (seen k) xs a ≡ true
     → is_shown_one (has_id a) (seen k) xs ≡ true
-end-shown_one k xs d a h = shown-one k a xs (only-named (seen k) xs d a h) (named-known (seen k) a xs h)
+end-shown_one k xs d a h = shown-one (seen k) a xs (only-named (seen k) xs d a h) (named-known (seen k) a xs h)
 
 -- at a later stage the same are seen and have the same numbers
 module _ (j k : ℕ) (low : j ≤ k) where

@@ -195,3 +195,39 @@ module _ (kept x : NaiveClient) (entry : Entry) (reached : IsReached x) (h : Sho
   ack-in-place y fits p own =
       let mine = ap (λ conns. is_op entry.msg.body && is_own (record x { conns = conns }) entry) (sym h.conns) ∙ own in
       none-told kept entry (sent-none kept entry own) (h.after ∙ sent-shows x entry y reached fits p mine ∙ sym h.shown)
+
+  -- so it is enough to look at messages of others
+  pub foreign-in-place : (y : NaiveClient) → has_fitting_body entry ≡ true → process x entry ≡ Ok y → (P : ShownContent → ShownContent → Type 0)
+      → ((s : ShownContent) → P s s)
+      → (after_entry kept entry ≡ after_foreign_message kept entry
+      → P (after_changes (shown_content kept) (foreign kept entry)) (shown_content (after_foreign_message kept entry)))
+      → P (after_lists kept entry) (shown_content (after_entry kept entry))
+  foreign-in-place y fits p P same other =
+      by (is_own_join kept.link entry.msg.kind entry.origin) refl (is_op entry.msg.body && is_own kept entry) refl
+    where
+      Same : Type 0
+      Same = P (after_lists kept entry) (shown_content (after_entry kept entry))
+
+      as-before : told_lists kept entry ≡ [] → shown_content (after_entry x entry) ≡ shown_content x → Same
+      as-before none shown =
+          subst (λ cs. P (after_changes (shown_content kept) cs) (shown_content (after_entry kept entry))) (sym none)
+          (subst (P (shown_content kept)) (sym (h.after ∙ shown ∙ sym h.shown)) (same (shown_content kept)))
+
+      by : (join : Bool) → is_own_join kept.link entry.msg.kind entry.origin ≡ join → (own : Bool) → is_op entry.msg.body && is_own kept entry ≡ own
+          → Same
+      by true e own d =
+          as-before (join-lists kept entry e)
+          (join-shows x entry reached (ap (λ l. is_own_join l entry.msg.kind entry.origin) (sym h.link) ∙ e))
+      by false e true d =
+          as-before (sent-none kept entry d)
+          (sent-shows x entry y reached fits p (ap (λ conns. is_op entry.msg.body && is_own (record x { conns = conns }) entry) (sym h.conns) ∙ d))
+      by false e false d =
+          let lists : told_lists kept entry ≡ foreign kept entry =
+          ap (λ b. cond b [] (cond (is_op entry.msg.body && is_own kept entry) [] (foreign kept entry))) e
+          ∙ ap (λ b. cond b [] (foreign kept entry)) d in
+          let after : after_entry kept entry ≡ after_foreign_message kept entry =
+          ap (λ b. cond b (come_online kept entry) (cond (is_op entry.msg.body && is_own kept entry) (after_own_message kept entry)
+          (after_foreign_message kept entry))) e
+          ∙ ap (λ b. cond b (after_own_message kept entry) (after_foreign_message kept entry)) d in
+          subst (λ cs. P (after_changes (shown_content kept) cs) (shown_content (after_entry kept entry))) (sym lists)
+          (subst (λ z. P (after_changes (shown_content kept) (foreign kept entry)) (shown_content z)) (sym after) (other after))

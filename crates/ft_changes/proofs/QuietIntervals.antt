@@ -74,7 +74,7 @@ no-stages : (ts : List ToldStage) → bare_stages ts ≡ [] → ts ≡ []
 no-stages [] e = refl
 no-stages (t ∷ ts) e = absurd (cc)
 
-quiet-client : (n c r : ℕ) (x : NaiveClient) → IsReached x → stages_of x ≡ [] → IsQuiet x.last_stage n c r x.doc
+pub quiet-client : (n c r : ℕ) (x : NaiveClient) → IsReached x → stages_of x ≡ [] → IsQuiet x.last_stage n c r x.doc
 quiet-client n c r x reached none =
     let run = reached-run x reached in
     let s = all-stepped-from reached.start reached.steps x run in

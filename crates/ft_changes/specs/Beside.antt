@@ -1,6 +1,6 @@
 -- Where no interval ends elsewhere than the changes of the lists lead: an end that stands on an element stays on it, or goes where they
 -- lead, if what stands beside the change is seen at each stage; and of which intervals an operation is.
-use Rattle.std.specs.Prelude.{ℕ, Bool, true, false, cond, not, ◌&&◌, ◌||◌, List, [], ◌∷◌, ◌++◌, Option, None, filter, drop, map, reverse, take}
+use Rattle.std.specs.Prelude.{ℕ, Bool, true, false, cond, not, ◌&&◌, ◌||◌, List, [], ◌∷◌, filter, drop, map, reverse, take}
 use Rattle.std.specs.List.{list_any}
 use Rattle.std.specs.Ordering.{is_eq}
 use Rattle.ft_base.specs.Scan.{one_more_if, within}
@@ -12,7 +12,6 @@ use Rattle.ft_op.specs.declared.operations.TextOp.{TextOp}
 use Rattle.ft_op.specs.declared.operations.TextOp.TheVariants.{IntervalAdd, IntervalChange, IntervalDelete}
 use Rattle.ft_op.specs.Document.{Document}
 use Rattle.ft_op.specs.Operation.{OnGrid, OnIntervals, OnText, SubOperation, sub_operations}
-use Rattle.ft_op.specs.Stages.{Stage}
 use Rattle.ft_sumdoc.specs.declared.summary.IntervalRec.{IntervalRec}
 use Rattle.ft_msg.specs.declared.messages.Body.{Body}
 use Rattle.ft_msg.specs.declared.messages.Body.TheVariants.{Nothing, Op, Elsewhere}

@@ -1,6 +1,6 @@
 //! Laws of what is told, each a clause of a function without code.
 
-ghost use Rattle.ft_changes.specs.Laws.{AckMovesNoInterval, AckTellsNothing, CellsToldAreSet, EditsLeaveCells, EditsTellTheirIntervals, KeptAckTellsNothing, KeptEditsLeaveCells, KeptEditsTellTheirIntervals, KeptIsShown, KeptJoinTellsNothing, KeptQuietIntervals, KeptTells, KeptTellsEdits, KeptTellsTheSame, KeptUnsetCellsTellNothing, NamelessIsShown, OwnJoinTellsNothing, QuietIntervals, ShownIsContent, ToldEditLeadsOn, ToldInPlaceOf, ToldLeadsOn, ToldListsLead, UnsetCellsTellNothing};
+ghost use Rattle.ft_changes.specs.Laws.{AckMovesNoInterval, AckTellsNothing, CellsToldAreSet, EditsLeaveCells, EditsTellTheirIntervals, KeptAckTellsNothing, KeptEditsLeaveCells, KeptEditsTellTheirIntervals, KeptIsShown, KeptJoinTellsNothing, KeptMessagesTellTheirIntervals, KeptQuietIntervals, KeptTells, KeptTellsEdits, KeptTellsTheSame, KeptUnsetCellsTellNothing, MessagesTellTheirIntervals, NamelessIsShown, OwnJoinTellsNothing, QuietIntervals, ShownIsContent, ToldEditLeadsOn, ToldInPlaceOf, ToldLeadsOn, ToldListsLead, UnsetCellsTellNothing};
 
 /// What an editor keeps of the text as elements is what the view has; and an editor that applies what it is told of an
 /// entry or of an edit of its own shows what the client shows after it. But for cells and intervals the changes of the
@@ -21,6 +21,7 @@ pub fn telling()
     ensures set { CellsToldAreSet }
     ensures texts { EditsLeaveCells }
     ensures edited { EditsTellTheirIntervals }
+    ensures told { MessagesTellTheirIntervals }
 {}
 
 /// A client that keeps another but for what compaction takes away shows the same as elements too, and tells just the
@@ -40,4 +41,5 @@ pub fn telling_of_kept()
     ensures quiet { KeptQuietIntervals }
     ensures texts { KeptEditsLeaveCells }
     ensures edited { KeptEditsTellTheirIntervals }
+    ensures told { KeptMessagesTellTheirIntervals }
 {}

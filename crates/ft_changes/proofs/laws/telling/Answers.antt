@@ -2,6 +2,7 @@ use Rattle.ft_changes.proofs.AckedClient.{ack-moves-none}
 use Rattle.ft_changes.proofs.CellsTold.{unset-cells-tell-nothing}
 use Rattle.ft_changes.proofs.KeptEdits.{edits-leave-cells, edits-tell-their-intervals}
 use Rattle.ft_changes.proofs.LocalLaw.{told-edit-leads-on}
+use Rattle.ft_changes.proofs.MessageIntervals.{messages-tell-their-intervals}
 use Rattle.ft_changes.proofs.NothingTold.{ack-tells-nothing, own-join-tells-nothing}
 use Rattle.ft_changes.proofs.QuietIntervals.{quiet-intervals}
 use Rattle.ft_changes.proofs.SetCells.{told-cells-set}
@@ -44,3 +45,6 @@ returns-clause-texts c = edits-leave-cells
 
 pub returns-clause-edited : goal.returns-clause-edited
 returns-clause-edited c = edits-tell-their-intervals
+
+pub returns-clause-told : goal.returns-clause-told
+returns-clause-told c = messages-tell-their-intervals

@@ -3,6 +3,7 @@ use Rattle.ft_changes.proofs.KeptClients.{kept-is-shown, told-by-stand-in}
 use Rattle.ft_changes.proofs.KeptEdits.{kept-edits-leave-cells, kept-edits-tell-their-intervals}
 use Rattle.ft_changes.proofs.KeptTells.{kept-ack-tells-nothing, kept-join-tells-nothing, kept-tells, kept-tells-edits}
 use Rattle.ft_changes.proofs.KeptTold.{kept-tells-the-same}
+use Rattle.ft_changes.proofs.MessageIntervals.{kept-messages-tell-their-intervals}
 use Rattle.ft_changes.proofs.NamelessClients.{nameless-is-shown}
 use Rattle.ft_changes.proofs.QuietIntervals.{kept-quiet-intervals}
 use Rattle.ft_changes.proofs.laws.telling_of_kept.Goals as goal
@@ -42,3 +43,6 @@ returns-clause-texts c = kept-edits-leave-cells
 
 pub returns-clause-edited : goal.returns-clause-edited
 returns-clause-edited c = kept-edits-tell-their-intervals
+
+pub returns-clause-told : goal.returns-clause-told
+returns-clause-told c = kept-messages-tell-their-intervals
