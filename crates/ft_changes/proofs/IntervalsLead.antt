@@ -1,4 +1,4 @@
--- Where nothing is pending, and a message has no interval operation, the changes of the lists alone lead to the intervals that are shown after it.
+-- Changes that move the ends of intervals; and where nothing is pending, a sub-operation of a message moves each end as it moves the lists.
 use Rattle.std.proofs.Common.{◌≡◌, ℕ, zero, suc, ◌+◌, ◌≤◌, Bool, true, false, cond, not, ◌&&◌, ◌||◌, nat_eq, nat_le, nat_lt, List, [], ◌∷◌, ◌++◌, Option, Some, None, refl, sym, ◌∙◌, ap, arith, length, map, ℤ, pos, negsuc}
 use Rattle.std.proofs.lemmas.Bool.Decides.{nat_tests}
 use Rattle.std.specs.List.{list_all, list_any}
@@ -17,34 +17,20 @@ use Rattle.ft_op.specs.declared.operations.CellOp.{CellOp}
 use Rattle.ft_op.specs.declared.operations.CellOp.TheVariants.{Set, SpliceIn, SpliceOut}
 use Rattle.ft_op.specs.declared.operations.Target.{Target}
 use Rattle.ft_op.specs.declared.operations.Target.TheVariants.{Cols, Rows}
-use Rattle.ft_op.specs.Document.{Document, cell_effect, effect, effects, grid_effect, rows_or_cols, text_effect, with_rows_or_cols, with_skip, with_slid_ends}
-use Rattle.ft_op.specs.Intervals.{Interval, slide_interval}
+use Rattle.ft_op.specs.Document.{Document, cell_effect, effect, ends_of, given_ends_fit, grid_effect, rows_or_cols, text_effect, with_rows_or_cols, with_skip}
 use Rattle.ft_op.specs.Operation.{OnGrid, OnIntervals, OnText, SubOperation, segment_contents}
 use Rattle.ft_sumdoc.specs.declared.summary.IntervalRec.{IntervalRec}
-use Rattle.ft_sumdoc.specs.WellFormed.{same_props}
-use Rattle.ft_msg.specs.Content.{interval_record}
-use Rattle.ft_laws_agreement.specs.Trimming.{IsConsistent, are_distinct_elements, has_ends_on, is_end_on, is_numbered_below}
+use Rattle.ft_laws_agreement.specs.Trimming.{IsConsistent, are_distinct_elements, is_end_on, is_numbered_below}
 use Rattle.ft_laws_agreement.proofs.ConsistentDocument.{effect-consistent}
 use Rattle.ft_laws_agreement.proofs.SlidEnds.{same_id-eq}
-use Rattle.ft_changes.specs.declared.changes.ViewChange.TheVariants.{Put, PutUnits}
-use Rattle.ft_changes.specs.Laws.{changes_intervals}
-use Rattle.ft_changes.specs.Shown.{ShownContent, after_change, after_changes, end_after_put, end_after_take, shown_element, shown_elements, shown_properties, with_moved_ends}
-use Rattle.ft_changes.specs.ShownRuns.{ChangedRun, GoneRun, changed_runs, gone_runs, place_of_insertion, take_out}
-use Rattle.ft_changes.specs.Told.{styled_run, taken_run, taken_units, told_of_grid, told_of_text, told_sub_operation, told_sub_operations, unless_no_elements}
-use Rattle.ft_changes.proofs.AckedLists.{neither}
+use Rattle.ft_changes.specs.Shown.{ShownContent, after_change, after_changes, end_after_put, end_after_take, shown_element, shown_elements, with_moved_ends}
+use Rattle.ft_changes.specs.ShownRuns.{ChangedRun, GoneRun, gone_runs, place_of_insertion, take_out}
+use Rattle.ft_changes.specs.Told.{styled_run, taken_run, taken_units}
 use Rattle.ft_changes.proofs.ElementLaws.{removed-gone, removed-hidden}
-use Rattle.ft_changes.proofs.ForeignSteps.{ShowsLists, after-append, sub_operation-step}
 use Rattle.ft_changes.proofs.MovedEnds.{after_runs, ends-gone, is_shown_one, rank-put}
 use Rattle.ft_changes.proofs.SlidNumbers.{AreShown, slid-number}
 
 -- ---- maps
-
-pub map-same : {A B : Type 0} (test : A → Bool) (f g : A → B) → ((x : A) → test x ≡ true → f x ≡ g x) → (xs : List A) → list_all test xs ≡ true
-    → map f xs ≡ map g xs
-map-same test f g same [] h = refl
-map-same test f g same (x ∷ xs) h =
-    let p = both (test x) (list_all test xs) h in
-    ap (λ y. y ∷ map f xs) (same x p.0) ∙ ap (λ ys. g x ∷ ys) (map-same test f g same xs p.1)
 
 pub map-twice : {A B C : Type 0} (f : B → C) (g : A → B) (xs : List A) → map f (map g xs) ≡ map (λ x. f (g x)) xs
 map-twice f g [] = refl
@@ -224,10 +210,6 @@ module _ (k n c r : ℕ) where
     pub consistent : IsConsistent doc
     pub shown : AreShown k doc.text.items
 
-  -- the intervals are those of the document
-  abbrev pub ShowsIntervals : ShownContent → Document → Type 0
-  ShowsIntervals t doc = t.intervals ≡ map (interval_record k doc.text.items) doc.intervals
-
   abbrev see : ListElement → Bool
   see = seen_by r c
 
@@ -243,10 +225,6 @@ module _ (k n c r : ℕ) where
     abbrev place : ℕ
     place = place_of_insertion (seen_by r c) is_pending (seen k) p doc.text.items
 
-    put-shown : AreShown k ys
-    put-shown = put-are_shown k see is_pending p (new_elements doc.text.made (Acked n c) [] by props bs) xs (new-shown k n c doc.text.made by props
-        bs) h.shown
-
     pub put-end : (o : Option ElementId) → is_end_on xs o ≡ true → end_after_put place (length bs) (end_number k xs o) ≡ end_number k ys o
     put-end None e = refl
     put-end (Some a) e =
@@ -255,17 +233,6 @@ module _ (k n c r : ℕ) where
         ap (λ m. pos (cond (nat_le place (rank (has_id a) (seen k) xs)) (rank (has_id a) (seen k) xs + m) (rank (has_id a) (seen k) xs))) (sym
         (new-count k n c doc.text.made by props bs))
         ∙ ap pos (sym (rank-put (has_id a) (seen k) new none see is_pending p xs (end-shown k a xs h.consistent.text.distinct h.shown e)))
-
-    put-interval : (i : Interval) → has_ends_on xs i ≡ true → with_moved_ends (end_after_put place (length bs)) (interval_record k xs i)
-        ≡ interval_record k ys i
-    put-interval i e = let q = both (is_end_on xs i.start) (is_end_on xs i.end) e in rw (put-end i.start q.0, put-end i.end q.1) refl
-
-    put-intervals : map (with_moved_ends (end_after_put place (length bs))) (map (interval_record k xs) doc.intervals)
-        ≡ map (interval_record k ys) doc.intervals
-    put-intervals =
-        map-twice (with_moved_ends (end_after_put place (length bs))) (interval_record k xs) doc.intervals
-        ∙ map-same (has_ends_on xs) (λ i. with_moved_ends (end_after_put place (length bs)) (interval_record k xs i)) (interval_record k ys)
-        put-interval doc.intervals h.consistent.ends
 
   -- an insertion of no elements changes no end
   pub none-put : (p : ℕ) (is : List IntervalRec) → is ≡ map (with_moved_ends (end_after_put p 0)) is
@@ -286,6 +253,10 @@ module _ (k n c r : ℕ) where
 
   -- ---- a removal
 
+  removed-shown : (p q : ℕ) (xs : List ListElement) → AreShown k xs → AreShown k (change_range (seen_by r c) p q (with_removal n c) xs)
+  removed-shown p q xs h =
+      range-are_shown k (with_removal n c) (λ x e. removed-gone n c x ∙ sym (removed-hidden k n c x)) (λ x. refl) see p q 0 xs h
+
   module _ (doc : Document) (h : IsQuiet doc) (p q : ℕ) (after : are_distinct_elements (after_removal n c r p q doc.text).items ≡ true) where
     abbrev before : List ListElement
     before = doc.text.items
@@ -296,9 +267,6 @@ module _ (k n c r : ℕ) where
     abbrev runs : List GoneRun
     runs = gone_runs (seen_by r c) (seen k) p q doc.text.items
 
-    take-shown : AreShown k left
-    take-shown = range-are_shown k (with_removal n c) (λ x e. removed-gone n c x ∙ sym (removed-hidden k n c x)) (λ x. refl) see p q 0 before h.shown
-
     pub take-end : (o : Option ElementId) → is_end_on before o ≡ true → after_runs runs (shown_elements k before) (end_number k before o)
         ≡ end_number k left (slide left o)
     take-end None e = detached-stays runs (shown_elements k before) 0
@@ -306,19 +274,7 @@ module _ (k n c r : ℕ) where
         let there : list_any (has_id a) left ≡ true = range-any (with_removal n c) (λ x. refl) see p q a 0 before ∙ end-named a before e in
         ends-gone (has_id a) see (seen k) shown_element p q (with_removal n c) (removed-hidden k n c) (λ x. refl) before (end-shown k a before
         h.consistent.text.distinct h.shown e)
-        ∙ sym (slid-number k left a after take-shown there)
-
-    take-interval : (i : Interval) → has_ends_on before i ≡ true
-        → with_moved_ends (after_runs runs (shown_elements k before)) (interval_record k before i) ≡ interval_record k left (slide_interval left i)
-    take-interval i e = let g = both (is_end_on before i.start) (is_end_on before i.end) e in rw (take-end i.start g.0, take-end i.end g.1) refl
-
-    take-intervals : map (with_moved_ends (after_runs runs (shown_elements k before))) (map (interval_record k before) doc.intervals)
-        ≡ map (interval_record k left) (map (slide_interval left) doc.intervals)
-    take-intervals =
-        map-twice (with_moved_ends (after_runs runs (shown_elements k before))) (interval_record k before) doc.intervals
-        ∙ map-same (has_ends_on before) (λ i. with_moved_ends (after_runs runs (shown_elements k before)) (interval_record k before i))
-        (λ i. interval_record k left (slide_interval left i)) take-interval doc.intervals h.consistent.ends
-        ∙ sym (map-twice (interval_record k left) (slide_interval left) doc.intervals)
+        ∙ sym (slid-number k left a after (removed-shown p q before h.shown) there)
 
   -- ---- an annotation
 
@@ -330,129 +286,49 @@ module _ (k n c r : ℕ) where
     annotated-end None = refl
     annotated-end (Some a) = ap pos (range-rank (with_annotation changes) (λ x. refl) see p q a k (λ x. refl) 0 doc.text.items)
 
-    annotated-intervals : (is : List Interval) → map (interval_record k doc.text.items) is ≡ map (interval_record k annotated) is
-    annotated-intervals [] = refl
-    annotated-intervals (i ∷ is) = rw (annotated-end i.start, annotated-end i.end, annotated-intervals is) refl
+  -- ---- one sub-operation
 
-  -- what is shown, and that nothing is pending
-  pub record Leads (t : ShownContent) (doc : Document) : Type 0 where
-    pub intervals : ShowsIntervals t doc
-    pub shown : AreShown k doc.text.items
+  one-shown : (b : Bool) (x y : Document) → AreShown k x.text.items → AreShown k y.text.items → AreShown k (cond b x y).text.items
+  one-shown true x y g h = g
+  one-shown false x y g h = h
 
-  text-leads : (t : ShownContent) (doc : Document) (op : BaseOp) → ShowsLists k t doc → IsQuiet doc → ShowsIntervals t doc
-      → IsConsistent (text_effect doc n c r op)
-      → Leads (after_changes t (told_of_text k doc c r op)) (text_effect doc n c r op)
-  text-leads t doc (Insert p seg props) lists h is = by (nat_le p (len (seen_by r c) doc.text.items))
+  text-quiet : (doc : Document) → AreShown k doc.text.items → (op : BaseOp) → AreShown k (text_effect doc n c r op).text.items
+  text-quiet doc h (Insert p seg props) =
+      let new = new_elements doc.text.made (Acked n c) [] (Some (Acked n c)) (apply [] props) (segment_contents seg) in
+      one-shown (nat_le p (len (seen_by r c) doc.text.items)) _ (with_skip doc)
+      (put-are_shown k see is_pending p new doc.text.items
+      (new-shown k n c doc.text.made (Some (Acked n c)) (apply [] props) (segment_contents seg)) h) h
+  text-quiet doc h (Remove p q) =
+      one-shown (nat_le q (len (seen_by r c) doc.text.items)) _ (with_skip doc) (removed-shown p q doc.text.items h) h
+  text-quiet doc h (Annotate p q changes) =
+      one-shown (nat_le q (len (seen_by r c) doc.text.items)) _ (with_skip doc)
+      (range-are_shown k (with_annotation changes) (λ x e. e) (λ x. refl) see p q 0 doc.text.items h) h
+
+  grid-quiet : (doc : Document) → AreShown k doc.text.items → (op : CellOp) → AreShown k (grid_effect doc n c r op).text.items
+  grid-quiet doc h (SpliceIn target p count) =
+      one-shown (nat_le p (len (seen_by r c) (rows_or_cols target doc).items)) _ (with_skip doc) (same target _) h
     where
-      where_put : ℕ
-      where_put = place_of_insertion (seen_by r c) is_pending (seen k) p doc.text.items
-
-      from : Option Stamp
-      from = Some (Acked n c)
-
-      put : (bs : List ElementContent) → segment_contents seg ≡ bs
-          → Leads (after_changes t (unless_no_elements bs (Put where_put seg (apply [] props)))) (record doc {
-            text = after_insertion n c r p from
-                (apply [] props) bs doc.text;
-          })
-      put [] e = record {
-        intervals = none-put where_put t.intervals ∙ ap (map (with_moved_ends (end_after_put where_put 0))) is
-            ∙ put-intervals doc h p from (apply [] props) [];
-        shown = put-shown doc h p from (apply [] props) [];
-      }
-      put (b ∷ bs) e = record {
-        intervals = ap (λ cs. map (with_moved_ends (end_after_put where_put (length cs))) t.intervals) e
-            ∙ ap (map (with_moved_ends (end_after_put where_put (length (b ∷ bs))))) is ∙ put-intervals doc h p from (apply [] props) (b ∷ bs);
-        shown = put-shown doc h p from (apply [] props) (b ∷ bs);
-      }
-
-      by : (b : Bool) → IsConsistent (cond b (record doc { text = after_insertion n c r p from (apply [] props) (segment_contents seg) doc.text })
-          (with_skip doc))
-          → Leads (after_changes t (cond b (unless_no_elements (segment_contents seg) (Put where_put seg (apply [] props))) []))
-          (cond b (record doc { text = after_insertion n c r p from (apply [] props) (segment_contents seg) doc.text }) (with_skip doc))
-      by true g = put (segment_contents seg) refl
-      by false g = record { intervals = is; shown = h.shown }
-  text-leads t doc (Remove p q) lists h is = by (nat_le q (len (seen_by r c) doc.text.items))
+      same : (target : Target) (list : Sequence) → AreShown k (with_rows_or_cols target doc list).text.items
+      same Rows list = h
+      same Cols list = h
+  grid-quiet doc h (SpliceOut target p q) =
+      one-shown (nat_le q (len (seen_by r c) (rows_or_cols target doc).items)) _ (with_skip doc) (same target _) h
     where
-      gone : List GoneRun
-      gone = gone_runs (seen_by r c) (seen k) p q doc.text.items
-
-      by : (b : Bool) → IsConsistent (cond b (with_slid_ends (record doc { text = after_removal n c r p q doc.text })) (with_skip doc))
-          → Leads (after_changes t (cond b (map taken_run gone) [])) (cond b (with_slid_ends (record doc {
-            text = after_removal n c r p q doc.text;
-          })) (with_skip doc))
-      by true g = record {
-        intervals = taken-intervals t gone ∙ ap (λ es. map (with_moved_ends (after_runs gone es)) t.intervals) lists.elements
-            ∙ ap (map (with_moved_ends (after_runs gone (shown_elements k doc.text.items)))) is ∙ take-intervals doc h p q g.text.distinct;
-        shown = take-shown doc h p q g.text.distinct;
-      }
-      by false g = record { intervals = is; shown = h.shown }
-  text-leads t doc (Annotate p q changes) lists h is = by (nat_le q (len (seen_by r c) doc.text.items))
+      same : (target : Target) (list : Sequence) → AreShown k (with_rows_or_cols target doc list).text.items
+      same Rows list = h
+      same Cols list = h
+  grid-quiet doc h (Set i j value) = by (at (seen_by r c) i doc.rows.items) (at (seen_by r c) j doc.cols.items)
     where
-      items : List ListElement
-      items = change_range (seen_by r c) p q (with_annotation changes) doc.text.items
+      by : (row col : Option ListElement) → AreShown k (cell_effect doc row col value).text.items
+      by (Some row) (Some col) = h
+      by (Some row) None = h
+      by None col = h
 
-      styled : List (ChangedRun PropertyList)
-      styled = changed_runs same_props shown_properties (with_annotation changes) (seen_by r c) (seen k) p q doc.text.items
+  effect-shown : (doc : Document) → AreShown k doc.text.items → (o : SubOperation) → AreShown k (effect doc n c r o).text.items
+  effect-shown doc h (OnText op) = text-quiet doc h op
+  effect-shown doc h (OnIntervals op) = one-shown (given_ends_fit (len (seen_by r c) doc.text.items) (ends_of op)) _ (with_skip doc) h h
+  effect-shown doc h (OnGrid op) = grid-quiet doc h op
 
-      by : (b : Bool) → IsConsistent (cond b (record doc { text = record { items = items; made = doc.text.made } }) (with_skip doc))
-          → Leads (after_changes t (cond b (map styled_run styled) [])) (cond b (record doc {
-            text = record { items = items; made = doc.text.made };
-          }) (with_skip doc))
-      by true g = record {
-        intervals = styled-intervals t styled ∙ is ∙ annotated-intervals doc p q changes doc.intervals;
-        shown = range-are_shown k (with_annotation changes) (λ x e. e) (λ x. refl) see p q 0 doc.text.items h.shown;
-      }
-      by false g = record { intervals = is; shown = h.shown }
-
-  grid-leads : (t : ShownContent) (doc : Document) (op : CellOp) → IsQuiet doc → ShowsIntervals t doc
-      → Leads (after_changes t (told_of_grid k doc c r op)) (grid_effect doc n c r op)
-  grid-leads t doc (SpliceIn target p count) h is =
-      by target (nat_le p (len (seen_by r c) (rows_or_cols target doc).items)) (nat_le p (len (seen_by r c) (rows_or_cols target doc).items) && not
-      (nat_eq count 0)) _ _
-    where
-      by : (target : Target) (b d : Bool) (m : ℕ) (list : Sequence)
-          → Leads (after_changes t (cond d (PutUnits target m count ∷ []) [])) (cond b (with_rows_or_cols target doc list) (with_skip doc))
-      by Rows true true m list = record { intervals = is; shown = h.shown }
-      by Rows true false m list = record { intervals = is; shown = h.shown }
-      by Rows false true m list = record { intervals = is; shown = h.shown }
-      by Rows false false m list = record { intervals = is; shown = h.shown }
-      by Cols true true m list = record { intervals = is; shown = h.shown }
-      by Cols true false m list = record { intervals = is; shown = h.shown }
-      by Cols false true m list = record { intervals = is; shown = h.shown }
-      by Cols false false m list = record { intervals = is; shown = h.shown }
-  grid-leads t doc (SpliceOut target p q) h is = by target (nat_le q (len (seen_by r c) (rows_or_cols target doc).items)) _ _
-    where
-      by : (target : Target) (b : Bool) (gone : List GoneRun) (list : Sequence)
-          → Leads (after_changes t (cond b (map (taken_units target) gone) [])) (cond b (with_rows_or_cols target doc list) (with_skip doc))
-      by Rows true gone list = record { intervals = units-intervals Rows t gone ∙ is; shown = h.shown }
-      by Cols true gone list = record { intervals = units-intervals Cols t gone ∙ is; shown = h.shown }
-      by target false gone list = record { intervals = is; shown = h.shown }
-  grid-leads t doc (Set i j value) h is = by (at (seen_by r c) i doc.rows.items) (at (seen_by r c) j doc.cols.items)
-    where
-      by : (row col : Option ListElement) → Leads t (cell_effect doc row col value)
-      by (Some row) (Some col) = record { intervals = is; shown = h.shown }
-      by (Some row) None = record { intervals = is; shown = h.shown }
-      by None col = record { intervals = is; shown = h.shown }
-
-  pub effect-leads : (t : ShownContent) (doc : Document) (o : SubOperation) → changes_intervals o ≡ false → ShowsLists k t doc → IsQuiet doc
-      → ShowsIntervals t doc
-      → Leads (after_changes t (told_sub_operation k doc c r o)) (effect doc n c r o)
-  effect-leads t doc (OnText op) e lists h is = text-leads t doc op lists h is (effect-consistent doc n c r (OnText op) h.consistent)
-  effect-leads t doc (OnIntervals op) e lists h is = absurd (cc)
-  effect-leads t doc (OnGrid op) e lists h is = grid-leads t doc op h is
-
-  pub effects-lead : (os : List SubOperation) (t : ShownContent) (doc : Document) → list_any changes_intervals os ≡ false → ShowsLists k t doc
-      → IsQuiet doc → ShowsIntervals t doc
-      → ShowsIntervals (after_changes t (told_sub_operations k doc n c r os)) (effects doc n c r os)
-  effects-lead [] t doc e lists h is = is
-  effects-lead (o ∷ os) t doc e lists h is =
-      let p = neither (changes_intervals o) (list_any changes_intervals os) e in
-      let u = after_changes t (told_sub_operation k doc c r o) in
-      let after = effect doc n c r o in
-      let leads = effect-leads t doc o p.0 lists h is in
-      ap (λ (s : ShownContent). s.intervals) (after-append t (told_sub_operation k doc c r o) (told_sub_operations k after n c r os))
-      ∙ effects-lead os u after p.1 (sub_operation-step k n c r t doc o lists) (record {
-        consistent = effect-consistent doc n c r o h.consistent;
-        shown = leads.shown;
-      }) leads.intervals
+  -- nothing is pending in the text afterwards
+  pub next-quiet : (doc : Document) (o : SubOperation) → IsQuiet doc → IsQuiet (effect doc n c r o)
+  next-quiet doc o h = record { consistent = effect-consistent doc n c r o h.consistent; shown = effect-shown doc h.shown o }

@@ -33,6 +33,7 @@ pub mod CellsTold
 pub mod MovedEnds
 pub mod SlidNumbers
 pub mod IntervalsLead
+pub mod QuietClients
 pub mod QuietIntervals
 pub mod FilteredItems
 pub mod FilteredIntervals

@@ -1,14 +1,13 @@
 -- Of intervals a message that moves the ends as it moves the lists tells only those that it or a pending stage adds, changes or deletes.
-use Rattle.std.proofs.Common.{◌≡◌, ℕ, Bool, true, false, cond, not, ◌&&◌, ◌||◌, List, [], ◌∷◌, Option, Ok, refl, sym, ◌∙◌, ap, append-nil, filter, map, subst}
+use Rattle.std.proofs.Common.{◌≡◌, ℕ, Bool, true, false, not, ◌&&◌, ◌||◌, List, [], ◌∷◌, Option, Ok, refl, sym, ◌∙◌, ap, append-nil, filter, map, subst}
 use Rattle.std.specs.List.{list_all, list_any}
 use Rattle.std.specs.declared.cmp.Ordering.TheVariants.{Equal}
 use Rattle.std.proofs.lemmas.Bool.{or_left, or_right}
 use Rattle.ft_base.proofs.Booleans.{all_three, both}
-use Rattle.ft_base.specs.Scan.{len}
-use Rattle.ft_props.specs.Element.{ElementId, ListElement, seen, seen_by}
-use Rattle.ft_op.specs.Document.{Document, effect, effects, ends_of, given_ends_fit, with_skip}
+use Rattle.ft_props.specs.Element.{ElementId, ListElement}
+use Rattle.ft_op.specs.Document.{Document, effect, effects}
 use Rattle.ft_op.specs.Intervals.{Interval, interval_cmp}
-use Rattle.ft_op.specs.Operation.{OnGrid, OnIntervals, OnText, SubOperation, sub_operations}
+use Rattle.ft_op.specs.Operation.{SubOperation, sub_operations}
 use Rattle.ft_op.specs.Stages.{Stage, shown_intervals}
 use Rattle.ft_sumdoc.specs.declared.summary.IntervalRec.{IntervalRec}
 use Rattle.ft_msg.specs.declared.messages.Body.{Body}
@@ -25,7 +24,6 @@ use Rattle.ft_msg.proofs.ReachedSteps.{reached-after}
 use Rattle.ft_laws_agreement.specs.Reconnecting.{has_insertion_of, has_marks_of, has_removal_of, inserts_text, removes_text}
 use Rattle.ft_laws_agreement.specs.Sequencing.{IsReady}
 use Rattle.ft_laws_agreement.specs.Trimming.{are_distinct_elements, has_ends_on, is_end_on}
-use Rattle.ft_laws_agreement.proofs.ConsistentDocument.{effect-consistent}
 use Rattle.ft_laws_agreement.proofs.OwnNames.{all-weaker}
 use Rattle.ft_laws_agreement.proofs.SettledEnds.{has_ends_at, is_end_at}
 use Rattle.ft_laws_compaction.proofs.AllSteps.{reached-sound}
@@ -33,12 +31,12 @@ use Rattle.ft_laws_compaction.proofs.KeptReady.{kept-ready}
 use Rattle.ft_laws_compaction.proofs.KeptSteps.{entries-answer}
 use Rattle.ft_changes.specs.Beside.{body_moves_ends_alike, body_sub_operations, entry_moves_ends_alike, is_changed_around, is_changed_by, moves_ends_alike}
 use Rattle.ft_changes.specs.Laws.{after_lists}
-use Rattle.ft_changes.specs.Shown.{ShownContent, after_changes, interval_order, shown_content, shown_elements}
+use Rattle.ft_changes.specs.Shown.{ShownContent, after_changes, interval_order, shown_content}
 use Rattle.ft_changes.specs.Told.{told_body, told_intervals, told_sub_operation, told_sub_operations}
 use Rattle.ft_changes.proofs.EditsQuiet.{before-edit}
 use Rattle.ft_changes.proofs.FilteredIntervals.{intervals-filtered, same-named, same-place}
 use Rattle.ft_changes.proofs.ForeignSteps.{ShowsLists, after-append, sub_operation-step}
-use Rattle.ft_changes.proofs.IntervalsLead.{IsQuiet, effect-leads}
+use Rattle.ft_changes.proofs.IntervalsLead.{IsQuiet, next-quiet}
 use Rattle.ft_changes.proofs.KeptEdits.{reached-ready}
 use Rattle.ft_changes.proofs.KeptTells.{alike-taken, in-place-of}
 use Rattle.ft_changes.proofs.KeptTold.{kept-shows-as}
@@ -46,9 +44,8 @@ use Rattle.ft_changes.proofs.MessageEnds.{beside-leads, is_on, is_shown_end, qui
 use Rattle.ft_changes.proofs.MessageSteps.{IsLed, is-led, led-shown, shown_others}
 use Rattle.ft_changes.proofs.NothingTold.{foreign, foreign-in-place, intervals-same-none, own-or-foreign}
 use Rattle.ft_changes.proofs.OrderedIntervals.{content-rises, entry-rise, reached-rise}
-use Rattle.ft_changes.proofs.QuietIntervals.{quiet-client}
+use Rattle.ft_changes.proofs.QuietClients.{quiet-client}
 use Rattle.ft_changes.proofs.Rising.{changes-rise}
-use Rattle.ft_changes.proofs.SlidNumbers.{AreShown}
 use Rattle.ft_changes.proofs.StandingElements.{all-filter, has_acked_removals}
 use Rattle.ft_changes.proofs.ThroughStages.{Covers, covers-first, covers-rest, is_other, others-settle, others-shown, through, unmoved, with_ends_by}
 use Rattle.ft_changes.proofs.ToldItems.{Rise}
@@ -157,31 +154,6 @@ module _ (test : IntervalRec → Bool) (names : (a b : IntervalRec) → a.label 
 
   -- ---- with nothing pending
 
-  -- nothing is pending in the text afterwards
-  next-quiet : (doc : Document) (o : SubOperation) → IsQuiet k n c r doc → IsQuiet k n c r (effect doc n c r o)
-  next-quiet doc o h = record { consistent = effect-consistent doc n c r o h.consistent; shown = by o }
-    where
-      start : ShownContent
-      start = record {
-        elements = shown_elements k doc.text.items;
-        intervals = map (interval_record k doc.text.items) doc.intervals;
-        rows = len (seen k) doc.rows.items;
-        cols = len (seen k) doc.cols.items;
-        cells = [];
-      }
-
-      lists : ShowsLists k start doc
-      lists = record { elements = refl; rows = refl; cols = refl }
-
-      either : (b : Bool) (x y : Document) → AreShown k x.text.items → AreShown k y.text.items → AreShown k (cond b x y).text.items
-      either true x y p q = p
-      either false x y p q = q
-
-      by : (o : SubOperation) → AreShown k (effect doc n c r o).text.items
-      by (OnText op) = (effect-leads k n c r start doc (OnText op) refl lists h refl).shown
-      by (OnGrid op) = (effect-leads k n c r start doc (OnGrid op) refl lists h refl).shown
-      by (OnIntervals op) = either (given_ends_fit (len (seen_by r c) doc.text.items) (ends_of op)) _ (with_skip doc) h.shown h.shown
-
   abbrev quiet_others : Document → List IntervalRec
   quiet_others doc = shown_others test names k n c r [] (is_on test names k n c r) doc
 
@@ -196,7 +168,7 @@ module _ (test : IntervalRec → Bool) (names : (a b : IntervalRec) → a.label 
       let led : IsLed test names k n c r [] (is_on test names k n c r) doc next told =
       is-led test names k n c r [] (is_on test names k n c r) doc o (covers-first test o os covers) (quiet-leads test names k n c r doc o h) in
       ap (λ (s : ShownContent). others s.intervals) (after-append t told (told_sub_operations k next n c r os))
-      ∙ operations-others os u next (covers-rest test o os covers) (sub_operation-step k n c r t doc o lists) (next-quiet doc o h)
+      ∙ operations-others os u next (covers-rest test o os covers) (sub_operation-step k n c r t doc o lists) (next-quiet k n c r doc o h)
       (led-shown test names k n c r [] (is_on test names k n c r) doc next told led t lists
       (all-filter (has_ends_on doc.text.items) (is_other test names) doc.intervals h.consistent.ends) e)
 

@@ -142,7 +142,9 @@ module _ (test : IntervalRec → Bool) (names : (a b : IntervalRec) → a.label 
         runs = changed_runs same_props shown_properties (with_annotation changes) (seen_by r c) (seen k) p q doc.text.items
 
         styled : Document
-        styled = record doc { text = record { items = change_range (seen_by r c) p q (with_annotation changes) doc.text.items; made = doc.text.made } }
+        styled = record doc {
+          text = record { items = change_range (seen_by r c) p q (with_annotation changes) doc.text.items; made = doc.text.made };
+        }
 
         by : (b : Bool) → IsLed doc (cond b styled (with_skip doc)) (cond b (map styled_run runs) [])
         by true = stays-led styled (map styled_run runs) (h.styled p q changes refl) refl (λ t. styled-intervals t runs)
@@ -197,7 +199,8 @@ module _ (test : IntervalRec → Bool) (names : (a b : IntervalRec) → a.label 
   -- ---- the intervals of other names
 
   abbrev pub shown_others : Document → List IntervalRec
-  shown_others doc = map (interval_record k doc.text.items) (map (with_ends_by (through doc.text.items ts)) (filter (is_other test names) doc.intervals))
+  shown_others doc =
+      map (interval_record k doc.text.items) (map (with_ends_by (through doc.text.items ts)) (filter (is_other test names) doc.intervals))
 
   module _ (doc next : Document) (changes : List ViewChange) (l : IsLed doc next changes) where
     abbrev is_good : Interval → Bool

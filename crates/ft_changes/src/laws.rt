@@ -7,7 +7,9 @@ ghost use Rattle.ft_changes.specs.Laws.{AckMovesNoInterval, AckTellsNothing, Cel
 /// lists lead there alone. Of its own join a client tells nothing, and its own message moves no interval as it comes
 /// back, so it tells nothing of that either. Of a message that sets no cell none is told, and else only cells that it
 /// sets; and no interval, where nothing is pending and the message has no interval operation. Of an edit only intervals
-/// are told that it adds, changes or deletes, whatever is pending, and of one that isn't on the table no cell.
+/// are told that it adds, changes or deletes, whatever is pending, and of one that isn't on the table no cell. Of a
+/// message only those are told that it or a pending edit adds, changes or deletes, where nothing is pending, or where it
+/// has one sub-operation at most and each stage sees what stands beside the elements that it puts in or takes out.
 pub fn telling()
     ensures kept { ShownIsContent }
     ensures lists { ToldListsLead }
