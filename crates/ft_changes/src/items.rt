@@ -12,7 +12,7 @@ use ft_sumdoc::{CellRec, IntervalRec};
 use std::cmp::Ordering;
 
 /// What stands in an order, and is set and dropped one by one.
-pub(crate) trait ShownItem: Sized + Drop {
+pub trait ShownItem: Sized + Drop {
     ghost use Rattle.std.specs.Prelude.{◌≡◌, Bool, IfOk};
     ghost use Rattle.std.specs.declared.cmp.Ordering.{Ordering};
     ghost use Rattle.ft_changes.specs.declared.changes.ViewChange.{ViewChange};

@@ -11,6 +11,7 @@ pub mod runs;
 pub mod telling;
 
 pub use changes::{ViewChange, ViewChanges};
+pub use items::ShownItem;
 pub use listeners::Listener;
 pub use rest::{ShownRest, add_rest};
 pub use runs::{StyledRun, TakenRun};

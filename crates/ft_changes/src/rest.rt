@@ -134,8 +134,10 @@ fn moved_intervals(
     Ok(List::of(items))
 }
 
-// Moves the ends of all.
-fn move_all(intervals: &mut [IntervalRec], shift: Shift, left: u64) -> Result<(), OutOfMemory>
+/// Moves the ends of all intervals, where elements went in or away and so many are left.
+///
+/// Returns `OutOfMemory` where a place would be more than 2^63 - 1.
+pub fn move_all(intervals: &mut [IntervalRec], shift: Shift, left: u64) -> Result<(), OutOfMemory>
     ensures { OnOk result (intervals.new ≡ map (moved_ends shift left) intervals.old) }
 {
     for interval in intervals.iter_mut() {
@@ -154,8 +156,10 @@ fn move_ends(interval: &mut IntervalRec, shift: Shift, left: u64) -> Result<(), 
     Ok(())
 }
 
-// The cells, where rows or columns went in or away.
-fn cells_after(cells: CellRecs, target: Target, shift: Shift) -> Result<CellRecs, OutOfMemory>
+/// The cells, where rows or columns went in or away.
+///
+/// Returns `OutOfMemory` where there is no room for them, or a number would be more than 2^64 - 1.
+pub fn cells_after(cells: CellRecs, target: Target, shift: Shift) -> Result<CellRecs, OutOfMemory>
     ensures { IfOk result (λ moved. moved ≡ moved_cells target (moved_number shift) cells) }
 {
     let mut moved = List::new(cells.allocator());
@@ -214,7 +218,7 @@ fn with_number(target: Target, number: u64, cell: CellRec) -> CellRec
 
 /// So many elements, rows or columns that went in, or away, from a place on.
 #[derive(Clone, Copy)]
-enum Shift {
+pub enum Shift {
     In { from: u64, count: u64 },
     Out { from: u64, count: u64 },
 }
