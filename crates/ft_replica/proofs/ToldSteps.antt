@@ -5,9 +5,12 @@ use Rattle.std.specs.List.{list_any}
 use Rattle.ft_op.specs.declared.operations.ChannelOp.{ChannelOp}
 use Rattle.ft_op.specs.Document.{Document}
 use Rattle.ft_op.specs.Operation.{sub_operations}
+use Rattle.ft_op.specs.Stages.{Stage}
 use Rattle.ft_msg.specs.declared.faults.EditFault.{EditFault}
+use Rattle.ft_msg.specs.declared.messages.Body.{Body}
+use Rattle.ft_msg.specs.declared.messages.Body.TheVariants.{Elsewhere, Nothing, Op}
 use Rattle.ft_msg.specs.declared.messages.Entry.{Entry}
-use Rattle.ft_msg.specs.Agreed.{reference_number}
+use Rattle.ft_msg.specs.Agreed.{body_effect, reference_number, with_numbers}
 use Rattle.ft_msg.specs.Client.{NaiveClient, local_edit, stages_of}
 use Rattle.ft_msg.specs.Compacted.{IsCompacted}
 use Rattle.ft_msg.specs.Process.{after_entry, after_foreign_message, is_op, is_own, is_own_join, process_fault}
@@ -21,10 +24,11 @@ use Rattle.ft_laws_compaction.proofs.Runs.{run-facts}
 use Rattle.ft_laws_compaction.proofs.SameContent.{show-alike}
 use Rattle.ft_changes.specs.declared.changes.ViewChange.{ViewChange}
 use Rattle.ft_changes.specs.Laws.{after_edit_lists}
-use Rattle.ft_changes.specs.Shown.{after_changes, shown_content}
+use Rattle.ft_changes.specs.Shown.{ShownContent, after_changes, shown_content}
 use Rattle.ft_changes.specs.Told.{told_body, told_edit, told_edit_lists, told_lists, told_locals, told_of_edit, told_of_entry, told_rest}
 use Rattle.ft_changes.proofs.KeptClients.{kept-is-shown}
 use Rattle.ft_changes.proofs.KeptTells.{kept-ack-tells-nothing, kept-join-tells-nothing}
+use Rattle.ft_changes.proofs.NothingTold.{rest-same}
 use Rattle.ft_replica.specs.Linked.{LinkedState, linked_as}
 use Rattle.ft_replica.specs.Telling.{IsEnough, TakesOther}
 use Rattle.ft_replica.specs.Comparing.{compared_part}
@@ -98,15 +102,39 @@ other-lists entry last p t =
     ∙ ap (λ b. cond b [] (body p.last_stage)) t.own
     )
 
-pub other-told : (entry : Entry) (last : ℕ) (p : NaiveClient) (compared : Compared) (lists all : List ViewChange) → TakesOther entry last p
-    → IsEnough compared entry p
+-- without an operation nothing is told: the lists and all that is shown are what they were
+module _ (k : ℕ) (p : NaiveClient) (entry : Entry) (s c r : ℕ) where
+  idle-lists : (body : Body) → is_op body ≡ false → told_body k p.doc s c r body ≡ []
+  idle-lists (Op op) h = absurd (cc)
+  idle-lists Nothing h = refl
+  idle-lists (Elsewhere address) h = refl
+
+  idle-shows : (body : Body) → is_op body ≡ false → shown_content (record p { doc = with_numbers entry (body_effect p.doc s c r body) }) ≡ shown_content p
+  idle-shows (Op op) h = absurd (cc)
+  idle-shows Nothing h = refl
+  idle-shows (Elsewhere address) h = refl
+
+pub idle-tells-nothing : (entry : Entry) (last : ℕ) (p : NaiveClient) → TakesOther entry last p → is_op entry.msg.body ≡ false → told_of_entry p entry ≡ []
+idle-tells-nothing entry last p t h =
+    let s = entry.msg.seq in
+    let c = entry.origin in
+    let r = reference_number entry.msg.ref_seq in
+    let lists : told_lists p entry ≡ [] = sym (other-lists entry last p t) ∙ idle-lists last p entry s c r entry.msg.body h in
+    let shows : shown_content (after_entry p entry) ≡ shown_content p =
+    ap shown_content (after-other entry last p t) ∙ idle-shows last p entry s c r entry.msg.body h in
+    ap (λ cs. cs ++ told_rest (after_changes (shown_content p) cs) (shown_content (after_entry p entry))) lists
+    ∙ ap (told_rest (shown_content p)) shows ∙ rest-same (shown_content p)
+
+pub other-told : (entry : Entry) (last : ℕ) (p : NaiveClient) (compared : Compared) (op : ChannelOp) (lists all : List ViewChange) → TakesOther entry last p
+    → IsEnough compared op entry p
     → lists ≡ told_body last p.doc entry.msg.seq entry.origin (reference_number entry.msg.ref_seq) entry.msg.body
-    → all ≡ lists ++ told_rest (compared_part compared (after_changes (shown_content p) lists))
-    (compared_part compared (shown_content (after_foreign_message p entry)))
+    → all ≡ lists ++ told_rest (compared_part compared op (stages_of p) (after_changes (shown_content p) lists))
+    (compared_part compared op (stages_of p) (shown_content (after_foreign_message p entry)))
     → all ≡ told_of_entry p entry
-other-told entry last p compared lists all t enough told is =
+other-told entry last p compared op lists all t enough told is =
+    let part : ShownContent → ShownContent = λ s. compared_part compared op (stages_of p) s in
     let rest : List ViewChange → NaiveClient → List ViewChange =
-    λ cs y. told_rest (compared_part compared (after_changes (shown_content p) cs)) (compared_part compared (shown_content y)) in
+    λ cs y. told_rest (part (after_changes (shown_content p) cs)) (part (shown_content y)) in
     is
     ∙ ap (λ cs. cs ++ rest cs (after_foreign_message p entry)) (told ∙ other-lists entry last p t)
     ∙ ap (λ y. told_lists p entry ++ rest (told_lists p entry) y) (sym (after-other entry last p t))
@@ -117,15 +145,17 @@ other-told entry last p compared lists all t enough told is =
 pub edit-told : (p y : NaiveClient) (op : ChannelOp) → local_edit p op ≡ Ok y → told_of_edit p op ≡ told_edit p y op
 edit-told p y op e = ap (λ (r : Result NaiveClient EditFault). elim r as (λ _. List ViewChange) [ Err fault ↦ [] | Ok z ↦ told_edit p z op ]) e
 
-pub edited-told : (p y : NaiveClient) (op : ChannelOp) (last : ℕ) (compared : Compared) (lists all : List ViewChange) → p.last_stage ≡ last
+pub edited-told : (p y : NaiveClient) (op : ChannelOp) (last : ℕ) (compared : Compared) (stages : List Stage) (lists all : List ViewChange)
+    → p.last_stage ≡ last
     → local_edit p op ≡ Ok y
-    → told_rest (compared_part compared (after_edit_lists p op)) (compared_part compared (shown_content y)) ≡ told_rest (after_edit_lists p op)
-    (shown_content y)
+    → told_rest (compared_part compared op stages (after_edit_lists p op)) (compared_part compared op stages (shown_content y))
+    ≡ told_rest (after_edit_lists p op) (shown_content y)
     → lists ≡ told_locals p.doc (stages_of p) (last + 1) (sub_operations op)
-    → all ≡ lists ++ told_rest (compared_part compared (after_changes (shown_content p) lists)) (compared_part compared (shown_content y)) → all
-    ≡ told_of_edit p op
-edited-told p y op last compared lists all is taken enough told made =
+    → all ≡ lists ++ told_rest (compared_part compared op stages (after_changes (shown_content p) lists)) (compared_part compared op stages (shown_content y))
+    → all ≡ told_of_edit p op
+edited-told p y op last compared stages lists all is taken enough told made =
+    let part : ShownContent → ShownContent = λ s. compared_part compared op stages s in
     made
-    ∙ ap (λ cs. cs ++ told_rest (compared_part compared (after_changes (shown_content p) cs)) (compared_part compared (shown_content y)))
+    ∙ ap (λ cs. cs ++ told_rest (part (after_changes (shown_content p) cs)) (part (shown_content y)))
     (told ∙ ap (λ n. told_locals p.doc (stages_of p) (n + 1) (sub_operations op)) (sym is))
     ∙ ap (λ cs. told_edit_lists p op ++ cs) enough ∙ sym (edit-told p y op taken)

@@ -1,9 +1,10 @@
 -- What a client over its own document tells of a step.
 use Rattle.std.specs.Prelude.{◌≡◌, ℕ, false, ◌&&◌, ◌++◌, List, None, Result, Ok, Err}
+use Rattle.ft_op.specs.declared.operations.ChannelOp.{ChannelOp}
 use Rattle.ft_op.specs.Document.{Document}
 use Rattle.ft_msg.specs.declared.faults.EditFault.{EditFault}
 use Rattle.ft_msg.specs.declared.messages.Entry.{Entry}
-use Rattle.ft_msg.specs.Client.{NaiveClient}
+use Rattle.ft_msg.specs.Client.{NaiveClient, stages_of}
 use Rattle.ft_msg.specs.Compacted.{IsCompacted}
 use Rattle.ft_changes.specs.Laws.{after_lists}
 use Rattle.ft_changes.specs.Shown.{shown_content}
@@ -29,12 +30,13 @@ pub record TakesOther (entry : Entry) (last : ℕ) (p : NaiveClient) : Type 0 wh
   pub join : is_own_join p.link entry.msg.kind entry.origin ≡ false
   pub own : is_op entry.msg.body && is_own p entry ≡ false
 
--- it is enough to compare so much to tell what such an entry changes: of the rest the changes of the lists lead there
-abbrev pub IsEnough : Compared → Entry → NaiveClient → Type 0
-IsEnough compared entry p =
+-- it is enough to compare so much to tell what such an entry with this operation changes: of the rest the changes of the lists lead
+-- there
+abbrev pub IsEnough : Compared → ChannelOp → Entry → NaiveClient → Type 0
+IsEnough compared op entry p =
     let lists = after_lists p entry in
     let after = shown_content (after_entry p entry) in
-    told_rest (compared_part compared lists) (compared_part compared after) ≡ told_rest lists after
+    told_rest (compared_part compared op (stages_of p) lists) (compared_part compared op (stages_of p) after) ≡ told_rest lists after
 
 -- the changes added are those that are told of each client for which it stands that steps made, or that keeps one which they made
 abbrev pub AddsTold : {D : Type 0} → (D → HeldDocument → Type 0) → (NaiveClient → List ViewChange) → LinkedState D → List ViewChange → List ViewChange → Type 0

@@ -1,13 +1,24 @@
 //! Which of what is shown beside the lists is compared, before a message or an edit and after it.
 
-ghost use Rattle.std.specs.Prelude.{◌≡◌};
+ghost use Rattle.std.specs.Prelude.{◌≡◌, cond};
 ghost use Rattle.std.specs.List.{list_any};
-ghost use Rattle.ft_changes.specs.Laws.{changes_intervals, sets_cell};
-ghost use Rattle.ft_op.specs.Operation.{OnGrid, sub_operations, text_sub_operations};
+ghost use Rattle.ft_changes.specs.Laws.{sets_cell};
+ghost use Rattle.ft_op.specs.Operation.{OnGrid, sub_operations};
+ghost use Rattle.ft_replica.specs.declared.comparing.ComparedIntervals.TheVariants.{All as AllIntervals, OfOperationAndStages as OfBoth};
 ghost use Rattle.ft_replica.specs.Comparing.{compared_by, compared_by_edit};
 
-use ft_msg::Body;
-use ft_op::{CellOp, ChannelOp, GridOp, TextOp};
+use ft_op::{CellOp, ChannelOp, GridOp};
+
+/// Which intervals are compared, with a step of one operation.
+#[derive(Clone, Copy)]
+pub enum ComparedIntervals {
+    /// All.
+    All,
+    /// Those that the operation adds, changes or deletes.
+    OfOperation,
+    /// Those that the operation or a pending stage adds, changes or deletes.
+    OfOperationAndStages,
+}
 
 /// Which of what is shown beside the lists is compared. Of what isn't, the changes of the lists alone lead from the one to
 /// the other.
@@ -15,36 +26,42 @@ use ft_op::{CellOp, ChannelOp, GridOp, TextOp};
 pub struct Compared {
     /// The cells.
     pub cells: bool,
-    /// The intervals.
-    pub intervals: bool,
+    /// Which intervals.
+    pub intervals: ComparedIntervals,
 }
 
 impl Compared {
-    /// What is compared for another client's message with this body: cells where it sets some; intervals where it changes
-    /// some, or has an operation while the client has something pending.
-    pub(crate) fn by_message(pending: bool, body: &Body) -> Compared
-        ensures { result ≡ compared_by pending body.now }
+    /// What is compared for another client's message with this operation: cells where it sets some; of intervals those that
+    /// it or a pending stage adds, changes or deletes, if it moves the ends of the others as it moves the lists, else all.
+    pub(crate) fn by_message(moves_alike: bool, op: &ChannelOp) -> Compared
+        ensures { result ≡ compared_by moves_alike op.now }
     {
-        match body {
-            Body::Op(op) => Compared {
-                cells: sets_cell(op),
-                intervals: pending || changes_intervals(op),
-            },
-            Body::Nothing | Body::Elsewhere(_) => Compared {
-                cells: false,
-                intervals: false,
-            },
+        Compared {
+            cells: sets_cell(op),
+            intervals: compared_around(moves_alike),
         }
     }
 
-    /// What is compared for an edit of the client's own: cells where it is one of the table; intervals where it changes some.
+    /// What is compared for an edit of the client's own: cells where it is one of the table; of intervals those that it adds,
+    /// changes or deletes.
     pub(crate) fn by_edit(op: &ChannelOp) -> Compared
         ensures { result ≡ compared_by_edit op.now }
     {
         Compared {
             cells: matches!(op, ChannelOp::Grid(_)),
-            intervals: changes_intervals(op),
+            intervals: ComparedIntervals::OfOperation,
         }
+    }
+}
+
+// The intervals that are compared for a message.
+fn compared_around(moves_alike: bool) -> ComparedIntervals
+    ensures { result ≡ cond moves_alike OfBoth AllIntervals }
+{
+    if moves_alike {
+        ComparedIntervals::OfOperationAndStages
+    } else {
+        ComparedIntervals::All
     }
 }
 
@@ -72,29 +89,4 @@ fn is_set(op: &CellOp) -> bool
     ensures { result ≡ sets_cell (OnGrid op.now) }
 {
     matches!(op, CellOp::Set { .. })
-}
-
-// Whether it is an operation of the intervals.
-#[tactic(auto, using(crate::proofs::ComparedParts::grid_unmoved))]
-fn changes_intervals(op: &ChannelOp) -> bool
-    ensures { result ≡ list_any changes_intervals (sub_operations op.now) }
-{
-    match op {
-        ChannelOp::Text(op) => is_of_intervals(op),
-        ChannelOp::Grid(_) => false,
-    }
-}
-
-// The same of one of the text.
-#[tactic(auto, using(crate::proofs::ComparedParts::texts_unmoved))]
-fn is_of_intervals(op: &TextOp) -> bool
-    ensures { result ≡ list_any changes_intervals (text_sub_operations op.now) }
-{
-    match op {
-        TextOp::One(_) => false,
-        TextOp::Group(_) => false,
-        TextOp::IntervalAdd { .. }
-        | TextOp::IntervalChange { .. }
-        | TextOp::IntervalDelete { .. } => true,
-    }
 }

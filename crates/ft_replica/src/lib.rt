@@ -13,7 +13,7 @@ pub mod replica;
 mod stopping;
 pub mod telling;
 
-pub use comparing::Compared;
+pub use comparing::{Compared, ComparedIntervals};
 pub use document::{OwnDocument, OwnNumbers, Resent};
 pub use replica::ReplicaOver;
 pub use telling::{TellingDocument, ToldEdit};

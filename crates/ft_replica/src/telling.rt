@@ -21,13 +21,14 @@ pub struct ToldEdit {
 ///
 /// As for the calls without telling, each clause is about every document that it holds and in which the names fit.
 pub trait TellingDocument: OwnDocument {
-    ghost use Rattle.std.specs.Prelude.{◌≡◌, ◌+◌, ℕ, None, IfOk, OnOk};
+    ghost use Rattle.std.specs.Prelude.{◌≡◌, ◌+◌, ℕ, true, None, IfOk, IsTrue, OnOk};
     ghost use Rattle.ft_op.specs.Operation.{sub_operations};
     ghost use Rattle.ft_op.specs.WellFormed.{IsWellFormed};
     ghost use Rattle.ft_msg.specs.Agreed.{reference_number};
-    ghost use Rattle.ft_msg.specs.Client.{NaiveClient, local_sub_operations};
+    ghost use Rattle.ft_msg.specs.Client.{NaiveClient, local_sub_operations, stages_of};
     ghost use Rattle.ft_msg.specs.Process.{process_fault};
     ghost use Rattle.ft_msg.specs.WellFormed.{IsWellFormedMessage};
+    ghost use Rattle.ft_changes.specs.Beside.{entry_moves_ends_alike};
     ghost use Rattle.ft_changes.specs.Rest.{rest_of};
     ghost use Rattle.ft_changes.specs.Shown.{shown_content};
     ghost use Rattle.ft_changes.specs.Told.{told_body, told_locals};
@@ -53,10 +54,24 @@ pub trait TellingDocument: OwnDocument {
         ensures told { (held : HeldDocument) → NamesFit held → held.last ≡ last → Self.holds self.old held
             → IfOk result (λ changes. changes ≡ told_body last held.doc entry.now.msg.seq entry.now.origin (reference_number entry.now.msg.ref_seq) entry.now.msg.body) };
 
-    /// What is compared of what is shown at the last stage beside the elements, and how many these are. Cells or intervals that
-    /// aren't compared are left empty, and cost nothing.
-    fn shown_rest(&self, last: u64, compared: Compared) -> Result<ShownRest, OutOfMemory>
+    /// What is compared of what is shown at the last stage beside the elements, and how many these are, with a step of this
+    /// operation. Cells that aren't compared are left empty, and cost nothing; intervals that aren't are left out, and those that
+    /// the operation or a pending stage is on are looked up by their names.
+    fn shown_rest(
+        &self,
+        last: u64,
+        compared: Compared,
+        op: &ChannelOp,
+    ) -> Result<ShownRest, OutOfMemory>
         requires { HoldsOne Self.holds self.now (λ p. p.last_stage ≡ last) }
         ensures { (low : ℕ) (p : NaiveClient) → IsWellNamed p → p.last_stage ≡ last → Self.holds self.now (held_by low p)
-            → IfOk result (λ rest. rest ≡ rest_of (compared_part compared (shown_content p))) };
+            → IfOk result (λ rest. rest ≡ rest_of (compared_part compared op.now (stages_of p) (shown_content p))) };
+
+    /// Whether another client's message moves no end of an interval elsewhere than it moves the lists. It may say no where it
+    /// doesn't look far enough; then all intervals are compared. It takes no memory.
+    fn moves_ends_alike(&self, last: u64, entry: &Entry) -> bool
+        requires formed { IsWellFormedMessage entry.now.msg }
+        requires known { HoldsOne Self.holds self.now (λ p. (process_fault p entry.now ≡ None) × (p.last_stage ≡ last)) }
+        ensures { (low : ℕ) (p : NaiveClient) → IsWellNamed p → p.last_stage ≡ last → Self.holds self.now (held_by low p)
+            → IsTrue result → entry_moves_ends_alike p entry.now ≡ true };
 }

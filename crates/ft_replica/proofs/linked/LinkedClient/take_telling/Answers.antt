@@ -1,14 +1,7 @@
-use Rattle.std.proofs.Common.{◌≡◌, ◌∙◌, ◌||◌, ◌&&◌, ◌++◌, false, nat_eq, None, append-nil, ap, length, subst, sym}
-use Rattle.std.specs.List.{list_any}
-use Rattle.ft_msg.specs.Process.{is_op, is_own_join, process_fault}
-use Rattle.ft_replica.specs.Linked.{LinkedState, RunsForOne}
-use Rattle.ft_replica.specs.Own.{held_by}
-use Rattle.ft_replica.specs.Telling.{IsEnough, TakesOther}
-use Rattle.ft_replica.proofs.ComparedParts.{enough-compared, idle-stages}
-use Rattle.ft_replica.proofs.LinkedEntries.{takes-entry}
+use Rattle.std.proofs.Common.{◌∙◌, ◌++◌, append-nil, ap, sym}
+use Rattle.ft_msg.specs.Process.{is_op}
 use Rattle.ft_replica.proofs.LinkedReads.{none-refuses}
-use Rattle.ft_replica.proofs.LinkedSteps.{holds-one, state}
-use Rattle.ft_replica.proofs.ToldSteps.{neither, on-any-ok, other-client, own-tells-nothing, whose}
+use Rattle.ft_replica.proofs.ToldSteps.{idle-tells-nothing, on-any-ok, other-client, own-tells-nothing, whose}
 use Rattle.ft_replica.proofs.linked.LinkedClient.take_telling.Goals as goal
 
 -- of its own join and its own message it tells nothing
@@ -24,43 +17,31 @@ returns-then-is_from_itself-clause-told g c =
     (sym (whose entry s p l.rest) ∙ sym c.is_from_itself.ensures ∙ c.if-is_from_itself.true))
     ∙ append-nil c.args.changes.now))
 
-pub take_into_document-requires-clause-known : goal.take_into_document-requires-clause-known
-take_into_document-requires-clause-known g c =
-    let i = c.self.inside in
-    let holds = g.D.OwnDocument.holds in
-    let entry = c.args.entry.now in
-    let old = state i.doc i.link i.conns i.last_stage i.outbox i.pending in
-    let runs = subst (λ s. RunsForOne holds s (λ p. process_fault p entry ≡ None)) (sym c.self.view_is) c.requires.known in
-    let from_itself : LinkedState _ → _ = λ s. is_own_join s.link entry.msg.kind entry.origin || (is_op entry.msg.body && list_any (nat_eq entry.origin) s.conns) in
-    let other : from_itself old ≡ false = ap from_itself c.self.view_is ∙ sym c.is_from_itself.ensures ∙ c.if-is_from_itself.false in
-    holds-one holds old (λ p. process_fault p entry ≡ None) (TakesOther entry i.last_stage) runs (λ p fits rest. other-client entry old p rest fits other)
+pub take_operation-requires-clause-other : goal.take_operation-requires-clause-other
+take_operation-requires-clause-other g c = sym c.is_from_itself.ensures ∙ c.if-is_from_itself.false
 
-pub returns-clause-answers : goal.returns-clause-answers
-returns-clause-answers g c =
-    let i = c.self.inside in
-    let holds = g.D.OwnDocument.holds in
-    let entry = c.args.entry.now in
-    let d = c.take_into_document.new.doc in
-    let new = state d i.link i.conns i.last_stage i.outbox i.pending in
-    let s = c.args.self.now in
-    let none = neither (is_own_join s.link entry.msg.kind entry.origin) (is_op entry.msg.body && list_any (nat_eq entry.origin) s.conns) (sym c.is_from_itself.ensures ∙ c.if-is_from_itself.false) in
-    takes-entry holds entry s new none.0 none.1
-    (λ held named h. c.in_ok-told.ensures.takes held named (subst (λ (t : LinkedState _). holds t.document held) (sym c.self.view_is) h))
-    (ap (λ (t : LinkedState _). record t { document = d }) c.self.view_is)
+pub take_operation-requires-clause-operation : goal.take_operation-requires-clause-operation
+take_operation-requires-clause-operation g c = c.in-Op.is
 
-pub returns-clause-told : goal.returns-clause-told
-returns-clause-told g c =
-    let i = c.self.inside in
+-- nor of what has no operation
+pub returns-in-Nothing-clause-told : goal.returns-in-Nothing-clause-told
+returns-in-Nothing-clause-told g c =
     let D = g.D.OwnDocument in
     let entry = c.args.entry.now in
     let s = c.args.self.now in
-    λ start low p made l.
-    let last = sym (ap (λ (t : LinkedState _). t.last_stage) c.self.view_is) in
+    on-any-ok c.take-in-Nothing.result
+    (λ start low p made l.
     let taken = none-refuses D.holds D.shown g.met.D.OwnDocument.shows low s p entry c.requires.known l in
     let other = other-client entry s p l.rest taken (sym c.is_from_itself.ensures ∙ c.if-is_from_itself.false) in
-    let here = subst (λ n. TakesOther entry n p) last other in
-    let document = subst (λ (t : LinkedState _). D.holds t.document (held_by low p)) (sym c.self.view_is) l.document in
-    let enough = subst (λ compared. IsEnough compared entry p) (sym c.by_message-compared.ensures)
-    (enough-compared start p entry i.last_stage here _ c.requires.formed made
-    (λ idle. idle-stages s p l.rest c.len.result (c.len.ensures ∙ ap (λ (t : LinkedState _). length t.pending) c.self.view_is) idle)) in
-    c.in_ok-append.ensures.ok ∙ ap (λ cs. c.args.changes.now ++ cs) (c.in_ok-told.ensures.told start low p made here enough document)
+    sym (ap (λ cs. c.args.changes.now ++ cs) (idle-tells-nothing entry s.last_stage p other (ap is_op c.in-Nothing.is)) ∙ append-nil c.args.changes.now))
+
+pub returns-in-Elsewhere-clause-told : goal.returns-in-Elsewhere-clause-told
+returns-in-Elsewhere-clause-told g c =
+    let D = g.D.OwnDocument in
+    let entry = c.args.entry.now in
+    let s = c.args.self.now in
+    on-any-ok c.take-in-Elsewhere.result
+    (λ start low p made l.
+    let taken = none-refuses D.holds D.shown g.met.D.OwnDocument.shows low s p entry c.requires.known l in
+    let other = other-client entry s p l.rest taken (sym c.is_from_itself.ensures ∙ c.if-is_from_itself.false) in
+    sym (ap (λ cs. c.args.changes.now ++ cs) (idle-tells-nothing entry s.last_stage p other (ap is_op c.in-Elsewhere.is)) ∙ append-nil c.args.changes.now))

@@ -38,4 +38,4 @@ returns-clause-told g c = λ start low p made t enough h.
     let of_lists = subst (λ cs. are_of_lists cs ≡ true) (sym lists)
     (body-of-lists c.args.last p.doc entry.msg.seq entry.origin (reference_number entry.msg.ref_seq) entry.msg.body) in
     let all = c.in_ok-tell_rest.ensures (shown_content p) low y (sym before) of_lists (named-after start p entry c.args.last c.requires.formed made t) t.last_is (c.in_ok-changes.ensures.takes (held_by low p) named h) in
-    other-told entry c.args.last p c.args.compared c.in_ok-changes.changes _ t enough lists all
+    other-told entry c.args.last p c.args.compared c.args.op.now c.in_ok-changes.changes _ t enough lists all
