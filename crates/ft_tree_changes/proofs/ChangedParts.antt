@@ -12,11 +12,11 @@ pub either-way : {A : Type 0} (b : Bool) (x : A) → cond b x x ≡ x
 either-way true x = refl
 either-way false x = refl
 
-if-none : (b : Bool) (n : ℕ) → n ≡ n + cond b 0 0
+pub if-none : (b : Bool) (n : ℕ) → n ≡ n + cond b 0 0
 if-none true n = omega arith
 if-none false n = omega arith
 
-if-more : (b : Bool) (n k : ℕ) → one_more_if b n + cond b k 0 ≡ n + cond b (suc k) 0
+pub if-more : (b : Bool) (n k : ℕ) → one_more_if b n + cond b k 0 ≡ n + cond b (suc k) 0
 if-more true n k = omega arith
 if-more false n k = omega arith
 

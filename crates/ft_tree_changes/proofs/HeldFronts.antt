@@ -45,6 +45,40 @@ insertion-first seen past shown p xs e =
     let none : 0 + shown_in_run past shown xs ≡ shown_in_run past shown xs = omega arith in insertion-behind seen shown past p [] xs e ∙ none
 
 module _ {C U : Type 0} (units : C → List U) (by : C → Option Stamp) (xs : List (ℕ × TreeLeaf C)) (once : (i : ℕ) → times_leaf xs i ≤ 1)
+    (id : ℕ) (v : TreeLeaf C) (is : value_at xs id ≡ Some v) where
+  abbrev before_it : List (TreeElement U)
+  before_it = elements units by (left_of xs id)
+
+  abbrev behind_it : List (TreeElement U)
+  behind_it = held_from units by xs (after (ids xs) id)
+
+  abbrev made_of : U → TreeElement U
+  made_of = element_with v.stamps (by v.content) v.overlay
+
+  cut-at : elements units by xs ≡ before_it ++ (map made_of (units v.content) ++ behind_it)
+  cut-at =
+      ap (elements units by) (stands xs id v once is).whole
+      ∙ elements-append units by (left_of xs id) ((id, v) ∷ from_place xs (after (ids xs) id))
+
+  -- what stands up to k of its elements, and behind them
+  module _ (k : ℕ) (fits : k ≤ length (units v.content)) where
+    pub front-cut : take (length (elements units by (left_of xs id)) + k) (elements units by xs)
+        ≡ elements units by (left_of xs id) ++ map (element_with v.stamps (by v.content) v.overlay) (take k (units v.content))
+    front-cut =
+        ap (take (length before_it + k)) cut-at
+        ∙ take-append-add before_it (map made_of (units v.content) ++ behind_it) k
+        ∙ ap (λ ys. before_it ++ ys) (take-append-le k (map made_of (units v.content)) behind_it
+        (omega (arith, length-map (units v.content) made_of, fits)) ∙ take-map made_of k (units v.content))
+
+    pub back-cut : drop (length (elements units by (left_of xs id)) + k) (elements units by xs)
+        ≡ map (element_with v.stamps (by v.content) v.overlay) (drop k (units v.content)) ++ held_from units by xs (after (ids xs) id)
+    back-cut =
+        ap (drop (length before_it + k)) cut-at
+        ∙ drop-append-add before_it (map made_of (units v.content) ++ behind_it) k
+        ∙ drop-append-le k (map made_of (units v.content)) behind_it (omega (arith, length-map (units v.content) made_of, fits))
+        ∙ ap (λ ys. ys ++ behind_it) (drop-map made_of k (units v.content))
+
+module _ {C U : Type 0} (units : C → List U) (by : C → Option Stamp) (xs : List (ℕ × TreeLeaf C)) (once : (i : ℕ) → times_leaf xs i ≤ 1)
     (id : ℕ) (live : IsLeafIn xs id) (shown : LenView) (m k left : ℕ) (s : Bool) (e : Element)
     (counts : option_map (λ x. length (units x.content)) (value_at xs id) ≡ Some m)
     (shows : option_map (λ x. sees_in shown x.stamps) (value_at xs id) ≡ Some s)
@@ -77,23 +111,11 @@ module _ {C U : Type 0} (units : C → List U) (by : C → Option Stamp) (xs : L
   same : leaf.stamps ≡ e
   same = read_value (λ x. x.stamps) (value_at xs id) leaf e there.1 stamps
 
-  whole : elements units by xs ≡ head ++ (map f us ++ rest)
-  whole =
-      ap (elements units by) (stands xs id leaf once there.1).whole
-      ∙ elements-append units by (left_of xs id) ((id, leaf) ∷ from_place xs (after (ids xs) id))
-
   front : take (length head + k) (elements units by xs) ≡ head ++ map f (take k us)
-  front =
-      ap (take (length head + k)) whole
-      ∙ take-append-add head (map f us ++ rest) k
-      ∙ ap (λ ys. head ++ ys) (take-append-le k (map f us) rest (omega (arith, length-map us f, count, fits)) ∙ take-map f k us)
+  front = front-cut units by xs once id leaf there.1 k (omega (arith, count, fits))
 
   back : drop (length head + k) (elements units by xs) ≡ map f (drop k us) ++ rest
-  back =
-      ap (drop (length head + k)) whole
-      ∙ drop-append-add head (map f us ++ rest) k
-      ∙ drop-append-le k (map f us) rest (omega (arith, length-map us f, count, fits))
-      ∙ ap (λ ys. ys ++ rest) (drop-map f k us)
+  back = back-cut units by xs once id leaf there.1 k (omega (arith, count, fits))
 
   taken : length (take k us) ≡ k
   taken = length-take-le k us (omega (arith, count, fits))

@@ -5,3 +5,5 @@ pub mod FoundFronts
 pub mod LeafWalks
 pub mod RangeWalks
 pub mod HeldFronts
+pub mod PassedSides
+pub mod StandingWalks

@@ -1,2 +1,3 @@
 pub mod ShownOverlays
 pub mod Fronts
+pub mod StandingElements

@@ -80,8 +80,8 @@ fn shown_pending<C: Content>(tree: &Tree<C>, from: Option<NodeId>, shown: LenVie
     count
 }
 
-// Whether its insertion is pending.
-fn is_pending(e: &Element) -> bool
+/// Whether its insertion is pending.
+pub(crate) fn is_pending(e: &Element) -> bool
     ensures { result ≡ not (is_acked e.now.ins) }
 {
     matches!(e.ins, Stamp::Local { .. })
