@@ -16,7 +16,7 @@ use Rattle.ft_interval_store.specs.Ends.{References, map_ends, places_of_ends}
 use Rattle.ft_interval_store.specs.Gathered.{IsPartOf, is_on_any}
 use Rattle.ft_interval_store.specs.Intervals.{Name, NamesRise, after_own, interval_cmp, interval_of, is_on, name_cmp, one_after}
 use Rattle.ft_interval_store.specs.Shown.{carried_interval, last, settled_end, settled_interval, shown_from, shown_one_from, shown_record}
-use Rattle.ft_interval_store.specs.State.{placed_intervals, with_mapped_ends}
+use Rattle.ft_interval_store.specs.State.{placed_intervals, placed_operations, with_mapped_ends}
 use Rattle.ft_interval_store.proofs.OneInterval.{NamesRise-after, NamesRise-map, interval_of-map, interval_of-put, same_name}
 use Rattle.ft_interval_store.proofs.RisingLists.{filter-map, filtered-alike, found-name, kept}
 use Rattle.ft_interval_store.proofs.RisingNames.{NamesRise-put}
@@ -150,15 +150,16 @@ pub none-part : (from : List (Interval ℕ)) (ts : List Operation) → IsPartOf 
 none-part from ts = record { part = λ n. inl refl; there = λ n h. (cc); rising = tt }
 
 -- one operation more
+pub on-next : (ts : List Operation) (i : ℕ) (t : Operation) → i < length ts → t ≡ get_or ts i t → (n : Name)
+    → is_on_any n (take (i + 1) ts) ≡ is_on_any n (take i ts) || is_on n t.op
+on-next ts i t within at n =
+    ap (λ (us : List Operation). is_on_any n us) (take_more ts i t within ∙ ap (λ (u : Operation). take i ts ++ u ∷ []) (sym at))
+    ∙ any-append (λ (u : Operation). is_on n u.op) (take i ts) t
+
 pub next-part : (from is : List (Interval ℕ)) (ts : List Operation) (i : ℕ) (t : Operation) → i < length ts → t ≡ get_or ts i t
     → IsPartOf from is (λ n. is_on_any n (take i ts) || is_on n t.op) → IsPartOf from is (λ n. is_on_any n (take (i + 1) ts))
 next-part from is ts i t within at p =
-    part-less from is (λ n. is_on_any n (take i ts) || is_on n t.op) (λ n. is_on_any n (take (i + 1) ts)) (λ n e. sym (front n) ∙ e) p
-  where
-    front : (n : Name) → is_on_any n (take (i + 1) ts) ≡ is_on_any n (take i ts) || is_on n t.op
-    front n =
-        ap (λ (us : List Operation). is_on_any n us) (take_more ts i t within ∙ ap (λ (u : Operation). take i ts ++ u ∷ []) (sym at))
-        ∙ any-append (λ (u : Operation). is_on n u.op) (take i ts) t
+    part-less from is (λ n. is_on_any n (take i ts) || is_on n t.op) (λ n. is_on_any n (take (i + 1) ts)) (λ n e. sym (on-next ts i t within at n) ∙ e) p
 
 -- its stage is a number of 64 bits too
 pub next-fits : (ts : List Operation) (i : ℕ) (t : Operation) → i < length ts → t ≡ get_or ts i t → t.stage ≤ last
@@ -167,3 +168,8 @@ next-fits ts i t within at fits all =
     let P : Operation → Type 0 = λ u. u.stage ≤ last in
     subst (λ (us : List Operation). All P us) (sym (take_more ts i t within ∙ ap (λ (u : Operation). take i ts ++ u ∷ []) (sym at)))
     (All-append P (take i ts) (t ∷ []) all (All-cons P t [] fits (All-nil P)))
+
+-- with places in place of references they are on the same
+pub on-placed : (refs : References) (n : Name) (ts : List Operation) → is_on_any n (placed_operations refs ts) ≡ is_on_any n ts
+on-placed refs n [] = refl
+on-placed refs n (t ∷ ts) = ap (λ b. is_on n t.op || b) (on-placed refs n ts)

@@ -24,5 +24,6 @@ pub mod WrittenLists
 pub mod StandingEnds
 pub mod RisingLists
 pub mod Gathered
+pub mod NamedIntervals
 pub mod AckedRecords
 pub mod StagePlaces

@@ -122,7 +122,7 @@ module _ (tree : TreeState TextContent) (k : ℕ) where
 
   -- ---- an operation
 
-  there-shown : (n : Name) (is : List (Interval ℕ)) (js : List (Interval Place)) → ShowsAll tree k is js
+  pub there-shown : (n : Name) (is : List (Interval ℕ)) (js : List (Interval Place)) → ShowsAll tree k is js
       → is_some (interval_of n js) ≡ is_some (interval_of n is)
   there-shown n [] [] h = refl
   there-shown n [] (j ∷ js) h = absurd h

@@ -8,3 +8,4 @@ pub mod State
 pub mod Numbers
 pub mod Standing
 pub mod Gathered
+pub mod Named

@@ -7,6 +7,7 @@ ghost use Rattle.ft_interval_store.specs.declared.intervals.Interval.{Interval};
 ghost use Rattle.ft_interval_store.specs.Ends.{AreLiveEnds, map_ends, places_of_ends};
 ghost use Rattle.ft_interval_store.specs.Gathered.{Gathers, IsPartOf, is_on_any};
 ghost use Rattle.ft_interval_store.specs.Intervals.{after_operation, is_on, name_cmp};
+ghost use Rattle.ft_interval_store.specs.Named.{AddsNoOther, HasNoOther};
 ghost use Rattle.ft_interval_store.specs.Shown.{carried, last, settled_end, settled_interval, shown_from, shown_intervals, shown_record};
 ghost use Rattle.ft_interval_store.specs.Standing.{AreOnTree, HasNoRemoval, HasPlaces, IsCarriedInterval, ShowsAll, ShowsInterval, acked_record, record_at};
 ghost use Rattle.ft_interval_store.specs.State.{AreLiveIntervals, AreLiveOperations, StagesRise, placed_intervals, placed_operations, text_elements, with_mapped_ends};
@@ -137,8 +138,8 @@ fn carry_each(tree: &Tree<TextContent>, all: &mut Intervals<Place>, from: u64, t
     carry_pages(tree, &mut all.items, from, to);
 }
 
-// Takes all intervals from stage `from` to stage `to`. Where no stage between removes elements, they stay as they are.
-fn carry_all(tree: &Tree<TextContent>, all: &mut Intervals<Place>, from: u64, to: u64)
+/// Takes all intervals from stage `from` to stage `to`. Where no stage between removes elements, they stay as they are.
+pub fn carry_all(tree: &Tree<TextContent>, all: &mut Intervals<Place>, from: u64, to: u64)
     requires usable { IsTrue tree.now.usable }
     requires on_leaf { All (HasPlaces tree.now) all.old }
     requires rises { from ≤ to }
@@ -150,8 +151,8 @@ fn carry_all(tree: &Tree<TextContent>, all: &mut Intervals<Place>, from: u64, to
     carry_each(tree, all, from, to);
 }
 
-// Takes all intervals from stage `from` to the stage of the operation, and applies that.
-fn take_next(
+/// Takes all intervals from stage `from` to the stage of the operation, and applies that.
+pub fn take_next(
     tree: &Tree<TextContent>,
     all: &mut Intervals<Place>,
     t: &Operation,
@@ -207,8 +208,11 @@ fn add_records(
     Ok(())
 }
 
-// The intervals as they are shown.
-fn records(tree: &Tree<TextContent>, all: Intervals<Place>) -> Result<Vec<IntervalRec>, OutOfMemory>
+/// The intervals as they are shown.
+pub fn records(
+    tree: &Tree<TextContent>,
+    all: Intervals<Place>,
+) -> Result<Vec<IntervalRec>, OutOfMemory>
     requires usable { IsTrue tree.now.usable }
     requires on_leaf { All (HasPlaces tree.now) all }
     ensures { IfOk result (λ records. records.items ≡ map (record_at tree.now) all) }
@@ -317,8 +321,9 @@ pub fn add_named(
 ) -> Result<(), OutOfMemory>
     requires usable { IsTrue tree.now.usable }
     requires acked { AreLiveIntervals tree.now.refs acked.now }
-    ensures { let from = map (settled_interval (text_elements tree.now) 0) (placed_intervals tree.now.refs acked.now) in
+    ensures gathers { let from = map (settled_interval (text_elements tree.now) 0) (placed_intervals tree.now.refs acked.now) in
         OnOk result (Gathers tree.now from (λ n. is_eq (name_cmp n (label.now, id.now))) all.old all.new) }
+    ensures only { OnOk result (AddsNoOther (λ n. is_eq (name_cmp n (label.now, id.now))) all.old all.new) }
 {
     if let Some(i) = acked.get(label, id) {
         all.put(placed(tree, i)?)?;
@@ -326,8 +331,8 @@ pub fn add_named(
     Ok(())
 }
 
-// Adds the acknowledged interval that the operation is on, at stage 0, if it is there.
-fn add_changed(
+/// Adds the acknowledged interval that the operation is on, at stage 0, if it is there.
+pub fn add_changed(
     tree: &Tree<TextContent>,
     acked: &Intervals<RefId>,
     op: &TextOp,
@@ -335,8 +340,9 @@ fn add_changed(
 ) -> Result<(), OutOfMemory>
     requires usable { IsTrue tree.now.usable }
     requires acked { AreLiveIntervals tree.now.refs acked.now }
-    ensures { let from = map (settled_interval (text_elements tree.now) 0) (placed_intervals tree.now.refs acked.now) in
+    ensures gathers { let from = map (settled_interval (text_elements tree.now) 0) (placed_intervals tree.now.refs acked.now) in
         OnOk result (Gathers tree.now from (λ n. is_on n op.now) all.old all.new) }
+    ensures only { OnOk result (AddsNoOther (λ n. is_on n op.now) all.old all.new) }
 {
     match op {
         TextOp::IntervalAdd { label, id, .. } => add_named(tree, acked, label, id, all),
@@ -357,6 +363,7 @@ pub fn places_of_pending(
     ensures part { let from = map (settled_interval (text_elements tree.now) 0) (placed_intervals tree.now.refs acked.now) in
         IfOk result (λ all. (is : List (Interval ℕ)) × ShowsAll tree.now 0 is all × IsPartOf from is (λ n. is_on_any n pending.now.items)) }
     ensures fits { OnOk result (All (λ t. t.stage ≤ last) pending.now.items) }
+    ensures only { IfOk result (λ all. HasNoOther (λ n. is_on_any n pending.now.items) all) }
 {
     let mut all = Intervals::new(acked.allocator());
     let mut i = 0;

@@ -9,6 +9,7 @@ mod effects;
 mod ends;
 pub mod faults;
 pub mod intervals;
+mod named;
 mod numbers;
 mod pages;
 mod pending;

@@ -1,6 +1,6 @@
 //! Intervals with what is pending on them.
 
-ghost use Rattle.std.specs.Prelude.{◌≡◌, ◌≤◌, ℕ, List, All, [], IfSome, IsSome, Some, is_some, not, IsTrue, IfOk, IfErr, OnErr, OnOk, true, false, map, option_copied, option_map};
+ghost use Rattle.std.specs.Prelude.{◌≡◌, ◌≤◌, ◌||◌, ℕ, List, All, [], IfSome, IsSome, Some, is_some, not, IsTrue, IfOk, IfErr, OnErr, OnOk, true, false, filter, map, option_copied, option_map};
 ghost use Rattle.std.specs.Ordering.{is_eq};
 ghost use Rattle.std.specs.List.{list_any};
 ghost use Rattle.ft_base.specs.Scan.{len};
@@ -14,6 +14,7 @@ ghost use Rattle.ft_interval_store.specs.declared.intervals.Interval.{Interval};
 ghost use Rattle.ft_interval_store.specs.Ends.{map_ends, places_of_given, slid_end};
 ghost use Rattle.ft_interval_store.specs.Gathered.{Gathers, IsPartOf, is_on_any};
 ghost use Rattle.ft_interval_store.specs.Intervals.{NamesRise, interval_of, name_cmp, name_in, place_of_operation};
+ghost use Rattle.ft_interval_store.specs.Named.{is_operation_on, name_of_record};
 ghost use Rattle.ft_interval_store.specs.Shown.{last, numbers_at, regenerated, settled_end, settled_interval, shown_from, shown_intervals, shown_record};
 ghost use Rattle.ft_interval_store.specs.Standing.{ShowsAll};
 ghost use Rattle.ft_interval_store.specs.State.{AreOwnEnds, IsAboveAll, IsAfter, IsAfterFirst, IsAsBefore, IsFirst, IsInOrder, IsLive, IsRefusedEdit, KeepsReferences, Pushes, first_operation, first_stage, is_add, is_at_stage, is_interval_operation, is_shown, operation_at, placed, placed_intervals, placed_operations, text_elements, with_effect, with_ends_at, with_first_acked};
@@ -25,13 +26,14 @@ use crate::effects::take_effect;
 use crate::ends::{add_ends, drop_ends, given_ends_fit};
 use crate::faults::IntervalFault;
 use crate::intervals::{EndPair, FoundInterval, Intervals};
+use crate::named::{shown_around, shown_of};
 use crate::numbers::{add_numbers, settled_numbers, with_numbers};
 use crate::pending::{Operation, given_ends, has_stage, is_add, place_of_stage, push_copy};
 use crate::shown::{is_acked, is_there, shown_ends};
 use crate::standing::shown_numbers;
 use ft_base::{Datum, OutOfMemory, Perspective, Text};
 use ft_block::LenView;
-use ft_op::{Ends, TextOp};
+use ft_op::{ChannelOp, Ends, TextOp};
 use ft_refs::{Place, RefId};
 use ft_sumdoc::IntervalRec;
 use ft_tree::{TextContent, Tree};
@@ -288,6 +290,38 @@ impl Store {
             return acked_records(tree, &self.acked);
         }
         shown_behind(tree, first_places(tree, &self.acked)?, &self.pending)
+    }
+
+    /// The interval that the operation adds, changes or deletes as it is shown, if it is there. It goes over the pending operations
+    /// once.
+    pub fn shown_of(
+        &self,
+        tree: &Tree<TextContent>,
+        op: &ChannelOp,
+    ) -> Result<Vec<IntervalRec>, OutOfMemory>
+        requires usable { IsTrue tree.now.usable }
+        requires live { IsLive tree.now.refs self.now }
+        ensures { let xs = text_elements tree.now in
+            let c = placed tree.now.refs self.now in
+            IfOk result (λ some. some.items ≡ filter (λ i. is_operation_on (name_of_record i) op.now) (map (shown_record xs) (shown_intervals xs c.acked c.pending))) }
+    {
+        shown_of(tree, &self.acked, &self.pending, op)
+    }
+
+    /// The intervals that the operation or a pending one adds, changes or deletes as they are shown, by rising label and id. It
+    /// goes over them once for each run of pending operations between which stages remove elements.
+    pub fn shown_around(
+        &self,
+        tree: &Tree<TextContent>,
+        op: &ChannelOp,
+    ) -> Result<Vec<IntervalRec>, OutOfMemory>
+        requires usable { IsTrue tree.now.usable }
+        requires live { IsLive tree.now.refs self.now }
+        ensures { let xs = text_elements tree.now in
+            let c = placed tree.now.refs self.now in
+            IfOk result (λ some. some.items ≡ filter (λ i. is_on_any (name_of_record i) self.now.pending || is_operation_on (name_of_record i) op.now) (map (shown_record xs) (shown_intervals xs c.acked c.pending))) }
+    {
+        shown_around(tree, &self.acked, &self.pending, op)
     }
 
     /// The acknowledged intervals that pending operations are on, at stage 0.

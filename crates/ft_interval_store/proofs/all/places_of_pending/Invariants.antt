@@ -2,6 +2,7 @@ use Rattle.std.proofs.Common.{◌-◌, ◌≤◌, ℕ, List, All, map, take, len
 use Rattle.ft_interval_store.specs.declared.intervals.Interval.{Interval}
 use Rattle.ft_interval_store.specs.declared.pending.Operation.{Operation}
 use Rattle.ft_interval_store.specs.Gathered.{IsPartOf, is_on_any}
+use Rattle.ft_interval_store.specs.Named.{HasNoOther}
 use Rattle.ft_interval_store.specs.Shown.{last, settled_interval}
 use Rattle.ft_interval_store.specs.Standing.{ShowsAll}
 use Rattle.ft_interval_store.specs.State.{placed_intervals, text_elements}
@@ -14,6 +15,7 @@ invariant-next l =
     record {
       part : (is : List (Interval ℕ)) × ShowsAll l.tree 0 is l.all × IsPartOf from is (λ n. is_on_any n (take l.i l.pending.items));
       fits : All (λ (t : Operation). t.stage ≤ last) (take l.i l.pending.items);
+      only : HasNoOther (λ n. is_on_any n (take l.i l.pending.items)) l.all;
     }
 
 abbrev pub decreases-next : goal.decreases-next

@@ -17,4 +17,4 @@ pub returns : goal.returns
 returns c =
     let tree = c.args.tree.now in
     subst (λ (x : CollectionsState). OnOk c.add_named.result (Gathers tree (map (settled_interval (text_elements tree) 0) (placed_intervals tree.refs x.acked))
-    (λ n. is_eq (name_cmp n (c.args.label.now, c.args.id.now))) c.args.all.now c.add_named.new.all)) c.self.view_is c.add_named.ensures
+    (λ n. is_eq (name_cmp n (c.args.label.now, c.args.id.now))) c.args.all.now c.add_named.new.all)) c.self.view_is c.add_named.ensures.gathers
