@@ -44,3 +44,4 @@ pub mod LoadedIntervals
 pub mod LoadedTexts
 pub mod StandingIndexes
 pub mod NamedEnds
+pub mod AlikeNeighbours

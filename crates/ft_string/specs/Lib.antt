@@ -10,3 +10,4 @@ pub mod Calls
 pub mod Inside
 pub mod Loads
 pub mod Sound
+pub mod Neighbours

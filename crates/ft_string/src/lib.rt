@@ -11,6 +11,7 @@ mod compaction;
 mod edits;
 mod effects;
 mod moved;
+mod neighbours;
 pub mod pending;
 mod rejoining;
 mod shown;
