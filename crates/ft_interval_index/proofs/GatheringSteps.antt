@@ -14,8 +14,8 @@ use Rattle.ft_tree.specs.State.{TreeState}
 use Rattle.ft_interval_store.specs.declared.intervals.Interval.{Interval}
 use Rattle.ft_interval_store.specs.declared.pending.Operation.{Operation}
 use Rattle.ft_interval_store.specs.Ends.{References, places_of_ends}
-use Rattle.ft_interval_store.specs.Gathered.{Gathers, is_on_any}
-use Rattle.ft_interval_store.specs.Intervals.{Name, is_on, name_cmp}
+use Rattle.ft_interval_store.specs.Gathered.{Gathers}
+use Rattle.ft_interval_store.specs.Intervals.{Name, name_cmp}
 use Rattle.ft_interval_store.specs.Shown.{last}
 use Rattle.ft_interval_store.specs.State.{placed_operations, with_mapped_names}
 use Rattle.ft_interval_store.proofs.Gathered.{any-append, part-less}
@@ -87,10 +87,6 @@ found-more n x keys i within =
     ∙ spread (is_eq (text_cmp n.0 x.label)) (list_any (λ j. is_id n.1 (id_in (Some x) j)) (take i keys)) (is_id n.1 (id_in (Some x) (get_or keys i 0)))
 
 -- ---- pending operations with places
-
-pub on-placed : (refs : References) (n : Name) (ts : List Operation) → is_on_any n (placed_operations refs ts) ≡ is_on_any n ts
-on-placed refs n [] = refl
-on-placed refs n (t ∷ ts) = ap (λ b. is_on n t.op || b) (on-placed refs n ts)
 
 pub fits-placed : (refs : References) (ts : List Operation) → All (λ (t : Operation). t.stage ≤ last) ts
     → All (λ (t : Operation). t.stage ≤ last) (placed_operations refs ts)

@@ -18,7 +18,7 @@ use Rattle.ft_interval_store.specs.Gathered.{IsPartOf, is_on_any}
 use Rattle.ft_interval_store.specs.Intervals.{Name, NamesRise, has_label, interval_of}
 use Rattle.ft_interval_store.specs.Shown.{last, settled_interval, shown_from, shown_intervals, shown_place, shown_record}
 use Rattle.ft_interval_store.specs.State.{CollectionsState, IsInOrder, ends_of_name, placed_intervals, placed_operations, text_elements, with_mapped_ends}
-use Rattle.ft_interval_store.proofs.Gathered.{gathered-shown}
+use Rattle.ft_interval_store.proofs.Gathered.{gathered-shown, on-placed}
 use Rattle.ft_interval_store.proofs.OneInterval.{NamesRise-map}
 use Rattle.ft_interval_store.proofs.RisingLists.{found-name, interval_of-filter, kept, rise-filter}
 use Rattle.ft_interval_store.proofs.SettledOperation.{placed-rise}
@@ -26,7 +26,7 @@ use Rattle.ft_interval_index.specs.Indexes.{LabelIndex, IsItemOf, IsListed, is_m
 use Rattle.ft_interval_index.proofs.CountedItems.{few-counted, few-keys}
 use Rattle.ft_interval_index.proofs.FoundItems.{text-self, unwanted}
 use Rattle.ft_interval_index.proofs.StartsOnce.{HasStart, has-start}
-use Rattle.ft_interval_index.proofs.GatheringSteps.{count-placed, few-reads, fits-placed, none-read, on-placed}
+use Rattle.ft_interval_index.proofs.GatheringSteps.{count-placed, few-reads, fits-placed, none-read}
 
 first-false : (p q : Bool) → p || q ≡ false → p ≡ false
 first-false false q h = refl
