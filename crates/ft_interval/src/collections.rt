@@ -1,6 +1,6 @@
 //! Collections of intervals.
 
-ghost use Rattle.std.specs.Prelude.{◌≡◌, ◌≤◌, ◌+◌, ◌*◌, ◌^◌, [], Some, IsSome, not, IsTrue, IfOk, IfErr, OnErr, OnOk, true, false, filter, length, map, option_map};
+ghost use Rattle.std.specs.Prelude.{◌≡◌, ◌≤◌, ◌+◌, ◌*◌, ◌^◌, ◌||◌, [], Some, IsSome, not, IsTrue, IfOk, IfErr, OnErr, OnOk, true, false, filter, length, map, option_map};
 ghost use Rattle.std.specs.List.{list_any};
 ghost use Rattle.ft_base.specs.Scan.{len};
 ghost use Rattle.ft_block.specs.declared.leaves.LenView.TheVariants.{At, Stage};
@@ -14,6 +14,8 @@ ghost use Rattle.ft_interval_store.specs.Ends.{map_ends, places_of_given, slid_e
 ghost use Rattle.ft_interval_index.specs.Indexes.{index_of, list_in};
 ghost use Rattle.ft_interval.specs.State.{StandsOn};
 ghost use Rattle.ft_interval_store.specs.Intervals.{NamesRise, has_label, interval_of, name_in};
+ghost use Rattle.ft_interval_store.specs.Gathered.{is_on_any};
+ghost use Rattle.ft_interval_store.specs.Named.{is_operation_on, name_of_record};
 ghost use Rattle.ft_interval_store.specs.Shown.{last, numbers_at, regenerated, settled_end, shown_intervals, shown_record};
 ghost use Rattle.ft_interval_store.specs.State.{IsAboveAll, IsFirst, IsInOrder, IsAsBefore, IsRefusedEdit, KeepsReferences, Pushes, first_stage, is_add, is_at_stage, is_change, is_delete, is_interval_operation, is_shown, operation_at, placed, text_elements, with_effect, with_ends_at, with_first_acked};
 
@@ -22,7 +24,7 @@ use ft_interval_index::gathering::overlapping;
 use ft_interval_index::indexes::Indexes;
 use ft_interval_index::listing::{enlist_changed, unlist_changed};
 use ft_interval_store::{IntervalFault, Store};
-use ft_op::{Ends, TextOp};
+use ft_op::{ChannelOp, Ends, TextOp};
 use ft_sumdoc::IntervalRec;
 use ft_tree::{TextContent, Tree};
 use std::alloc::Global;
@@ -257,6 +259,38 @@ impl Collections {
             IfOk result (λ all. all.items ≡ map (shown_record xs) (shown_intervals xs c.acked c.pending)) }
     {
         self.store.all(tree)
+    }
+
+    /// The interval that the operation adds, changes or deletes as it is shown, if it is there. It goes over the pending operations
+    /// once.
+    pub fn shown_of(
+        &self,
+        tree: &Tree<TextContent>,
+        op: &ChannelOp,
+    ) -> Result<Vec<IntervalRec>, OutOfMemory>
+        requires usable { IsTrue tree.now.usable }
+        requires stands { StandsOn tree.now self.now }
+        ensures { let xs = text_elements tree.now in
+            let c = placed tree.now.refs self.now.state in
+            IfOk result (λ some. some.items ≡ filter (λ i. is_operation_on (name_of_record i) op.now) (map (shown_record xs) (shown_intervals xs c.acked c.pending))) }
+    {
+        self.store.shown_of(tree, op)
+    }
+
+    /// The intervals that the operation or a pending one adds, changes or deletes as they are shown, by rising label and id. It
+    /// goes over them once for each run of pending operations between which stages remove elements.
+    pub fn shown_around(
+        &self,
+        tree: &Tree<TextContent>,
+        op: &ChannelOp,
+    ) -> Result<Vec<IntervalRec>, OutOfMemory>
+        requires usable { IsTrue tree.now.usable }
+        requires stands { StandsOn tree.now self.now }
+        ensures { let xs = text_elements tree.now in
+            let c = placed tree.now.refs self.now.state in
+            IfOk result (λ some. some.items ≡ filter (λ i. is_on_any (name_of_record i) self.now.state.pending || is_operation_on (name_of_record i) op.now) (map (shown_record xs) (shown_intervals xs c.acked c.pending))) }
+    {
+        self.store.shown_around(tree, op)
     }
 
     /// The intervals of the label as they are shown that meet the places from `a` to `b`, by rising id: those that aren't
