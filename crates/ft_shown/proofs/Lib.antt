@@ -1,0 +1,2 @@
+pub mod ListCuts
+pub mod RisingItems
