@@ -11,3 +11,4 @@ pub mod PlacedRuns
 pub mod PushedCharacter
 pub mod SettledName
 pub mod ShownPlaces
+pub mod StandingPairs

@@ -5,6 +5,7 @@ ghost use Rattle.std.specs.List.{list_any};
 ghost use Rattle.ft_base.specs.Visibility.{has_occurred, has_occurred_at_stage, is_acked};
 ghost use Rattle.ft_props.specs.Element.{has_id, id as name_of_element, is_pending, is_sequenced, is_unremoved, removal_stamp, seen, seen_by};
 ghost use Rattle.ft_props.specs.Properties.{shown_props};
+ghost use Rattle.ft_changes.specs.Beside.{is_always_seen, is_standing};
 ghost use Rattle.ft_plain_lists.specs.Contents.{content_of};
 
 pub(crate) mod marks;
@@ -126,6 +127,20 @@ impl PlainElement {
         ensures { result ≡ is_unremoved self.now }
     {
         self.is_sequenced() && !has_any_sequenced(self.dels.as_slice())
+    }
+
+    /// Whether no sequenced removal took it.
+    pub(crate) fn is_standing(&self) -> bool
+        ensures { result ≡ is_standing self.now }
+    {
+        !self.is_removed()
+    }
+
+    /// Whether each stage sees it, and the agreed document too.
+    pub(crate) fn is_always_seen(&self) -> bool
+        ensures { result ≡ is_always_seen self.now }
+    {
+        self.is_unremoved() && self.removal_stage.is_none()
     }
 
     /// Whether its insertion is pending.

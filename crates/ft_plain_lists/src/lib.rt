@@ -17,6 +17,7 @@ mod moved;
 mod name_tables;
 mod named_lists;
 mod names;
+mod neighbours;
 mod origin_views;
 mod runs;
 mod scans;
