@@ -37,6 +37,7 @@ pub mod Appended
 pub mod ShownTexts
 pub mod CarriedIntervals
 mod FewNodes
+mod NamedStages
 pub mod SoundTexts
 pub mod PutLast
 pub mod GivenProperties

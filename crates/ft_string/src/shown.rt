@@ -1,12 +1,14 @@
 //! What is shown of a shared text: its elements, its intervals, and who inserted what.
 
-ghost use Rattle.std.specs.Prelude.{◌≡◌, ◌≤◌, ◌+◌, ℕ, List, IfOk, IsTrue, OnOk, filter, length, map};
+ghost use Rattle.std.specs.Prelude.{◌≡◌, ◌≤◌, ◌+◌, ◌||◌, ℕ, List, IfOk, IsTrue, OnOk, filter, length, map};
 ghost use Rattle.ft_base.specs.Scan.{len};
 ghost use Rattle.ft_msg.specs.Blame.{origin_of};
 ghost use Rattle.ft_msg.specs.Content.{interval_record, stage_view};
 ghost use Rattle.ft_msg.specs.Overlap.{ReadsFewNodes};
 ghost use Rattle.ft_op.specs.Document.{Document};
+ghost use Rattle.ft_op.specs.Operation.{sub_operations};
 ghost use Rattle.ft_op.specs.Stages.{Stage, shown_intervals};
+ghost use Rattle.ft_changes.specs.Beside.{is_changed_by};
 ghost use Rattle.ft_props.specs.Element.{seen};
 ghost use Rattle.ft_interval.specs.State.{StandsOn};
 ghost use Rattle.ft_interval_store.specs.Shown.{shown_intervals as all_shown, shown_record};
@@ -24,6 +26,7 @@ use ft_attrib::Attribution;
 use ft_base::{List, OutOfMemory, Steps, Text};
 use ft_interval::Collections;
 use ft_msg::View;
+use ft_op::ChannelOp;
 use ft_sumdoc::{IntervalRec, IntervalRecs};
 use ft_text::lengths::made_in;
 use ft_text::moved::assign;
@@ -88,6 +91,38 @@ impl SharedString {
         let _first = self.intervals.first_stage();
         let all = self.intervals.all(&self.tree)?;
         Ok(List::of(all))
+    }
+
+    /// The intervals that the client sees and the operation adds, changes or deletes, by rising label and id. It finds them by
+    /// their names.
+    pub fn shown_of(&self, op: &ChannelOp) -> Result<IntervalRecs, OutOfMemory>
+        requires usable { IsTrue self.now.usable }
+        requires none_given { self.now.given ≡ 0 }
+        ensures { (last : ℕ) → (doc : Document) → (stages : List Stage) → IsTextSound last doc stages → HoldsText self.now doc stages
+            → let all = map (interval_record last doc.text.items) (shown_intervals doc.text.items doc.intervals stages) in
+            IfOk result (λ intervals. intervals ≡ filter (is_changed_by (sub_operations op.now)) all) }
+    {
+        // That ends are numbers, and that names rise, is read off these contracts.
+        let _made = made_in(&self.tree);
+        let _first = self.intervals.first_stage();
+        let some = self.intervals.shown_of(&self.tree, op)?;
+        Ok(List::of(some))
+    }
+
+    /// The intervals that the client sees and that the operation or a pending stage adds, changes or deletes, by rising label and
+    /// id. It finds them by their names.
+    pub fn shown_around(&self, op: &ChannelOp) -> Result<IntervalRecs, OutOfMemory>
+        requires usable { IsTrue self.now.usable }
+        requires none_given { self.now.given ≡ 0 }
+        ensures { (last : ℕ) → (doc : Document) → (stages : List Stage) → IsTextSound last doc stages → HoldsText self.now doc stages
+            → let all = map (interval_record last doc.text.items) (shown_intervals doc.text.items doc.intervals stages) in
+            IfOk result (λ intervals. intervals ≡ filter (λ i. is_changed_by (sub_operations op.now) i || is_changed_by (map (λ t. t.sub_operation) stages) i) all) }
+    {
+        // That ends are numbers, and that names rise, is read off these contracts.
+        let _made = made_in(&self.tree);
+        let _first = self.intervals.first_stage();
+        let some = self.intervals.shown_around(&self.tree, op)?;
+        Ok(List::of(some))
     }
 
     /// The shown intervals of the label that meet the places from `a` to `b`, by rising id: those that aren't detached, start at
