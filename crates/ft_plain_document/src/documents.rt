@@ -14,6 +14,7 @@ mod grid_effects;
 mod hearing;
 pub(crate) mod held;
 mod interval_effects;
+mod neighbours;
 pub(crate) mod own_cells;
 pub(crate) mod own_edits;
 pub(crate) mod own_intervals;
