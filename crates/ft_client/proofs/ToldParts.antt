@@ -3,10 +3,11 @@ use Rattle.std.proofs.Common.{◌≡◌, ◌<◌, ◌≤◌, ◌+◌, ℕ, suc, 
 use Rattle.ft_base.specs.Scan.{len, one_more_if}
 use Rattle.ft_changes.specs.declared.rest.ShownRest.{ShownRest}
 use Rattle.ft_changes.specs.Rest.{rest_of}
-use Rattle.ft_replica.specs.Comparing.{compared_part}
+use Rattle.ft_replica.specs.Comparing.{compared_intervals, compared_part}
 use Rattle.ft_replica.specs.declared.comparing.Compared.{Compared}
 use Rattle.ft_changes.specs.Shown.{shown_content, shown_element, shown_elements}
-use Rattle.ft_msg.specs.Client.{NaiveClient, floor}
+use Rattle.ft_op.specs.declared.operations.ChannelOp.{ChannelOp}
+use Rattle.ft_msg.specs.Client.{NaiveClient, floor, stages_of}
 use Rattle.ft_props.specs.Element.{ListElement, seen}
 use Rattle.ft_sumdoc.specs.declared.summary.CellRec.{CellRec}
 use Rattle.ft_sumdoc.specs.declared.summary.IntervalRec.{IntervalRec}
@@ -39,11 +40,12 @@ abbrev rest_with : ℕ → List IntervalRec → List CellRec → ShownRest
 rest_with n is cs = record { elements = n; intervals = is; cells = cs }
 
 -- what is compared of what is shown beside the elements
-pub rest-shown : (p : NaiveClient) (compared : Compared) (n : ℕ) (is : List IntervalRec) (cs : List CellRec) → n ≡ len (seen p.last_stage) p.doc.text.items
-    → is ≡ cond compared.intervals (shown_content p).intervals [] → cs ≡ cond compared.cells (shown_content p).cells []
-    → rest_with n is cs ≡ rest_of (compared_part compared (shown_content p))
-rest-shown p compared n is cs e f g =
+pub rest-shown : (p : NaiveClient) (compared : Compared) (op : ChannelOp) (n : ℕ) (is : List IntervalRec) (cs : List CellRec)
+    → n ≡ len (seen p.last_stage) p.doc.text.items
+    → is ≡ compared_intervals compared.intervals op (stages_of p) (shown_content p).intervals → cs ≡ cond compared.cells (shown_content p).cells []
+    → rest_with n is cs ≡ rest_of (compared_part compared op (stages_of p) (shown_content p))
+rest-shown p compared op n is cs e f g =
     let count = length (shown_elements p.last_stage p.doc.text.items) in
     ap (λ k. rest_with k is cs) (e ∙ sym (shown-length p.last_stage p.doc.text.items))
     ∙ ap (λ js. rest_with count js cs) f
-    ∙ ap (rest_with count (cond compared.intervals (shown_content p).intervals [])) g
+    ∙ ap (rest_with count (compared_intervals compared.intervals op (stages_of p) (shown_content p).intervals)) g

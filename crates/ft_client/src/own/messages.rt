@@ -139,8 +139,8 @@ fn more(before: u64, after: u64) -> u64
     after - before
 }
 
-// The reference number of a message as a count: nothing is known to one below 0.
-fn reference_number(msg: &Message) -> u64
+/// The reference number of a message as a count: nothing is known to one below 0.
+pub(crate) fn reference_number(msg: &Message) -> u64
     ensures { result ≡ reference_number msg.now.ref_seq }
 {
     if msg.ref_seq < 0 {

@@ -2,13 +2,13 @@
 
 ghost use Rattle.std.specs.Prelude.{◌≡◌, ◌<◌, ◌≤◌, ◌^◌, [], ℕ, IfOk, IsTrue, OnOk, cond, length};
 ghost use Rattle.ft_msg.specs.Answers.{view_content};
-ghost use Rattle.ft_msg.specs.Client.{NaiveClient};
+ghost use Rattle.ft_msg.specs.Client.{NaiveClient, stages_of};
 ghost use Rattle.ft_msg.specs.Content.{content};
 ghost use Rattle.ft_msg.specs.SummaryOf.{summary_of};
 ghost use Rattle.ft_changes.specs.Rest.{rest_of};
 ghost use Rattle.ft_changes.specs.Shown.{shown_content};
 ghost use Rattle.ft_laws_names.specs.WellNamed.{IsWellNamed};
-ghost use Rattle.ft_replica.specs.Comparing.{compared_part};
+ghost use Rattle.ft_replica.specs.Comparing.{compared_intervals, compared_part};
 ghost use Rattle.ft_replica.specs.Own.{HeldDocument, HoldsOne, NamesFit, held_by};
 ghost use Rattle.ft_laws_summaries.specs.Summaries.{IsSmall};
 ghost use Rattle.ft_sumdoc.specs.Runs.{unit_count};
@@ -21,7 +21,8 @@ use ft_base::{OutOfMemory, Text};
 use ft_changes::ShownRest;
 use ft_json::GREATEST_COUNT;
 use ft_msg::{Numbers, Runs, Spots, View};
-use ft_replica::Compared;
+use ft_op::ChannelOp;
+use ft_replica::{Compared, ComparedIntervals};
 use ft_sumdoc::{
     CellRecs, IntervalRecs, MOST_UNITS, RunRec, RunRecs, Seg, SegRec, SegRecs, SumDoc, Texts,
 };
@@ -41,14 +42,20 @@ impl TreeOwn {
         Ok(view)
     }
 
-    /// What is compared of what is shown at the last stage beside the elements, and how many these are.
-    pub(crate) fn rest_at(&self, last: u64, compared: Compared) -> Result<ShownRest, OutOfMemory>
+    /// What is compared of what is shown at the last stage beside the elements, and how many these are, with a step of this
+    /// operation.
+    pub(crate) fn rest_at(
+        &self,
+        last: u64,
+        compared: Compared,
+        op: &ChannelOp,
+    ) -> Result<ShownRest, OutOfMemory>
         requires { HoldsOne HoldsTree self.now (λ p. p.last_stage ≡ last) }
         ensures { (low : ℕ) (p : NaiveClient) → IsWellNamed p → p.last_stage ≡ last → HoldsTree self.now (held_by low p)
-            → IfOk result (λ rest. rest ≡ rest_of (compared_part compared (shown_content p))) }
+            → IfOk result (λ rest. rest ≡ rest_of (compared_part compared op.now (stages_of p) (shown_content p))) }
     {
         let elements = self.text.shown_count();
-        let intervals = self.compared_intervals(last, compared.intervals)?;
+        let intervals = self.compared_intervals(last, compared.intervals, op)?;
         let cells = self.compared_cells(last, compared.cells)?;
         Ok(ShownRest {
             elements,
@@ -57,16 +64,21 @@ impl TreeOwn {
         })
     }
 
-    // The shown intervals, if they are asked for, else none.
-    fn compared_intervals(&self, last: u64, asked: bool) -> Result<IntervalRecs, OutOfMemory>
+    // The shown intervals that are compared with a step of this operation.
+    fn compared_intervals(
+        &self,
+        last: u64,
+        compared: ComparedIntervals,
+        op: &ChannelOp,
+    ) -> Result<IntervalRecs, OutOfMemory>
         requires { HoldsOne HoldsTree self.now (λ p. p.last_stage ≡ last) }
         ensures { (low : ℕ) (p : NaiveClient) → IsWellNamed p → p.last_stage ≡ last → HoldsTree self.now (held_by low p)
-            → IfOk result (λ intervals. intervals ≡ cond asked (shown_content p).intervals []) }
+            → IfOk result (λ intervals. intervals ≡ compared_intervals compared op.now (stages_of p) (shown_content p).intervals) }
     {
-        if asked {
-            self.text.shown_intervals()
-        } else {
-            Ok(IntervalRecs::new(self.text.allocator()))
+        match compared {
+            ComparedIntervals::All => self.text.shown_intervals(),
+            ComparedIntervals::OfOperation => self.text.shown_of(op),
+            ComparedIntervals::OfOperationAndStages => self.text.shown_around(op),
         }
     }
 
