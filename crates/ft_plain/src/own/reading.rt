@@ -1,24 +1,30 @@
 //! What a document over plain lists shows.
 
-ghost use Rattle.std.specs.Prelude.{◌≡◌, IfOk, length};
+ghost use Rattle.std.specs.Prelude.{◌≡◌, ◌||◌, [], IfOk, cond, filter, length, map};
+ghost use Rattle.ft_op.specs.Operation.{sub_operations};
 ghost use Rattle.ft_msg.specs.Answers.{view_content};
 ghost use Rattle.ft_msg.specs.Blame.{blame};
+ghost use Rattle.ft_msg.specs.Client.{stages_of};
 ghost use Rattle.ft_msg.specs.Content.{content};
 ghost use Rattle.ft_msg.specs.Overlap.{overlap};
+ghost use Rattle.ft_changes.specs.Beside.{changes_interval, is_changed_by};
 ghost use Rattle.ft_changes.specs.Rest.{rest_of};
 ghost use Rattle.ft_changes.specs.Shown.{shown_content};
 ghost use Rattle.ft_plain.specs.Own.{client_at};
-ghost use Rattle.ft_replica.specs.Comparing.{compared_part};
+ghost use Rattle.ft_replica.specs.Comparing.{compared_intervals, compared_part};
 
 use crate::own::PlainOwn;
 use ft_attrib::Attribution;
-use ft_base::{OutOfMemory, Text};
+use ft_base::{List, OutOfMemory, Text};
 use ft_changes::ShownRest;
+use ft_changes::named::{is_changed_by, is_operation_on};
 use ft_msg::{Numbers, Runs, Spots, View};
+use ft_op::ChannelOp;
+use ft_plain_document::{PlainStage, SubOp};
 use ft_plain_lists::{
     shown_cells, shown_count, shown_intervals, shown_markers, shown_origins, shown_runs, shown_text,
 };
-use ft_replica::Compared;
+use ft_replica::{Compared, ComparedIntervals};
 use ft_sumdoc::meeting::meeting;
 use ft_sumdoc::{CellRecs, IntervalRec, IntervalRecs};
 
@@ -40,33 +46,47 @@ impl PlainOwn {
         })
     }
 
-    /// What is compared of what it shows at the last stage beside the elements, and how many these are.
-    pub(crate) fn rest_at(&self, last: u64, compared: Compared) -> Result<ShownRest, OutOfMemory>
-        ensures { IfOk result (λ rest. rest ≡ rest_of (compared_part compared (shown_content (client_at last self.now)))) }
+    /// What is compared of what it shows at the last stage beside the elements, and how many these are, with a step of this
+    /// operation.
+    pub(crate) fn rest_at(
+        &self,
+        last: u64,
+        compared: Compared,
+        op: &ChannelOp,
+    ) -> Result<ShownRest, OutOfMemory>
+        ensures { let x = client_at last self.now in IfOk result (λ rest. rest ≡ rest_of (compared_part compared op.now (stages_of x) (shown_content x))) }
     {
         Ok(ShownRest {
             elements: self.shown_elements(last),
-            intervals: self.compared_intervals(last, compared)?,
-            cells: self.compared_cells(last, compared)?,
+            intervals: self.compared_intervals(last, compared.intervals, op)?,
+            cells: self.compared_cells(last, compared.cells)?,
         })
     }
 
-    // The intervals, if they are compared.
-    fn compared_intervals(&self, last: u64, compared: Compared) -> Result<IntervalRecs, OutOfMemory>
-        ensures { IfOk result (λ intervals. intervals ≡ (compared_part compared (shown_content (client_at last self.now))).intervals) }
+    // The intervals that are compared.
+    fn compared_intervals(
+        &self,
+        last: u64,
+        compared: ComparedIntervals,
+        op: &ChannelOp,
+    ) -> Result<IntervalRecs, OutOfMemory>
+        ensures { let x = client_at last self.now in IfOk result (λ intervals. intervals ≡ compared_intervals compared op.now (stages_of x) (shown_content x).intervals) }
     {
-        if compared.intervals {
-            self.shown_intervals(last)
-        } else {
-            Ok(IntervalRecs::new(self.doc.alloc()))
+        let intervals = self.shown_intervals(last)?;
+        match compared {
+            ComparedIntervals::All => Ok(intervals),
+            ComparedIntervals::OfOperation => Ok(those_of(op, intervals)),
+            ComparedIntervals::OfOperationAndStages => {
+                Ok(those_around(op, self.stages.as_slice(), intervals))
+            }
         }
     }
 
     // The cells, if they are compared.
-    fn compared_cells(&self, last: u64, compared: Compared) -> Result<CellRecs, OutOfMemory>
-        ensures { IfOk result (λ cells. cells ≡ (compared_part compared (shown_content (client_at last self.now))).cells) }
+    fn compared_cells(&self, last: u64, compared: bool) -> Result<CellRecs, OutOfMemory>
+        ensures { IfOk result (λ cells. cells ≡ cond compared (shown_content (client_at last self.now)).cells []) }
     {
-        if compared.cells {
+        if compared {
             self.shown_cells(last)
         } else {
             Ok(CellRecs::new(self.doc.alloc()))
@@ -152,5 +172,45 @@ impl PlainOwn {
         let written = self.doc.written_cells(self.stages.as_slice())?;
         let doc = &self.doc;
         shown_cells(doc.alloc(), &written, doc.rows(), doc.cols(), last)
+    }
+}
+
+// Those of the intervals that the operation adds, changes or deletes.
+fn those_of(op: &ChannelOp, intervals: IntervalRecs) -> IntervalRecs
+    ensures { result ≡ filter (is_changed_by (sub_operations op.now)) intervals }
+{
+    let mut items = intervals.into_items();
+    items.retain(|i| is_changed_by(op, i));
+    List::of(items)
+}
+
+// Those that the operation or one of these stages does.
+fn those_around(op: &ChannelOp, stages: &[PlainStage], intervals: IntervalRecs) -> IntervalRecs
+    ensures { result ≡ filter (λ i. is_changed_by (sub_operations op.now) i || is_changed_by (map (λ t. t.sub_operation) stages.now) i) intervals }
+{
+    let mut items = intervals.into_items();
+    items.retain(|i| is_changed_by(op, i) || is_changed_by_any(stages, i));
+    List::of(items)
+}
+
+// Whether one of the stages adds, changes or deletes the interval.
+fn is_changed_by_any(stages: &[PlainStage], interval: &IntervalRec) -> bool
+    ensures { result ≡ is_changed_by (map (λ t. t.sub_operation) stages.now) interval.now }
+{
+    for stage in stages {
+        if is_stage_of(stage, interval) {
+            return true;
+        }
+    }
+    false
+}
+
+// Whether the stage adds, changes or deletes the interval.
+fn is_stage_of(stage: &PlainStage, interval: &IntervalRec) -> bool
+    ensures { result ≡ changes_interval interval.now stage.now.sub_operation }
+{
+    match stage.sub_operation() {
+        SubOp::Intervals(op) => is_operation_on(op, interval),
+        SubOp::Text(_) | SubOp::Grid(_) => false,
     }
 }

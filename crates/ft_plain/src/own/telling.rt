@@ -21,7 +21,16 @@ impl TellingDocument for PlainOwn {
         self.doc.take_telling(entry, last)
     }
 
-    fn shown_rest(&self, last: u64, compared: Compared) -> Result<ShownRest, OutOfMemory> {
-        self.rest_at(last, compared)
+    fn shown_rest(
+        &self,
+        last: u64,
+        compared: Compared,
+        op: &ChannelOp,
+    ) -> Result<ShownRest, OutOfMemory> {
+        self.rest_at(last, compared, op)
+    }
+
+    fn moves_ends_alike(&self, _last: u64, entry: &Entry) -> bool {
+        self.doc.moves_ends_alike(entry)
     }
 }
