@@ -1,4 +1,4 @@
-use Rattle.std.proofs.Common.{◌≡◌, ◌||◌, ◌∙◌, List, ap, append-nil, filter, map, sym}
+use Rattle.std.proofs.Common.{◌||◌, ◌∙◌, List, ap, append-nil, filter, map, sym}
 use Rattle.ft_op.specs.Operation.{sub_operations}
 use Rattle.ft_op.specs.Stages.{Stage}
 use Rattle.ft_sumdoc.specs.declared.summary.IntervalRec.{IntervalRec}
