@@ -3,17 +3,18 @@
 ghost use Rattle.std.specs.Prelude.{◌≤◌};
 ghost use Rattle.ft_op.specs.WellFormed.{IsWellFormed};
 
+use crate::editor::Editor;
 use crate::faults::Fault;
 use ft_base::Text;
-use ft_msg::Replica;
+use ft_changes::Telling;
 use ft_op::{BaseOp, ChannelOp, Ends, Seg, TextOp};
 use ft_props::PropSet;
 use std::alloc::Global;
 
 /// Types the text behind so many characters.
-pub fn insert<R: Replica>(
+pub fn insert<R: Telling + Drop>(
     alloc: Global,
-    client: &mut R,
+    editor: &mut Editor<R>,
     pos: u32,
     text: &str,
 ) -> Result<(), Fault> {
@@ -23,24 +24,24 @@ pub fn insert<R: Replica>(
         seg: Seg::Chars { text },
         props: PropSet::new(alloc),
     };
-    edit(client, ChannelOp::Text(TextOp::One(op)))
+    edit(editor, ChannelOp::Text(TextOp::One(op)))
 }
 
 /// Takes the characters from `pos1` up to before `pos2` away.
-pub fn remove<R: Replica>(client: &mut R, pos1: u32, pos2: u32) -> Result<(), Fault>
+pub fn remove<R: Telling + Drop>(editor: &mut Editor<R>, pos1: u32, pos2: u32) -> Result<(), Fault>
     requires { pos1 ≤ pos2 }
 {
     let op = BaseOp::Remove {
         pos1: u64::from(pos1),
         pos2: u64::from(pos2),
     };
-    edit(client, ChannelOp::Text(TextOp::One(op)))
+    edit(editor, ChannelOp::Text(TextOp::One(op)))
 }
 
 /// Puts a note on the characters from `first` to `last`.
-pub fn note<R: Replica>(
+pub fn note<R: Telling + Drop>(
     alloc: Global,
-    client: &mut R,
+    editor: &mut Editor<R>,
     id: &str,
     first: u32,
     last: u32,
@@ -58,14 +59,14 @@ pub fn note<R: Replica>(
         },
         props: PropSet::new(alloc),
     };
-    edit(client, ChannelOp::Text(op))
+    edit(editor, ChannelOp::Text(op))
 }
 
-// The client takes the edit.
-fn edit<R: Replica>(client: &mut R, op: ChannelOp) -> Result<(), Fault>
+// The editor takes the edit.
+fn edit<R: Telling + Drop>(editor: &mut Editor<R>, op: ChannelOp) -> Result<(), Fault>
     requires { IsWellFormed op }
 {
-    let done = client.edit(&op);
+    let done = editor.edit(&op);
     drop(op);
-    Ok(done?)
+    done
 }

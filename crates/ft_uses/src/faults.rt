@@ -40,6 +40,9 @@ pub enum Fault {
     /// A client without a connection sends, or leaves.
     #[error("no connection")]
     Offline,
+    /// What an editor shows isn't what its client has.
+    #[error("an editor that shows something else than its client has")]
+    Differs,
     /// A message isn't well formed, so no client may be given it.
     #[error("an ill-formed message")]
     IllFormed,

@@ -1,6 +1,7 @@
-//! Two editors of one text: each has a client, and what they type goes over one server.
+//! Two editors of one text: each has a client, by whose changes it keeps what it shows, and what they type goes over one server.
 #![tactic(auto)]
 
+mod editor;
 mod edits;
 mod faults;
 mod server;

@@ -1,7 +1,9 @@
 //! The server.
 
+use crate::editor::Editor;
 use crate::faults::Fault;
 use ft_base::Text;
+use ft_changes::Telling;
 use ft_msg::{Draft, Entry, Replica, is_well_formed_message};
 use ft_seqr::{Sequencer, conn_of};
 use std::alloc::Global;
@@ -47,11 +49,11 @@ impl Server {
         Ok(())
     }
 
-    /// Gives the client the messages that it hasn't processed yet.
-    pub fn deliver<R: Replica>(&self, client: &mut R) -> Result<(), Fault> {
-        let processed = client.numbers().seq as usize;
+    /// Gives the editor the messages that its client hasn't processed yet.
+    pub fn deliver<R: Telling + Drop>(&self, editor: &mut Editor<R>) -> Result<(), Fault> {
+        let processed = editor.client.numbers().seq as usize;
         for entry in self.log.iter().skip(processed) {
-            give(client, entry)?;
+            give(editor, entry)?;
         }
         Ok(())
     }
@@ -75,11 +77,10 @@ impl Server {
     }
 }
 
-// Gives the client a message.
-fn give<R: Replica>(client: &mut R, entry: &Entry) -> Result<(), Fault> {
+// Gives the editor a message.
+fn give<R: Telling + Drop>(editor: &mut Editor<R>, entry: &Entry) -> Result<(), Fault> {
     if !is_well_formed_message(&entry.msg) {
         return Err(Fault::IllFormed);
     }
-    client.process(entry)?;
-    Ok(())
+    editor.process(entry)
 }
