@@ -1118,15 +1118,15 @@ def cases():
         given.append(b'case ' + name + b'\nhash\ninput\n' + text + b'end\n')
         refused, views = (len(re.findall(word, report, re.M)) for word in (rb'^line ', rb'^client '))
         count = text.count(b'\n')
-        wanted.append(b'case %s\nlines %d refused %d views %d\nreport %d bytes hash %d\n' % (name, count, refused, views, len(report), hash_of(report)))
+        wanted.append(b'case %s\nlines %d refused %d views %d followed\nreport %d bytes hash %d\n' % (name, count, refused, views, len(report), hash_of(report)))
     given.append(b'case a line that is too long\nhash\nlong\ninput\n{"client":"A","do":"start"}\n{"client":"A","do":"show"}\nend\n')
     report = (b'line 1 refused 16 LineTooLong\nclient "A" offline seq 0 min 0 pending 0\ntext ""\n'
               b'refused 1\nskipped 0\nother 0\n')
-    wanted.append(b'case a line that is too long\nlines 3 refused 1 views 1\nreport %d bytes hash %d\n' % (len(report), hash_of(report)))
+    wanted.append(b'case a line that is too long\nlines 3 refused 1 views 1 followed\nreport %d bytes hash %d\n' % (len(report), hash_of(report)))
     drawn = [(f'seed {seed}', generated(seed, count)) for seed, count in GENERATED]
     for name, session in [('each line that is refused when it is read', refused_lines())] + drawn:
         given.append(f'case {name}\ninput\n'.encode() + session.text() + b'end\n')
-        wanted.append(f'case {name}\n{session.told()}\n'.encode())
+        wanted.append(f'case {name}\n{session.told()} followed\n'.encode())
     return b'\n'.join(given), b''.join(wanted)
 
 

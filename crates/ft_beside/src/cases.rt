@@ -1,7 +1,9 @@
-//! A case: a session, played in two worlds.
+//! A case: a session, played in three worlds.
 
 use crate::difference::push_difference;
+use crate::listening::Listening;
 use crate::sums::Sums;
+use crate::views::{is_begun_by, with_views};
 use ft_base::OutOfMemory;
 use ft_client::Client;
 use ft_io::{MemSink, MemSource};
@@ -67,7 +69,7 @@ impl ReadCase for Case {
     }
 
     fn push_outcome(&self, alloc: Global, output: &mut Vec<u8>) -> Option<()> {
-        self.push_both(alloc, output).ok()
+        self.push_all(alloc, output).ok()
     }
 }
 
@@ -79,39 +81,45 @@ impl Case {
         self.add_line(b"\n".as_slice())
     }
 
-    // Adds what the session comes to in both worlds.
+    // Adds what the session comes to in all worlds.
     //
     // Returns `OutOfMemory` where there is no room for it, and `Write` where the report has more than 16 MiB.
-    fn push_both(&self, alloc: Global, output: &mut Vec<u8>) -> Result<(), Fault> {
-        let plain = self.played::<Plain>(alloc)?;
-        let trees = self.played::<Client>(alloc)?;
-        self.push_told(alloc, plain.taken(), output)?;
+    fn push_all(&self, alloc: Global, output: &mut Vec<u8>) -> Result<(), Fault> {
+        let plain = played::<Plain>(alloc, self.input.as_slice())?;
+        let trees = played::<Client>(alloc, self.input.as_slice())?;
+        let viewed = with_views(alloc, self.input.as_slice())?;
+        let is_followed = match played::<Listening<Client>>(alloc, viewed.as_slice()) {
+            Ok(listening) => is_begun_by(listening.taken(), trees.taken()),
+            Err(_) => false,
+        };
+        self.push_told(alloc, plain.taken(), is_followed, output)?;
         push_difference(alloc, plain.taken(), trees.taken(), output)?;
         Ok(())
     }
 
-    // What the session writes in a world of such clients.
-    fn played<R: Replica + Drop>(&self, alloc: Global) -> Result<MemSink, Fault> {
-        let mut src = source(alloc, self.input.as_slice())?;
-        let mut out = MemSink::new(alloc, PIECE, Vec::new(alloc), ROOM)?;
-        replay_session::<R, MemSource, MemSink>(alloc, &mut src, &mut out)?;
-        Ok(out)
-    }
-
-    // Adds what is told of its report.
+    // Adds what is told of its report, and whether the changes led from view to view.
     fn push_told(
         &self,
         alloc: Global,
         report: &[u8],
+        is_followed: bool,
         output: &mut Vec<u8>,
     ) -> Result<(), OutOfMemory> {
         let sums = Sums::of(report);
-        sums.push_counts(alloc, self.lines, output)?;
+        sums.push_counts(alloc, self.lines, is_followed, output)?;
         if self.has_hash {
             sums.push_hash(alloc, output)?;
         }
         Ok(())
     }
+}
+
+// What a session writes in a world of such clients.
+fn played<R: Replica + Drop>(alloc: Global, input: &[u8]) -> Result<MemSink, Fault> {
+    let mut src = source(alloc, input)?;
+    let mut out = MemSink::new(alloc, PIECE, Vec::new(alloc), ROOM)?;
+    replay_session::<R, MemSource, MemSink>(alloc, &mut src, &mut out)?;
+    Ok(out)
 }
 
 // A source over these bytes.

@@ -31,18 +31,20 @@ impl Sums {
         sums
     }
 
-    /// Adds the line of the counts, with that of the lines of the session.
+    /// Adds the line of the counts, with that of the lines of the session, and whether its changes led from view to view.
     ///
     /// Returns `OutOfMemory` where there is no room for it.
     pub fn push_counts(
         &self,
         alloc: Global,
         lines: u64,
+        is_followed: bool,
         output: &mut Vec<u8>,
     ) -> Result<(), OutOfMemory> {
         let refused = self.refused;
         let views = self.views;
-        let line = format!(in alloc; "lines {lines} refused {refused} views {views}\n")?;
+        let word = if is_followed { "followed" } else { "lost" };
+        let line = format!(in alloc; "lines {lines} refused {refused} views {views} {word}\n")?;
         output.extend_from_slice(line.as_bytes())?;
         Ok(())
     }
