@@ -81,6 +81,7 @@ python3 "$here/editors.py" | cmp - "$here/editors.told"
 echo "Python, two editors: as editors.told, by views and by changes"
 [ "$(python3 "$here/shown.py")" = "Cell Gone Interval Put PutUnits Style Take TakeUnits" ]
 echo "Python, each kind of change: as the view"
+python3 "$here/raises.py"
 for seed in 1 2 3; do
     python3 "$here/told.py" "$seed" 2000 > "$out/told"
 done

@@ -44,7 +44,7 @@ class Typist(Editor):
         if kind < 0.5 or end == 0:
             seg = self.draw.choice(WORDS) if self.draw.random() < 0.8 else {"marker": {"refType": self.draw.randint(0, 3)}}
             if self.draw.random() < 0.3:
-                seg = (seg if isinstance(seg, dict) else {"text": seg}) | {"props": self.props()}
+                seg = {**(seg if isinstance(seg, dict) else {"text": seg}), "props": self.props()}
             return {"type": 0, "pos1": self.draw.randint(0, self.size()), "seg": seg}
         if kind < 0.75:
             return {"type": 1, "pos1": start, "pos2": end}
@@ -56,10 +56,10 @@ class Typist(Editor):
         known = (name["label"], name["id"]) in self.shown.intervals
         places = dict(zip(("start", "end"), sorted(self.draw.choices(range(self.size()), k=2)))) if self.size() else {"start": -1, "end": -1}
         if not known:
-            return {"interval": "add"} | name | places | {"props": self.props()}
+            return {"interval": "add", **name, **places, "props": self.props()}
         if self.draw.random() < 0.5:
-            return {"interval": "change"} | name | (places if self.draw.random() < 0.7 else {}) | {"props": self.props()}
-        return {"interval": "delete"} | name
+            return {"interval": "change", **name, **(places if self.draw.random() < 0.7 else {}), "props": self.props()}
+        return {"interval": "delete", **name}
 
     def table(self):
         """An operation of the table."""
