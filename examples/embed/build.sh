@@ -6,6 +6,7 @@
 #   ASAN=1       with the address, leak and undefined behaviour sanitizers of the C compiler
 #   VALGRIND=1   under valgrind
 #   ARCHIVE=..   takes this archive, in place of building it by `rt lib` in crates/vemiktag_c
+#   PROGRAM=..   compares what comes of random editors with this program's `log`, too
 #   OUT=..       builds into this folder, in place of examples/embed/out
 set -eu
 here=$(cd "$(dirname "$0")" && pwd)
@@ -87,4 +88,9 @@ for seed in 1 2 3; do
 done
 echo "Python, three editors that type at random: changes and views are the same"
 # shellcheck disable=SC2086
+for editors in 2 3 4 5; do
+    # shellcheck disable=SC2086
+    python3 "$here/unruly.py" "$editors" "$editors" 1000 ${PROGRAM:-}
+done
+echo "Python, two to five editors over an unruly network: all show the same, and so does the log"
 $under "$out/clients"
