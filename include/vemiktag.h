@@ -35,6 +35,10 @@ enum {
     VEMIKTAG_NOTHING = 8        /* a client has nothing to send, or nobody is told of its changes */
 };
 
+/* What the library is, and what was proved of it: a line. libvemiktag.so has it, and so has the libvemiktag_c.a of a release; that of
+ * `rt lib` alone has not. */
+extern const char vemiktag_version[];
+
 /* Puts the report of a session, whose events are the lines of the input, into the first bytes of `report`, which has
  * `room` bytes, and into `count` how many bytes it has: what `vemiktag session` writes for that input.
  *

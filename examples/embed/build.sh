@@ -37,7 +37,8 @@ $cc $flags -Wl,--wrap=malloc,--wrap=realloc -o "$out/clients" "$here/clients.c" 
 # shellcheck disable=SC2086
 $cc $flags -Wl,--wrap=malloc,--wrap=realloc -o "$out/edges" "$here/edges.c" "$archive" "$memory"
 printf '{ global: vemiktag_*; local: *; };\n' > "$out/exports"
-$cc -shared -o "$out/libvemiktag.so" -Wl,--version-script="$out/exports" \
+$cc -std=c11 -fPIC -I"$top/include" -DVERSION='"vemiktag for a test; what was proved is not told"' -c -o "$out/version.o" "$here/version.c"
+$cc -shared -o "$out/libvemiktag.so" -Wl,--version-script="$out/exports" "$out/version.o" \
     -Wl,--whole-archive "$archive" -Wl,--no-whole-archive "$memory"
 
 # Runs a program on a session, and compares what it writes with the report.
@@ -80,17 +81,17 @@ $under "$out/client" | cmp - "$here/editors.told"
 echo "C, two editors: as editors.told"
 python3 "$here/editors.py" | cmp - "$here/editors.told"
 echo "Python, two editors: as editors.told, by views and by changes"
+python3 "$here/raises.py"
 [ "$(python3 "$here/shown.py")" = "Cell Gone Interval Put PutUnits Style Take TakeUnits" ]
 echo "Python, each kind of change: as the view"
-python3 "$here/raises.py"
 for seed in 1 2 3; do
     python3 "$here/told.py" "$seed" 2000 > "$out/told"
 done
 echo "Python, three editors that type at random: changes and views are the same"
-# shellcheck disable=SC2086
 for editors in 2 3 4 5; do
     # shellcheck disable=SC2086
     python3 "$here/unruly.py" "$editors" "$editors" 1000 ${PROGRAM:-}
 done
 echo "Python, two to five editors over an unruly network: all show the same, and so does the log"
+# shellcheck disable=SC2086
 $under "$out/clients"
