@@ -118,7 +118,11 @@ uint32_t vemiktag_client_drop(vemiktag_client *client);
 /* It takes an edit of its own, which shows at once: the text of an event `edit`, whose `client` is passed over. */
 uint32_t vemiktag_client_edit(vemiktag_client *client, const uint8_t *edit, size_t length);
 
-/* It takes the next message of the log, which is the text of one: each message, its own too. */
+/* It takes the next message of the log, which is the text of one: each message, its own too.
+ *
+ * `refused 9 OutOfOrder` where it isn't the next one; `refused 18 BadNumbers` where its numbers contradict those before; `refused 10 Foreign N`
+ * where message N is an operation under a connection of the client's own, and isn't its oldest pending edit as it was sent: then two clients share
+ * a connection, or the log isn't the one that it processed so far. */
 uint32_t vemiktag_client_process(vemiktag_client *client, const uint8_t *message, size_t length);
 
 /* Puts its oldest draft that isn't sent behind what waits to be read, as a line; it counts as sent then.

@@ -22,12 +22,14 @@ import subprocess
 import sys
 import tempfile
 
-sys.path.insert(0, os.path.dirname(os.path.abspath(__file__)))
-from sessions import World, line_of  # noqa: E402
-
 CLIENT_LIMIT = 16
 OTHERS = 'others'
 LONGEST_TEXT = 400_000          # of an insertion in one line of the session, in bytes
+
+
+def line_of(value):
+    """The one spelling of a value: keys rise, and no spaces stand between."""
+    return json.dumps(value, ensure_ascii=False, separators=(',', ':'), sort_keys=True)
 
 
 # ---- git
@@ -202,8 +204,141 @@ def is_playable(chain, place, merge, children, taken):
     return True
 
 
+# ---- what an offline client has
+
+class Run:
+    """Characters that came together: of the pending stage that puts them in, 0 where messages did; and what takes them away."""
+    __slots__ = ('text', 'stage', 'removal', 'is_gone')
+
+    def __init__(self, text, stage, removal=0, is_gone=False):
+        self.text, self.stage = text, stage
+        self.removal = removal                      # the pending stage that removes them, 0 for none
+        self.is_gone = is_gone                      # whether a message removed them
+
+    def is_shown(self):
+        return not self.removal and not self.is_gone
+
+    def is_told(self):
+        """Whether messages alone show them."""
+        return not self.stage and not self.is_gone
+
+    def is_before(self, stage):
+        """Whether they are shown by the messages and the pending stages before this one."""
+        return not self.is_gone and self.stage < stage and not 0 < self.removal < stage
+
+
+class Offline:
+    """The text of a client that edits offline, as runs. They are as many as edits, however long the text is."""
+
+    def __init__(self, text):
+        self.runs = [Run(text, 0)]
+        self.stages = []                            # of each its operation
+        self.edits = []                             # of each its commit and its stages
+
+    def shown(self):
+        return ''.join(run.text for run in self.runs if run.is_shown())
+
+    def edit(self, commit, op):
+        """Takes an edit of its own."""
+        first = len(self.stages) + 1
+        for sub in sub_operations(op):
+            self.stages.append(sub)
+            stage = len(self.stages)
+            if sub['type'] == 0:
+                self.runs.insert(self.place(sub['pos1'], Run.is_shown), Run(sub['seg'], stage))
+            else:
+                for run in self.covered(sub, Run.is_shown):
+                    run.removal = stage
+        self.edits.append((commit, range(first, len(self.stages) + 1)))
+
+    def take(self, op):
+        """Takes an operation of a message, which stands behind all that is pending where it is put in."""
+        for sub in sub_operations(op):
+            if sub['type'] == 0:
+                place = self.place(sub['pos1'], Run.is_told)
+                while place < len(self.runs) and self.runs[place].stage:
+                    place += 1
+                self.runs.insert(place, Run(sub['seg'], 0))
+            else:
+                for run in self.covered(sub, Run.is_told):
+                    run.is_gone = True
+
+    def place(self, count, is_seen):
+        """The place directly behind so many characters of the runs that are seen; a run is cut there if need be."""
+        if count == 0:
+            return 0
+        for place, run in enumerate(self.runs):
+            if is_seen(run) and count <= len(run.text):
+                if count < len(run.text):
+                    self.runs.insert(place + 1, Run(run.text[count:], run.stage, run.removal, run.is_gone))
+                    run.text = run.text[:count]
+                return place + 1
+            count -= len(run.text) if is_seen(run) else 0
+        raise AssertionError('a place beyond the text')
+
+    def covered(self, op, is_seen):
+        """The runs that a removal covers."""
+        self.place(op['pos2'], is_seen)
+        left = op['pos2'] - op['pos1']
+        for run in self.runs[self.place(op['pos1'], is_seen):]:
+            if left and is_seen(run):
+                left -= len(run.text)
+                yield run
+
+    def sent_again(self):
+        """What is pending as it is sent once the client is online: of each edit that is left its commit and its operation."""
+        for commit, stages in self.edits:
+            ops = [op for stage in stages for op in self.pieces(stage)]
+            if ops:
+                yield commit, grouped(ops)
+
+    def pieces(self, stage):
+        """The operations of a stage, in what is shown before it."""
+        op, place, spans = self.stages[stage - 1], 0, []
+        for run in self.runs:
+            if run.stage == stage:
+                return [dict(op, pos1=place)]
+            if run.is_before(stage):
+                if run.removal == stage:
+                    spans.append((place, place + len(run.text)))
+                place += len(run.text)
+        return list(removals(spans))
+
+
+def removals(spans):
+    """The removals of these spans of a text, one after another; spans side by side are one."""
+    lowered, joined = 0, []
+    for start, end in spans:
+        if joined and joined[-1][1] == start:
+            joined[-1][1] = end
+        else:
+            joined.append([start, end])
+    for start, end in joined:
+        yield {'pos1': start - lowered, 'pos2': end - lowered, 'type': 1}
+        lowered += end - start
+
+
+def sub_operations(op):
+    return op['ops'] if op['type'] == 3 else [op]
+
+
+def applied(text, op):
+    """The text after an operation."""
+    for sub in sub_operations(op):
+        text = text[:sub['pos1']] + sub.get('seg', '') + text[sub.get('pos2', sub['pos1']):]
+    return text
+
+
+class Client:
+    """A client of the session: what it has while it is offline, the number of its last message, and what it has to send."""
+
+    def __init__(self):
+        self.offline, self.number, self.unsent = Offline(''), 0, []
+
+
 class History:
-    """The session of a history. A model of the session tells what a merge comes to."""
+    """The session of a history. Each message refers to the one before it, so the text of all messages is one string, and what a merge comes to
+    is known by what the client of the branch has."""
 
     def __init__(self, path):
         self.path = path
@@ -213,8 +348,8 @@ class History:
         self.main = main_line(self.commits)
         self.branches = branches_of(self.commits, self.main)
         self.has_branches = bool(self.branches)
-        self.world = World()
-        self.lines, self.by_number, self.by_stage = [], {}, {}
+        self.clients, self.log, self.text = {}, [], ''      # the log has the operation of each message, None of one that has none
+        self.lines, self.by_number = [], {}
         self.names = self.named()
         self.numbers = []                           # of each commit of the main line the number of the log behind it
         self.play()
@@ -254,45 +389,68 @@ class History:
             used.add(name)
             branch.client = name
 
-    def client(self, name):
-        return self.world.clients[name]
-
     # ---- events
 
     def take(self, **event):
-        if self.world.take(event):
-            raise AssertionError(f'refused: {line_of(event)}')
         self.lines.append(line_of(event))
+
+    def start(self, name):
+        if name not in self.clients:
+            self.take(client=name, do='start')
+            self.clients[name] = Client()
 
     def connect(self, name):
         """The client is there, connected, and has all messages."""
-        if name not in self.world.clients:
-            self.take(client=name, do='start')
-        if self.client(name).link == 'offline':
-            self.take(client=name, do='connect')
-        if self.client(name).number < self.world.sequencer.number:
+        self.start(name)
+        client = self.clients[name]
+        if client.offline is not None:
+            self.join(name)
+        if client.number < len(self.log):
             self.take(client=name, count='all', do='deliver')
+            self.deliver(client, len(self.log))
+        if client.offline is not None:
+            client.unsent = list(client.offline.sent_again())
+            client.offline = None
+
+    def join(self, name):
+        self.take(client=name, do='connect')
+        self.log.append(None)
+
+    def deliver(self, client, number):
+        """The client has the messages up to this number."""
+        if client.offline is not None:
+            for op in filter(None, self.log[client.number:number]):
+                client.offline.take(op)
+        client.number = number
+
+    def drop(self, name):
+        """The client is offline, with the text of all messages but its leave if it was online."""
+        client = self.clients[name]
+        self.take(client=name, do='drop')
+        if client.offline is None:
+            client.offline = Offline(self.text)
+        self.log.append(None)
 
     def edit(self, name, commit, old, new):
+        client = self.clients[name]
         for op in edits_of(old, new):
-            first = self.client(name).stage + 1
             self.take(address='text', client=name, do='edit', op=op)
-            self.by_stage[name, first] = commit
+            if client.offline is None:
+                client.unsent.append((commit, op))
+            else:
+                client.offline.edit(commit, op)
 
     def send(self, name):
         """Sends what is pending, and notes whose commit each message is."""
-        client = self.client(name)
-        if not client.queue:
+        client = self.clients[name]
+        if not client.unsent:
             return
-        number = self.world.sequencer.number
-        for stages in client.pending[len(client.pending) - len(client.queue):]:
-            number += 1
-            self.by_number[number] = self.by_stage[name, self.first_stage(name, stages)]
+        for commit, op in client.unsent:
+            self.log.append(op)
+            self.by_number[len(self.log)] = commit
+            self.text = applied(self.text, op)
+        client.unsent = []
         self.take(client=name, count='all', do='ticket')
-
-    def first_stage(self, name, stages):
-        """The stage with which the edit began, of which it may have lost some since."""
-        return max(stage for client, stage in self.by_stage if client == name and stage <= stages[0].number)
 
     # ---- the course of the history
 
@@ -303,7 +461,7 @@ class History:
             for branch in self.branches:
                 if branch.fork == place:
                     self.connect(branch.client)
-                    self.take(client=branch.client, do='drop')
+                    self.drop(branch.client)
         last = self.names[self.main[-1].author]
         self.connect(last)
         self.take(client=last, do='show')
@@ -319,17 +477,16 @@ class History:
         self.connect(name)
         old = self.main[place - 1].text if place else ''
         if merged:
-            old = self.shown(name)
+            old = self.text
         if len(commit.parents) > 1:
             self.tell_merge(commit, merged, old)
         self.edit(name, commit, old, commit.text)
         self.send(name)
-        self.numbers.append(self.world.sequencer.number)
+        self.numbers.append(len(self.log))
 
     def play_branch(self, branch):
         name = branch.client
-        if name not in self.world.clients:
-            self.take(client=name, do='start')
+        self.start(name)
         for commit in branch.commits:
             old = self.taken_in(branch, commit)
             self.edit(name, commit, old, commit.text)
@@ -339,15 +496,13 @@ class History:
     def taken_in(self, branch, commit):
         """The text before a commit of a branch, where it takes in what the main line had."""
         numbers = [self.numbers[self.main.index(self.commits[parent])] for parent in commit.parents[1:]]
-        client = self.client(branch.client)
+        client = self.clients[branch.client]
         if numbers and max(numbers) > client.number:
-            self.take(client=client.name, do='connect')
-            self.take(client=client.name, count=max(numbers) - client.number, do='deliver')
-            self.take(client=client.name, do='drop')
-        return self.shown(client.name)
-
-    def shown(self, name):
-        return ''.join(element.content for element in self.client(name).shown('text'))
+            self.join(branch.client)
+            self.take(client=branch.client, count=max(numbers) - client.number, do='deliver')
+            self.deliver(client, max(numbers))
+            self.drop(branch.client)
+        return client.offline.shown()
 
     def tell_merge(self, commit, merged, text):
         played = sum(len(branch.commits) for branch in merged)
@@ -363,11 +518,21 @@ def tell(text):
 
 # ---- comparison
 
+def report_of(program, given):
+    try:
+        found = subprocess.run([program, 'session'], input=given, stdout=subprocess.PIPE)
+    except OSError as fault:
+        sys.exit(f'{program}: {fault.strerror}')
+    if found.returncode not in (0, 1):
+        sys.exit(f'{program} ended with status {found.returncode}')
+    return found.stdout.decode()
+
+
 def check(program, path):
     history = History(path)
     text = history.main[-1].text
     given = ''.join(line + '\n' for line in history.lines).encode()
-    report = subprocess.run([program, 'session'], input=given, stdout=subprocess.PIPE).stdout.decode().splitlines()
+    report = report_of(program, given).splitlines()
     shown = [json.loads(line[5:]) for line in report if line.startswith('text ')]
     is_equal = shown == [text] and not any(line.startswith('line ') for line in report)
     print(f'{len(history.lines)} events of {len(history.commits)} commits; the text', 'is that of the last version' if is_equal else 'DIFFERS')
@@ -419,12 +584,20 @@ def main(words):
     elif len(words) == 1 and not words[0].startswith('-'):
         program, path = None, words[0]
     else:
-        sys.exit(__doc__)
-    os.chdir(os.path.dirname(os.path.abspath(path)))
-    path = os.path.basename(path)
-    if program:
-        sys.exit(not check(program, path))
-    sys.stdout.buffer.write(''.join(line + '\n' for line in History(path).lines).encode())
+        print(__doc__, file=sys.stderr)
+        sys.exit(2)
+    try:
+        os.chdir(os.path.dirname(os.path.abspath(path)))
+        path = os.path.basename(path)
+        if program:
+            sys.exit(not check(program, path))
+        sys.stdout.buffer.write(''.join(line + '\n' for line in History(path).lines).encode())
+        sys.stdout.flush()
+    except BrokenPipeError:
+        os.dup2(os.open(os.devnull, os.O_WRONLY), sys.stdout.fileno())
+        sys.exit(1)
+    except OSError as fault:
+        sys.exit(f'{fault.filename or "standard output"}: {fault.strerror}')
 
 
 if __name__ == '__main__':

@@ -8,8 +8,12 @@
 
 A session of a seed is always the same. Its events are drawn by what a session's clients see: a small model of the sequencer
 and of the clients' lists, which docs/MODEL.md describes, knows how long each list is at each client and what is pending there. So most edits
-are in range, those that are not are meant, and how many lines are refused is known without a run. Without EVENTS a session has 60, and
-from 2 to 5 clients. At its end all clients connect, process all messages and are shown.
+are in range, those that are not are meant, and how many lines are refused is known without a run. At its end all clients connect, process
+all messages and are shown.
+
+SEED is from 0 to 18446744073709551615, EVENTS from 0 to 100000, and CLIENTS from 1 to 15. Without EVENTS a session has 60, and with 0 CLIENTS or
+without from 2 to 5. Where fewer events are asked for than its clients need to come and to be shown, it has these. Lists are whole ones, so
+1,000 events take a second, and 4,000 fifteen. The status is 2 where the words are none of these.
 
 Only the standard library is used.
 """
@@ -22,6 +26,8 @@ ROOT = os.path.dirname(os.path.dirname(os.path.abspath(__file__)))
 ALL = 'all'
 NAME_LIMIT = 16
 COUNT_LIMIT = 1_000_000
+SEED_LIMIT = 2**64
+EVENT_LIMIT = 100_000
 
 
 def line_of(value):
@@ -1157,14 +1163,28 @@ def main(words):
     try:
         seed, count, clients, *more = [int(word) for word in words[is_told:]] + [60, 0][len(words) - is_told - 1:]
     except (ValueError, IndexError):
-        sys.exit(__doc__)
-    if more or not 0 <= clients <= NAME_LIMIT - 1:
-        sys.exit(__doc__)
+        return usage()
+    if more or not (0 <= seed < SEED_LIMIT and 0 <= count <= EVENT_LIMIT and 0 <= clients < NAME_LIMIT):
+        return usage()
     session = Session(seed, count, clients)
     if is_told:
         print(session.told())
     else:
+        write_session(session)
+
+
+def write_session(session):
+    try:
         sys.stdout.buffer.write(session.text())
+        sys.stdout.flush()
+    except BrokenPipeError:
+        os.dup2(os.open(os.devnull, os.O_WRONLY), sys.stdout.fileno())
+        sys.exit(1)
+
+
+def usage():
+    print(__doc__, file=sys.stderr)
+    sys.exit(2)
 
 
 if __name__ == '__main__':

@@ -14,16 +14,21 @@ for all messages. From a report alone the page has the views that it shows, and 
 numbers: the minimum is that of the last view, and how many messages a client sends again after a reconnection is a guess, which the next
 view corrects.
 
+The status is 0 where the page is written, 2 where the words are none of these, and 1 where a file can't be read, the program doesn't run or
+the report isn't one of the session; then a line on standard error says why.
+
 Only the standard library is used.
 """
 import json
 import os
+import re
 import subprocess
 import sys
 
 ROOT = os.path.dirname(os.path.dirname(os.path.abspath(__file__)))
 PROGRAM = os.path.join(ROOT, 'crates', 'vemiktag', 'out', 'vemiktag')
 PAGE = os.path.join(ROOT, 'tools', 'view.html')
+COUNTS = re.compile(r'(refused \d+\nskipped \d+\nother \d+\n)?')    # at the end of a report, if it is whole
 LONGEST_LINE = 400              # of what is told of a line or a message, in characters
 CHANGING = ('start', 'connect', 'drop', 'edit', 'noop', 'ticket', 'deliver', 'offer')
 WRITES = {'queue': 'draft', 'history': 'message', 'blame': 'blame', 'authors': 'author', 'overlap': 'overlap', 'summary': 'summary'}
@@ -144,13 +149,29 @@ def add_size(view, values):
     view['rows'], view['cols'] = values
 
 
+def add_props(view, values):
+    start, end, props = values
+    view['props'].append([start, end, line_of(props), props.get('bold') is True])
+
+
+def add_interval(view, values):
+    *where, props = values
+    view['intervals'].append([*where, line_of(props) if props else ''])
+
+
+def add_cell(view, values):
+    row, col, value = values
+    view['cells'].append([row, col, value if isinstance(value, str) else line_of(value)])
+
+
+# Values are texts here: a browser's numbers are exact to 2^53 alone.
 SHOWN = {
     'text': add_text,
-    'marker': lambda view, values: view['markers'].append(values),
-    'props': lambda view, values: view['props'].append(values),
-    'interval': lambda view, values: view['intervals'].append(values),
+    'marker': lambda view, values: view['markers'].append([values[0], line_of(values[1])]),
+    'props': add_props,
+    'interval': add_interval,
     'rows': add_size,
-    'cell': lambda view, values: view['cells'].append(values),
+    'cell': add_cell,
 }
 
 
@@ -459,6 +480,8 @@ def told_course(events, text):
     report, course, answers = Report(text), Course(), []
     for event in events:
         answers.append(report.answer(event.number, event.word))
+    if not COUNTS.fullmatch('\n'.join(report.lines[report.place:])):
+        raise ValueError('lines are left that no event wrote')
     for place, (event, answer) in enumerate(zip(events, answers)):
         course.take(event, answer, blame_of(events, answers, place))
     return course
@@ -480,6 +503,18 @@ def page_of(data):
     return page.replace('@DATA@', json.dumps(data, separators=(',', ':')).replace('<', '\\u003c'))
 
 
+def course_of(events, program, report):
+    """The course of the session, by its report where there is one, and else by asking the program."""
+    if report is None:
+        return asked_course(program, events)
+    with open(report, encoding='utf-8') as file:
+        text = file.read()
+    try:
+        return told_course(events, text)
+    except (ValueError, LookupError):
+        sys.exit(f'{report} is no report of this session')
+
+
 def main(words):
     program, report = PROGRAM, None
     if len(words) == 3 and words[0] == '--program':
@@ -487,15 +522,21 @@ def main(words):
     elif len(words) == 3 and words[0] == '--report':
         report = words[1]
     elif len(words) != 1 or words[0].startswith('-'):
-        sys.exit(__doc__)
-    with open(words[-1], 'rb') as file:
-        events = events_of(file.read())
-    if report is None:
-        course = asked_course(program, events)
-    else:
-        with open(report, encoding='utf-8') as file:
-            course = told_course(events, file.read())
-    sys.stdout.buffer.write(page_of(course.data(os.path.basename(words[-1]))).encode())
+        print(__doc__, file=sys.stderr)
+        sys.exit(2)
+    try:
+        with open(words[-1], 'rb') as file:
+            events = events_of(file.read())
+        page = page_of(course_of(events, program, report).data(os.path.basename(words[-1])))
+        sys.stdout.buffer.write(page.encode())
+        sys.stdout.flush()
+    except UnicodeDecodeError:
+        sys.exit(f'{report} is no UTF-8')
+    except BrokenPipeError:
+        os.dup2(os.open(os.devnull, os.O_WRONLY), sys.stdout.fileno())
+        sys.exit(1)
+    except OSError as fault:
+        sys.exit(f'{fault.filename or "standard output"}: {fault.strerror}')
 
 
 if __name__ == '__main__':
