@@ -44,10 +44,16 @@ if [ -z "${PROGRAM:-}" ]; then
     (cd "$top/crates/vemiktag" && rt run -- play 1 0 0) > "$room/program" 2>&1 || { cat "$room/program" >&2; fail "rt run failed"; }
     PROGRAM=$top/crates/vemiktag/out/vemiktag
 fi
+# The line of the library: in a gate's log the one before its crate is told as proved, else the last one.
 proved="what was proved is not told"
 if [ -n "${PROVED:-}" ]; then
-    proved=$(sed -n 's/^\(logic=proved functions=[0-9]* sum=[0-9a-f]*\) .*/\1/p' "$PROVED" | tail -n 1)
-    [ -n "$proved" ] || fail "$PROVED has no line logic=proved"
+    proved=$(awk '
+        /^logic=proved / { line = $1; for (i = 2; i <= NF; i++) if ($i ~ /^sum=/) line = line " " $i }
+        /^rt: vemiktag_c proved$/ { own = line }
+        /^rt: .* proved$/ { of_gate = 1 }
+        END { print of_gate ? own : line }
+    ' "$PROVED")
+    [ -n "$proved" ] || fail "$PROVED doesn't tell that vemiktag_c is proved"
 fi
 
 count=$(git -C "$top" rev-list --count HEAD)

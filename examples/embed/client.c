@@ -8,12 +8,14 @@
 #define ROOM 4096
 #define MOST 64
 
-/* An editor: its client, the name of its connection, how many messages it was given, and the number to which its last draft refers. */
+/* An editor: its client, the name of its connection, how many messages it was given, and of the last draft of that connection the number to
+ * which it refers and its own. */
 struct editor {
     vemiktag_client client;
     const char *name;
     size_t given;
     unsigned long refers;
+    unsigned long drafts;
     bool joined;
 };
 
@@ -81,12 +83,28 @@ static unsigned long number_behind(const char *draft, const char *word) {
     return strtoul(last + strlen(word), NULL, 10);
 }
 
+/* Gives the draft of the editor's connection its number; false where it comes late, twice or out of turn, and then nothing changed. */
+static bool take(struct editor *editor, const char *draft) {
+    static const char first[] = "{\"clientSequenceNumber\":";
+    expect(strncmp(draft, first, sizeof first - 1) == 0, "a draft begins with its number");
+    unsigned long number = strtoul(draft + sizeof first - 1, NULL, 10);
+    unsigned long refers = number_behind(draft, "\"referenceSequenceNumber\":");
+    if (!editor->joined || number != editor->drafts + 1 || refers < minimum || refers < editor->refers || refers > sent) {
+        return false;
+    }
+    editor->drafts = number;
+    editor->refers = refers;
+    put(editor, draft + 1);
+    return true;
+}
+
 /* ---- the editors */
 
 /* It waits for its join, and the server puts that into the log. */
 static void join(struct editor *editor, const char *name) {
     expect(vemiktag_client_connect(&editor->client, (const uint8_t *)name, strlen(name)) == VEMIKTAG_DONE, "it may connect");
     editor->refers = minimum;
+    editor->drafts = 0;
     editor->name = name;
     editor->joined = true;
     put_notice(editor, "join");
@@ -103,9 +121,7 @@ static void leave(struct editor *editor) {
 static void submit(struct editor *editor) {
     uint32_t status;
     while ((status = vemiktag_client_outgoing(&editor->client)) == VEMIKTAG_DONE) {
-        char *draft = told(editor);
-        editor->refers = number_behind(draft, "\"referenceSequenceNumber\":");
-        put(editor, draft + 1);
+        expect(take(editor, told(editor)), "its drafts come in turn");
     }
     expect(status == VEMIKTAG_NOTHING, "it has nothing more to send");
 }
@@ -158,8 +174,11 @@ int main(void) {
     show("both have typed");
     exchange();
     show("each has heard of the other");
-    leave(&bob);
     type(&bob, "{\"pos1\":20,\"seg\":\" Quietly.\",\"type\":0}");
+    expect(vemiktag_client_outgoing(&bob.client) == VEMIKTAG_DONE, "it has that to send");
+    const char *late = told(&bob);
+    leave(&bob);
+    expect(!take(&bob, late), "a draft that comes behind its connection's leave changes nothing");
     type(&ann, "{\"pos1\":4,\"pos2\":10,\"type\":1}");
     submit(&ann);
     deliver(&ann);
