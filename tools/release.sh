@@ -18,7 +18,7 @@
 #   PROVED=..    a file with the line `logic=proved .. sum=..` of the run that built the archive that is taken; without it the libraries say
 #                that it isn't told
 #   VERSION=..   in place of 0.1.dev and the number of commits
-#   OUT=..       into this folder, in place of dist; what is in there is removed
+#   OUT=..       into this folder, in place of dist; what this script made there before is removed
 set -eu
 here=$(cd "$(dirname "$0")" && pwd)
 top=$(cd "$here/.." && pwd)
@@ -63,7 +63,9 @@ line="vemiktag $version, commit $commit, $(cut -d ' ' -f 1 "$kit/KIT-ID"), $prov
 
 # ---- the libraries
 
-rm -rf "$out"
+mkdir -p "$out"
+out=$(cd "$out" && pwd)
+rm -rf "${out:?}/bin" "${out:?}/lib" "$out/include" "$out"/vemiktag-*.whl
 mkdir -p "$out/bin" "$out/lib/pkgconfig" "$out/include"
 cp "$PROGRAM" "$out/bin/vemiktag"
 cp "$top/include/vemiktag.h" "$out/include"
@@ -96,7 +98,7 @@ Libs: -L\${libdir} -lvemiktag
 END
 
 wheel=$(python3 "$here/wheel.py" "$version" "$out/lib/libvemiktag.so" "$out")
-(cd "$out" && find . -type f ! -name SHA256SUMS | sort | xargs sha256sum > "$room/sums" && mv "$room/sums" SHA256SUMS)
+(cd "$out" && find bin include lib "$wheel" -type f | sort | xargs sha256sum > SHA256SUMS)
 echo "$line"
 
 # ---- the trial: nothing of the kit is used
