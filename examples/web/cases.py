@@ -4,9 +4,9 @@
     examples/web/cases.py REPORT [COUNT] > cases.json
 
 REPORT is the program of examples/embed/report.c. The cases are the worked sessions of crates/ft_tests_cases and of examples/, COUNT
-pseudo-random ones (2,000 without a number), half of them of tools/sessions.py and half as `vemiktag gen` makes them, and one of the latter with 20,000
-edits, by which is told how fast the engine is. The worked logs of crates/ft_tests_cases are there too, with the report that stands beside them,
-and what the two editors of examples/embed show.
+pseudo-random ones (2,000 without a number), half of them of tools/sessions.py and half as `vemiktag gen` makes them, and one of the latter with
+20,000 edits, by which is told how fast the engine is. The worked logs of crates/ft_tests_cases are there too, with the report that stands beside
+them, and what the two editors of examples/embed show.
 
 An input stands as a string with a character for each byte, a report as its text. Only the standard library is used.
 """

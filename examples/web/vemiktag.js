@@ -295,6 +295,9 @@ class Engine {
     const bytes = new Uint8Array(count);
     for (let have = 0; have < count; ) {
       const { count: more } = this.counted(...reads, this.#piece, BigInt(Math.min(PIECE, count - have)));
+      if (more === 0) {
+        throw new Broken("fewer bytes wait than was told");
+      }
       bytes.set(this.bytes(this.#piece, more), have);
       have += more;
     }
