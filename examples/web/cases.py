@@ -23,6 +23,8 @@ sys.dont_write_bytecode = True
 
 import sessions                             # noqa: E402
 
+LONGEST_LINE = 1_048_576                    # a longer one is refused by the program, and by a client isn't
+
 
 # ---- sessions as `vemiktag gen` makes them
 
@@ -125,14 +127,26 @@ def read_bytes(*path):
         return file.read()
 
 
+def expanded(line):
+    """The input that a line in front of a case's own input stands for."""
+    word, first, *others = line.split(b' ', 3)
+    if word == b'repeat':
+        return bytes([int(first)]) * int(others[0])
+    if word == b'times':
+        return b''.join(others[1].replace(b'#', b'%d' % n).replace(b'~', b'\n') for n in range(int(first), int(others[0]) + 1))
+    return b''                              # how much is read at a time
+
+
 def worked(command):
-    """The cases of ft_tests_cases with this command that say nothing but their input: the name, the input and the report."""
+    """The cases of ft_tests_cases with this command that say nothing but their input, of which there isn't too much for a page: the name, the
+    input and the report."""
     given, wanted = (read_bytes('crates', 'ft_tests_cases', name) for name in ('stdin', 'stdout'))
-    form = rb'^case ([^\n]*)\nwords ' + command + rb'\n(?:piece \d+\n)?input\n(.*?)^(end|end-without-lf)\n'
-    for name, text, end in re.findall(form, given, re.M | re.S):
+    form = rb'^case ([^\n]*)\nwords ' + command + rb'\n((?:(?:piece|repeat|times) [^\n]*\n)*)input\n(.*?)^(end|end-without-lf)\n'
+    for name, said, own, end in re.findall(form, given, re.M | re.S):
+        text = b''.join(map(expanded, said.splitlines())) + (own if end == b'end' else own[:-1])
         told = re.search(rb'^case ' + re.escape(name) + rb'\nstatus [01]\n(.*?)\n(?=case |\Z)', wanted, re.M | re.S)
-        if told:
-            yield name.decode(), text if end == b'end' else text[:-1], told[1]
+        if told and len(text) < 4_000_000:
+            yield name.decode(), text, told[1]
 
 
 def expect_generated():
@@ -169,7 +183,8 @@ def main():
         text = read_bytes('examples', f'{name}.session')
         cases.append(case(name, text, native(text)))
     cases += [case(name, text, native(text)) for name, text in drawn(count)]
-    logs = [{'command': word, **case(name, text, told)} for word in ('log', 'load') for name, text, told in worked(word.encode())]
+    logs = [{'command': word, **case(name, text, told)} for word in ('log', 'load') for name, text, told in worked(word.encode())
+            if all(len(line) <= LONGEST_LINE for line in text.split(b'\n'))]
     long = Generated(3, 20000, 1).text()
     story = read_bytes('examples', 'embed', 'editors.told').decode()
     json.dump({'sessions': cases, 'logs': logs, 'long': case('gen 3 20000 1', long, native(long)), 'story': story}, sys.stdout)
