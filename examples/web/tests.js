@@ -183,9 +183,11 @@ function testFreeing(engine, { input, report: wanted }) {
     client.free();
     expect(report(engine, bytes).text === wanted, "the report is the same each time");
   };
-  round();
+  for (let times = 0; times < 10; times += 1) {
+    round();
+  }
   const { memory } = engine;
-  for (let times = 0; times < 50; times += 1) {
+  for (let times = 0; times < 40; times += 1) {
     round();
   }
   expect(engine.memory === memory, "the memory doesn't grow");
@@ -275,7 +277,7 @@ export async function testAll(source, { sessions, logs, long, story }, tell) {
   tell(testLoneSurrogates(engine));
   tell(testValues(engine));
   tell(testClient(engine));
-  tell(testFreeing(engine, sessions.at(-1)));
+  tell(testFreeing(engine, sessions.find(({ name }) => name === "tea_at_five")));
   tell(await testEndOfMemory(source));
   tell(await testEachLimit(source, sessions.find(({ name }) => name === "readme_history")));
   tell(testStory(engine, story));
